@@ -29,12 +29,15 @@ What callers need first stands first; what lies below a module stands in front o
 # The parts of what `walrus` itself hands on, by the crates in which it stands.
 GROUPS = {
     "Modules": ("walrus_module",),
-    "Items, collection by collection": ("walrus_items",),
-    "Errors, custom sections, what imports bring and exports export": ("walrus_parts", "walrus_producers", "walrus"),
-    "Building functions": ("walrus_builder",),
-    "Functions with a body, and operators": ("walrus_text", "walrus_functions", "walrus_bodies", "walrus_code"),
-    "Types and constants": ("walrus_types",),
-    "Ids": ("walrus_base",),
+    "Items, collection by collection": ("walrus_items",),  # but for the files of it that are named below
+    "Errors, custom sections, what imports bring and exports export": (
+        *(f"walrus_items/{it}" for it in (
+            "custom", "equality", "error", "function_kind", "kinds", "marks", "raw_section", "roots", "segments", "transform")),
+        "walrus_producers", "walrus"),
+    "Building functions": ("walrus_ir",),
+    "Functions with a body, and operators": ("walrus_bodies", "walrus_functions", "walrus_code"),
+    "Types and constants": ("walrus_base",),
+    "Ids": tuple(f"walrus_base/{it}" for it in ("arena", "id", "keys", "marks", "set")),
 }
 # The crates of which a type without a name stands behind what names it; those of all others stand under `walrus::below`.
 OF_MODULES = ("walrus_module", "walrus_items", "walrus")
@@ -326,8 +329,10 @@ class Page:
     def add_own(self, items):
         """What `walrus` itself hands on, by the crates in which it stands."""
         self.lines.append("\n## walrus\n")
+        files = {it for crates in GROUPS.values() for it in crates if "/" in it}
         for heading, crates in GROUPS.items():
-            self.add_part(f"### {heading}", [it for it in items if it[1] and it[1][0] in crates])
+            own = [(shown, place, f"{place[0]}/{'/'.join(place[1])}") for shown, place in items if place]
+            self.add_part(f"### {heading}", [it[:2] for it in own if (it[2] if it[2] in files else it[1][0]) in crates])
         left = [name for name, place in items if place and place[2] != "mod" and place not in self.seen]
         if left:
             raise SystemExit(f"tests/calls.py: GROUPS has no place for {', '.join(left)}")

@@ -6,7 +6,8 @@
 Refused are: a file of src that doesn't begin with `//!`, or has more than 800 lines; a line of a clause of more than 110 columns;
 a body of a function of more than 40 lines; a bare hexadecimal number in src or specs outside the files that name such numbers; a
 README.md of more than 100 lines, or with one of more than 100 columns; a crate that crates.txt lists for another one whose files don't
-name it; more ways down the crates than rt can sum up in a few minutes; more wrong edits in the gate than its time allows; a wrong edit, of the gate or of tests/edits, whose old
+name it; more ways down the crates than rt can sum up in a few minutes; more lines of lemmas above the
+crate that has their words; more wrong edits in the gate than its time allows; a wrong edit, of the gate or of tests/edits, whose old
 text doesn't stand exactly once in its file; a page docs/CALLS.md that isn't what tests/calls.py makes of the sources; a file of
 definitions that docs/DEFINITIONS.md doesn't name; a name that docs/DIFFERENCES.md calls absent and that is there; and a file that isn't in
 the layout of `rt fmt`.
@@ -29,7 +30,10 @@ WIDEST_CLAUSE = 110
 MOST_LINES_OF_THE_README = 100
 MOST_COLUMNS_OF_THE_README = 100
 # Ways down the crates, from each crate to each that it lists, and on from there.
-MOST_WAYS = 332_000
+MOST_WAYS = 90_000
+MOST_ARROWS = 225
+# Lines of files of lemmas above the highest crate that they speak of.
+MOST_LINES_ABOVE_THEIR_WORDS = 1_500
 MOST_EDITS = 90
 MOST_CRATES_WITH_EDITS = 14
 # The dearest crates, since an edit costs by the size of its crate.
@@ -48,16 +52,16 @@ FILES_OF_NUMBERS = (
     # counts of pages, no bytes
     "wasm_wire/src/rules/limits.rt",
     # operators that no code names
-    "walrus_rules/specs/WorkedEngine.antt",
+    "walrus_theorem/specs/WorkedEngine.antt",
     # whole modules, byte by byte, as examples
     "walrus_model/specs/Examples.antt",
-    "walrus_rules/specs/Examples.antt",
-    "walrus_rules/specs/WorkedDeclared.antt",
-    "walrus_rules/specs/WorkedHandler.antt",
-    "walrus_rules/specs/WorkedSections.antt",
+    "walrus_theorem/specs/Examples.antt",
+    "walrus_theorem/specs/WorkedDeclared.antt",
+    "walrus_theorem/specs/WorkedHandler.antt",
+    "walrus_theorem/specs/WorkedSections.antt",
     # bytes and patterns of bits that tests write and read back
-    "wasm_wire_tests/src/",
-    "walrus_parts_tests/src/",
+    "wasm_tests/src/",
+    "walrus_item_tests/src/",
 )
 
 
@@ -169,8 +173,45 @@ def wrong_in_ways():
         return 1 + sum(ways(other) for other in listed[crate] if other in listed)
 
     count = sum(map(ways, listed))
+    arrows = sum(other in listed for below in listed.values() for other in below)
+    if arrows > MOST_ARROWS:
+        yield f"crates.txt: {arrows} arrows from a crate to one that it lists, more than {MOST_ARROWS}"
     if count > MOST_WAYS:
         yield f"crates.txt: {count} ways lead down the crates, more than {MOST_WAYS} (rt sums up all below once for each of them)"
+
+
+def handed_on():
+    """What a Lib.antt hands on: crate, part and name, each with the crate, the part and the file that it comes from."""
+    handed = {}
+    for lib in [*CRATES.glob("*/specs/Lib.antt"), *CRATES.glob("*/proofs/Lib.antt")]:
+        for crate, part, way, name in re.findall(r"(?m)^pub use Rattle\.(\w+)\.(specs|proofs)\.([\w.]+)(?: as (\w+))?$", lib.read_text(encoding="utf-8")):
+            handed[lib.parts[-3], lib.parts[-2], name or way.split(".")[-1]] = crate, part, way.split(".")[0]
+    return handed
+
+
+def wrong_in_lemmas():
+    """Files of lemmas that speak of one crate and what it stands on, and stand above it."""
+    listed, handed = listed_crates(), handed_on()
+    files = {(path.parts[-3], path.stem): path.read_text(encoding="utf-8") for path in CRATES.glob("*/proofs/*.antt") if path.stem != "Lib"}
+
+    @functools.cache
+    def below(crate):
+        return {crate}.union(*(below(other) for other in listed[crate] if other in listed))
+
+    @functools.cache
+    def spoken_of(key):
+        found = set()
+        for place in re.findall(r"Rattle\.(\w+)\.(specs|proofs)\.(\w+)", files[key]):
+            while place in handed:
+                place = handed[place]
+            crate, part, file = place
+            found |= spoken_of((crate, file)) if part == "proofs" and (crate, file) in files else {crate} & listed.keys()
+        return {crate for crate in found if not any(crate != other and crate in below(other) for other in found)}
+
+    above = sorted(((text.count("\n"), *key) for key, text in files.items() if len(spoken_of(key)) == 1 and key[0] not in spoken_of(key)), reverse=True)
+    count = sum(lines for lines, _, _ in above)
+    if count > MOST_LINES_ABOVE_THEIR_WORDS:
+        yield f"{count} lines of lemmas stand above the crate that has their words, more than {MOST_LINES_ABOVE_THEIR_WORDS}: {above[:5]}"
 
 
 def wrong_in_gate():
@@ -288,7 +329,7 @@ def wrong_in_layout():
 
 def main():
     checks = (
-        wrong_in_sources, wrong_in_clauses, wrong_in_bodies, wrong_in_numbers, wrong_in_readme, wrong_in_crates, wrong_in_ways, wrong_in_gate,
+        wrong_in_sources, wrong_in_clauses, wrong_in_bodies, wrong_in_numbers, wrong_in_readme, wrong_in_crates, wrong_in_ways, wrong_in_lemmas, wrong_in_gate,
         wrong_in_edits, wrong_in_pages, wrong_in_differences, wrong_in_layout)
     wrong = [line for check in checks for line in check()]
     for line in wrong:

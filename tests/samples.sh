@@ -1,9 +1,8 @@
 #!/usr/bin/env bash
 # Copies each module of a folder with the built program, which also reads the copy and compares the records, and copies the
 # copy, which has to stay as it is. Compares the names that the program lists with those that other tools found (tests/names),
-# first those of the program's stored run. Then reads each body of each module as operators over ids, writes it, reads what was
-# written, and compares, with the built program wasm_bodies. Before all of that it looks whether walrus_gc gets its words. Last runs walrus_gc over each module, and compares what comes out with what went
-# in (kept.py, which says in what). Prints a line a file and the counts. `.ci/run` runs it behind the gate.
+# first those of the program's stored run. Before all of that it looks whether walrus_gc gets its words. Last runs walrus_gc over
+# each module, and compares what comes out with what went in (kept.py, which says in what). Prints a line a file and the counts. `.ci/run` runs it behind the gate.
 # tests/samples.sh [FOLDER..], where none is given tests/samples and, where it is there, ../shared/samples.
 set -eu
 top=$(cd "$(dirname "$0")/.." && pwd)
@@ -12,10 +11,8 @@ if [ $# = 0 ]; then
   [ ! -d "$top/../shared/samples" ] || set -- "$@" "$top/../shared/samples"
 fi
 "$top/tests/build.sh" wasm_copy
-"$top/tests/build.sh" wasm_bodies
 "$top/tests/build.sh" walrus_gc
 program=$top/crates/wasm_copy/out/wasm_copy
-bodies=$top/crates/wasm_bodies/out/wasm_bodies
 smaller=$top/crates/walrus_gc/out/walrus_gc
 files=$(mktemp -d)
 trap 'rm -rf "$files"' EXIT
@@ -40,11 +37,6 @@ is_listed() {
   python3 "$top/tests/expected-names.py" --shorten < "$files/names" > "$files/short"
   cmp -s "$files/short" "$2" || { echo "other names"; return 1; }
   echo "$(wc -l < "$files/names") names"
-}
-
-# Whether each body of the module comes out the same.
-is_same() {
-  "$bodies" < "$1" 2> "$files/told" || { echo "status $?: $(cat "$files/told")"; return 1; }
 }
 
 # Writes the bytes that the digits say.
@@ -94,16 +86,6 @@ for module in "${all_modules[@]}"; do
 done
 echo "$copied of $all modules are copied, of $listed the names are listed as they are"
 
-same=0
-for module in "${all_modules[@]}"; do
-  word=FAILED
-  if told=$(is_same "$module"); then
-    same=$((same + 1)) word=same
-  fi
-  printf '%-7s %-33s %s\n' "$word" "$told" "$(basename "$module")"
-done
-echo "of $same of $all modules each body comes out the same"
-
 kept=yes
 "$top/tests/kept.py" "$smaller" "$program" "${all_modules[@]}" || kept=no
-[ "$all" -gt 0 ] && [ "$copied" = "$all" ] && [ "$listed" = "$all" ] && [ "$same" = "$all" ] && [ "$kept" = yes ]
+[ "$all" -gt 0 ] && [ "$copied" = "$all" ] && [ "$listed" = "$all" ] && [ "$kept" = yes ]

@@ -3,9 +3,9 @@ use Rattle.std.proofs.Common.{◌≡◌, ℕ, ◌⊎◌, inl, inr, ⊎_elim, Lis
 use Rattle.std.specs.Prelude.{◌↔◌, Contains}
 use Rattle.std.proofs.lemmas.List.{map-append}
 use Rattle.std.proofs.lemmas.List.Elements.{Contains-push, Contains-push_cases, Contains-append_left, Contains-append_right, Contains-append_cases}
-use Rattle.walrus_types.specs.Operators.{Types, Functions, Tables, Memories, Tags, Globals, Elements, DataSegments, Item}
-use Rattle.walrus_model.proofs.Lists.{Contains-head, Contains-none, Contains-tail, Contains-uncons}
-use Rattle.walrus_parts.specs.Roots.{RootLists, no_roots, with_root, with_roots}
+use Rattle.walrus_base.specs.Operators.{Types, Functions, Tables, Memories, Tags, Globals, Elements, DataSegments, Item}
+use Rattle.walrus_base.proofs.Lists.{Contains-head, Contains-none, Contains-tail, Contains-uncons}
+use Rattle.walrus_items.specs.Roots.{RootLists, no_roots, with_root, with_roots}
 use Rattle.walrus_module.specs.View.{can_be_kept}
 use Rattle.walrus.specs.Asked.{asked_items}
 use Rattle.walrus.proofs.SameRoots.{SameMembers}

@@ -7,15 +7,15 @@ use Rattle.std.proofs.lemmas.Iterator.Adapters.{position_from-zero}
 use Rattle.std.proofs.lemmas.List.{get_or_default, get_or-map, get_or-reverse, length-map, length-reverse, map-append, reverse-append}
 use Rattle.std.proofs.lemmas.List.Quantifiers.{all_pairs_push, position-Some}
 use Rattle.std.proofs.lemmas.List.Elements.{Contains-get_or, Contains-push_cases}
-use Rattle.walrus_model.proofs.Lists.{Contains-none, Contains-uncons}
+use Rattle.walrus_base.proofs.Lists.{Contains-none, Contains-uncons}
 use Rattle.walrus_model.proofs.Reach.{Contains-unmap}
-use Rattle.walrus_types.specs.Operators.{Item, Types}
+use Rattle.walrus_base.specs.Operators.{Item, Types}
 use Rattle.walrus_code.specs.Code.{item_of}
 use Rattle.walrus_code.specs.declared.items.ItemId.{ItemId}
 use Rattle.walrus_model.specs.Abstract.{Abstract}
 use Rattle.walrus_model.specs.Roots.{IsRoot}
-use Rattle.walrus_parts.specs.Items.{is_item}
-use Rattle.walrus_parts.proofs.ItemLemmas.{is_item-same, same-is_item}
+use Rattle.walrus_items.specs.Items.{is_item}
+use Rattle.walrus_items.proofs.ItemLemmas.{is_item-same, same-is_item}
 use Rattle.walrus.specs.Traced.{IsNamedFrom, Traces, item_in, place_in}
 use Rattle.walrus.specs.Why.{IsChain, IsWay}
 use Rattle.walrus.specs.Worklist.{entered_items}

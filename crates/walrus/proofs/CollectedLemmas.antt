@@ -8,31 +8,31 @@ use Rattle.walrus_base.specs.Arena.{item_at, kept_by}
 use Rattle.walrus_base.specs.Id.{place}
 use Rattle.walrus_base.specs.Marks.{is_marked}
 use Rattle.walrus_base.specs.declared.marks.Marks.{Marks}
-use Rattle.walrus_base.proofs.Kept.{kept_marked, kept_there, kept_was}
+use Rattle.walrus_base.proofs.Kept.{kept_marked, kept_there, kept_was, length-kept_by}
 use Rattle.walrus_base.specs.Types.{sub_names}
-use Rattle.walrus_types.specs.ModuleTypes.{type_names as names_of_types, type_slots}
-use Rattle.walrus_types.specs.declared.module_types.ModuleTypes.{ModuleTypes}
-use Rattle.walrus_types.specs.Operators.{Types, Functions, Tables, Memories, Tags, Globals, Elements, DataSegments, Item, type_item}
-use Rattle.walrus_types.specs.PlaceList.{has}
-use Rattle.walrus_types.specs.TypeDef.{TypeDef}
-use Rattle.walrus_types.specs.Whole.{KeepsGroups}
+use Rattle.walrus_base.specs.ModuleTypes.{type_names as names_of_types, type_slots}
+use Rattle.walrus_base.specs.declared.module_types.ModuleTypes.{ModuleTypes}
+use Rattle.walrus_base.specs.Operators.{Types, Functions, Tables, Memories, Tags, Globals, Elements, DataSegments, Item, type_item}
+use Rattle.walrus_base.specs.PlaceList.{has}
+use Rattle.walrus_base.specs.TypeDef.{TypeDef}
+use Rattle.walrus_base.specs.Whole.{KeepsGroups}
 use Rattle.walrus_items.specs.Functions.{functions, FunctionValue, ModuleFunctions}
-use Rattle.walrus_parts.specs.Kinds.{imported}
+use Rattle.walrus_items.specs.Kinds.{imported}
 use Rattle.walrus_items.specs.Imports.{ImportValue, stays_under, imports as imports_in, ModuleImports}
 use Rattle.walrus_items.specs.Keeping.{kept_slot, kept_where}
-use Rattle.walrus_parts.specs.Marks.{has_item}
-use Rattle.walrus_parts.specs.declared.kinds.ImportKind.{ImportKind}
-use Rattle.walrus_parts.specs.declared.kinds.ImportKind.TheVariants as imports
-use Rattle.walrus_parts.specs.declared.marks.ItemMarks.{ItemMarks}
+use Rattle.walrus_items.specs.Marks.{has_item}
+use Rattle.walrus_items.specs.declared.kinds.ImportKind.{ImportKind}
+use Rattle.walrus_items.specs.declared.kinds.ImportKind.TheVariants as imports
+use Rattle.walrus_items.specs.declared.marks.ItemMarks.{ItemMarks}
 use Rattle.walrus_items.specs.Data.{data_segments as data_segments_in, DataValue, ModuleData}
 use Rattle.walrus_items.specs.Elements.{elements as elements_in, ElementValue, ModuleElements}
 use Rattle.walrus_items.specs.Globals.{globals as globals_in, GlobalValue, ModuleGlobals}
 use Rattle.walrus_items.specs.Memories.{memories as memories_in, MemoryValue, ModuleMemories}
 use Rattle.walrus_items.specs.Tables.{tables as tables_in, ModuleTables, TableValue}
 use Rattle.walrus_items.specs.Tags.{tags as tags_in, ModuleTags, TagValue}
-use Rattle.walrus_contents.specs.View.{contents_view, data_of, element_of, global_of, import_of, kept_data, kept_elements, memory_of, name_at, table_of, tag_of}
+use Rattle.walrus_contents.specs.View.{contents_view, data_of, element_of, global_of, import_of, kept_data, kept_elements, memory_of, name_at, table_of, tag_of, function, handlers_at}
 use Rattle.walrus_contents.specs.declared.parts.Contents.{Contents}
-use Rattle.walrus_contents.proofs.Lookups.{mapped_some}
+use Rattle.walrus_base.proofs.Lookups.{mapped_some}
 use Rattle.walrus.specs.Marked.{MarksAreKept}
 use Rattle.walrus_contents.proofs.ExportedRefs.{contained_has}
 use Rattle.walrus.specs.MarkedItems.{has_mark}
@@ -42,14 +42,9 @@ use Rattle.walrus_model.specs.Kept.{IsImportOf, Kept}
 use Rattle.walrus_model.specs.Pipeline.{Collected, IsSubjectOf, KeepsOnly}
 use Rattle.walrus_model.specs.Reached.{step}
 use Rattle.walrus_model.specs.Refers.{named_by, type_names}
-use Rattle.walrus_model.proofs.Lists.{Contains-map}
-use Rattle.walrus_contents.specs.View.{function, handlers_at}
-use Rattle.walrus_rules.proofs.SameItems.{with_own}
+use Rattle.walrus_base.proofs.Lists.{Contains-map}
+use Rattle.walrus_theorem.proofs.SameItems.{with_own}
 use Rattle.walrus.specs.Collected as slots
-
-length-kept_by : {T : Type 0} (keeps : ℕ → Bool) (xs : List (Option T)) → length (kept_by keeps xs) ≡ length xs
-length-kept_by keeps [] = refl
-length-kept_by keeps (x ∷ xs) = ap suc (length-kept_by (λ n. keeps (suc n)) xs)
 
 -- what is left where only the marked ones are kept
 pub keeps_only : {X : Type 0} (keeps : ℕ → Bool) (Q : ℕ → Type 0) → ((i : ℕ) → (keeps i ≡ true) ↔ Q i) → (old new : List (Option X)) → new ≡ kept_by keeps old → slots.KeepsOnly Q old new

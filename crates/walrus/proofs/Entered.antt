@@ -1,18 +1,17 @@
 -- How a worklist follows what is entered.
-use Rattle.std.proofs.Common.{◌≡◌, ℕ, zero, suc, ◌<◌, ◌≤◌, ◌≢◌, ◌⊎◌, inl, inr, ⊎_elim, Bool, true, false, eqb, List, [], ◌∷◌, ◌++◌, length, length-append, map, Option, Some, None, sym, ap, ◌∙◌, subst, refl, append_assoc, arith}
-use Rattle.std.specs.Prelude.{◌↔◌, AllPairs, Contains, Decides, not, vec_capacity, vec_len, if◌then◌else◌}
+use Rattle.std.proofs.Common.{◌≡◌, ℕ, zero, suc, ◌<◌, ◌≤◌, ◌≢◌, ◌⊎◌, inl, inr, ⊎_elim, Bool, true, false, List, [], ◌∷◌, ◌++◌, length, length-append, map, Option, Some, None, sym, ap, ◌∙◌, subst, refl, append_assoc, arith}
+use Rattle.std.specs.Prelude.{◌↔◌, AllPairs, Contains, not, vec_capacity, vec_len, if◌then◌else◌}
 use Rattle.std.proofs.lemmas.Bool.{false≢true}
-use Rattle.std.proofs.lemmas.Bool.Decides.{Decides-eqb}
 use Rattle.std.proofs.lemmas.List.{append-nil, length-map}
 use Rattle.std.proofs.lemmas.List.Elements.{Contains-get_or, Contains-push, Contains-push_cases, Contains-append_left, Contains-append_right, Contains-append_cases}
 use Rattle.std.proofs.lemmas.List.Quantifiers.{all_pairs_push}
-use Rattle.walrus_types.specs.Operators.{Space, Types, Functions, Tables, Memories, Tags, Globals, Elements, DataSegments, Item, type_item}
-use Rattle.walrus_types.specs.TypeSlots.{group_of}
+use Rattle.walrus_base.specs.Operators.{Space, Types, Functions, Tables, Memories, Tags, Globals, Elements, DataSegments, Item, type_item}
+use Rattle.walrus_base.specs.TypeSlots.{group_of}
 use Rattle.walrus_code.specs.Code.{item_of}
 use Rattle.walrus_model.specs.Abstract.{Abstract, TypeDef}
 use Rattle.walrus_model.specs.Live.{IsLive}
 use Rattle.walrus_model.specs.Refers.{named_by}
-use Rattle.walrus_model.proofs.Lists.{Contains-none}
+use Rattle.walrus_base.proofs.Lists.{Contains-none}
 use Rattle.walrus_contents.specs.Named.{group_names}
 use Rattle.walrus_contents.specs.There.{AreLive}
 use Rattle.walrus_contents.proofs.Groups.{GroupsAreWhole}
@@ -21,12 +20,7 @@ use Rattle.walrus.specs.Used.{Enters, IsOf, NotesAll}
 use Rattle.walrus.specs.Worklist.{Agrees, IsRoomForLive, Keeps, Notes, entered_items}
 use Rattle.walrus.specs.declared.passes.marks.MarkedItems.{MarkedItems}
 use Rattle.walrus.specs.declared.passes.worklist.Worklist.{Worklist}
-
-pub same_or_other : (a b : ℕ) → (a ≡ b) ⊎ (a ≢ b)
-same_or_other a b = choose (eqb a b) (Decides-eqb a b) where
-  choose : (r : Bool) → Decides r (a ≡ b) → (a ≡ b) ⊎ (a ≢ b)
-  choose true d = inl (d.0 refl)
-  choose false d = inr (λ e. absurd (false≢true (d.1 e)))
+use Rattle.walrus_theorem.proofs.EditSpace.{equal_or as same_or_other}
 
 abbrev space_number : Space → ℕ
 space_number Types = 0

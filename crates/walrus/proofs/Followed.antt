@@ -3,10 +3,10 @@ use Rattle.std.proofs.Common.{◌≡◌, ℕ, ◌+◌, ◌<◌, ◌≤◌, ◌�
 use Rattle.std.specs.Prelude.{◌↔◌, Contains, Result, Ok, Err, MatchResult, vec_capacity, vec_len}
 use Rattle.std.proofs.lemmas.List.{length-map, take-append-le, take_all, take_more}
 use Rattle.std.proofs.lemmas.List.Elements.{Contains-push, Contains-push_cases, Contains-append_left, Contains-append_right, Contains-append_cases}
-use Rattle.walrus_types.specs.Operators.{Item}
+use Rattle.walrus_base.specs.Operators.{Item}
 use Rattle.walrus_code.specs.Code.{item_of}
 use Rattle.walrus_code.specs.declared.items.ItemId.{ItemId}
-use Rattle.walrus_parts.specs.declared.error.Error.{Error}
+use Rattle.walrus_items.specs.declared.error.Error.{Error}
 use Rattle.walrus_model.specs.Abstract.{Abstract}
 use Rattle.walrus_model.specs.Live.{IsLive}
 use Rattle.walrus_model.specs.Reached.{Reached, root, step}
@@ -14,7 +14,7 @@ use Rattle.walrus_model.specs.Refers.{Refers}
 use Rattle.walrus_model.specs.Roots.{IsRoot}
 use Rattle.walrus_contents.specs.Named.{NamesItself}
 use Rattle.walrus_contents.specs.There.{IsRefusal, IsSound}
-use Rattle.walrus_model.proofs.Lists.{Contains-none}
+use Rattle.walrus_base.proofs.Lists.{Contains-none}
 use Rattle.walrus_contents.proofs.Groups.{group_is_written, own_refers, refers_split}
 use Rattle.walrus_contents.proofs.NamedLemmas.{among}
 use Rattle.walrus.proofs.Entered.{enters_both, enters_none}

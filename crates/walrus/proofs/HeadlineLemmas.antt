@@ -1,10 +1,10 @@
--- What was parsed, then collected, then written or refused: what the whole way comes to. The laws of walrus_rules say it of the abstract
+-- What was parsed, then collected, then written or refused: what the whole way comes to. The laws of walrus_theorem say it of the abstract
 -- modules; here it is said of the answers of the calls.
 use Rattle.std.proofs.Common.{◌≡◌, ℕ, List, refl, sym, ap, ◌∙◌, subst}
 use Rattle.std.proofs.lemmas.Result.{err_from_is_err_and}
 use Rattle.std.specs.Prelude.{Option, Some, None, IsSome, IfOk, IsErrAnd, Result, Ok, Err}
 use Rattle.walrus_base.specs.Types.{ValType}
-use Rattle.walrus_types.specs.Operators.{Item}
+use Rattle.walrus_base.specs.Operators.{Item}
 use Rattle.walrus_model.specs.Abstract.{Abstract, Body, LocalFunction, Function}
 use Rattle.walrus_model.specs.Config.{Config}
 use Rattle.walrus_model.specs.Dead.{HasDead, DeadLocal, NoKind}
@@ -12,25 +12,25 @@ use Rattle.walrus_model.specs.Live.{IsLive}
 use Rattle.walrus_model.specs.Names.{body_of, body_of_function, body_of_kind}
 use Rattle.walrus_model.specs.Pipeline.{Collected}
 use Rattle.walrus_model.specs.Refers.{IsUsed}
-use Rattle.walrus_rules.specs.Chain.{Leaves}
-use Rattle.walrus_rules.specs.Refused.{Refusal, Memory, DeadItem, NoIndex, TwoIndices, TooLarge, NotWritable, Caller, Another, RefusesToWrite}
-use Rattle.walrus_rules.specs.RunLaws.{AreFine, IsFew}
-use Rattle.walrus_rules.proofs.NoCause.{well_no_cause}
-use Rattle.walrus_rules.proofs.Runs.{runs_few, runs_fine, runs_too_large}
-use Rattle.walrus_rules.proofs.AgainAll.{writes_again}
-use Rattle.walrus_rules.proofs.EnginesRun.{run_looks_same}
-use Rattle.walrus_rules.proofs.SettleAll.{runs_settle}
-use Rattle.walrus_rules.proofs.StepParsed.{live_v}
-use Rattle.walrus_rules.proofs.StepRead.{read_is_plain, steps_come_out_lem}
-use Rattle.walrus_rules.proofs.WellStays.{collected_well}
-use Rattle.walrus_rules.proofs.WritableParsed.{parsed_is_well}
+use Rattle.walrus_theorem.specs.Chain.{Leaves}
+use Rattle.walrus_theorem.specs.Refused.{Refusal, Memory, DeadItem, NoIndex, TwoIndices, TooLarge, NotWritable, Caller, Another, RefusesToWrite}
+use Rattle.walrus_theorem.specs.RunLaws.{AreFine, IsFew}
+use Rattle.walrus_theorem.proofs.NoCause.{well_no_cause}
+use Rattle.walrus_theorem.proofs.Runs.{runs_few, runs_fine, runs_too_large}
+use Rattle.walrus_theorem.proofs.AgainAll.{writes_again}
+use Rattle.walrus_theorem.proofs.EnginesRun.{run_looks_same}
+use Rattle.walrus_theorem.proofs.SettleAll.{runs_settle}
+use Rattle.walrus_theorem.proofs.StepParsed.{live_v}
+use Rattle.walrus_theorem.proofs.StepRead.{read_is_plain, steps_come_out_lem}
+use Rattle.walrus_theorem.proofs.WellStays.{collected_well}
+use Rattle.walrus_theorem.proofs.WritableParsed.{parsed_is_well}
 use Rattle.walrus_contents.specs.There.{IsSound}
 use Rattle.walrus_module.specs.Parsed.{IsParsed}
 use Rattle.walrus_module.specs.Emitted.{EmittedAs, IsEmitted, told}
 use Rattle.walrus_module.specs.Flags.{Flags, config_of}
 use Rattle.walrus_module.specs.Left.{LeavesBy}
-use Rattle.walrus_parts.specs.declared.error.Error.{Error}
-use Rattle.walrus_parts.specs.declared.error.Error.TheVariants as error
+use Rattle.walrus_items.specs.declared.error.Error.{Error}
+use Rattle.walrus_items.specs.declared.error.Error.TheVariants as error
 use Rattle.walrus.specs.Headline.{Accepts, Answers, ComesOut, ComesTo, ComesOutTooLarge, RunsOn}
 use Rattle.walrus.specs.Marked.{ReachesSound, ReachesUnsound}
 use Rattle.walrus.specs.Used.{RefusesSearch}

@@ -12,7 +12,6 @@ pub mod Room
 pub mod SameSearch
 pub mod SameRoots
 pub mod AskedItems
-pub mod RawStays
 pub mod Tracing
 pub mod TracedSearch
 pub mod ChainsBack

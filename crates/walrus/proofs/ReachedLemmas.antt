@@ -4,32 +4,31 @@ use Rattle.std.specs.Prelude.{◌↔◌, Contains, option_map, Result, Ok, Err, 
 use Rattle.std.proofs.lemmas.Bool.{false≢true}
 use Rattle.std.proofs.lemmas.List.Elements.{Contains-append_left, Contains-append_right, Contains-append_cases}
 use Rattle.walrus_base.specs.Arena.{item_at, items}
-use Rattle.walrus_types.specs.Operators.{Types, Functions, Tables, Memories, Tags, Globals, Elements, DataSegments, Item, function_item}
-use Rattle.walrus_parts.specs.Kinds.{exported}
-use Rattle.walrus_parts.specs.declared.segments.DataKind.TheVariants.{Active, Passive}
-use Rattle.walrus_parts.specs.declared.segments.DataKind.{DataKind}
-use Rattle.walrus_parts.specs.declared.segments.ElementKind.TheVariants as element_kinds
-use Rattle.walrus_parts.specs.declared.segments.ElementKind.{ElementKind}
+use Rattle.walrus_base.specs.Operators.{Types, Functions, Tables, Memories, Tags, Globals, Elements, DataSegments, Item, function_item}
+use Rattle.walrus_items.specs.Kinds.{exported}
+use Rattle.walrus_items.specs.declared.segments.DataKind.TheVariants.{Active, Passive}
+use Rattle.walrus_items.specs.declared.segments.DataKind.{DataKind}
+use Rattle.walrus_items.specs.declared.segments.ElementKind.TheVariants as element_kinds
+use Rattle.walrus_items.specs.declared.segments.ElementKind.{ElementKind}
 use Rattle.walrus_items.specs.Data.{data_segments, is_passive_data}
 use Rattle.walrus_items.specs.Elements.{elements}
 use Rattle.walrus_items.specs.Exports.{ExportValue, exports}
 use Rattle.walrus_model.specs.Abstract as abstract
 use Rattle.walrus_model.specs.Kept.{ReachedCount}
 use Rattle.walrus_model.specs.Roots.{IsRoot, IsRootData, IsRootElement, exported as is_exported, start, data_segment, element_segment, asked_for}
-use Rattle.walrus_model.proofs.Lists.{Contains-map, Contains-none}
+use Rattle.walrus_base.proofs.Lists.{Contains-map, Contains-none}
 use Rattle.walrus_model.proofs.Reach.{Contains-unmap}
-use Rattle.walrus_contents.specs.View.{contents_view, data_kind_of, data_of, element_kind_of, element_of}
+use Rattle.walrus_contents.specs.View.{contents_view, data_kind_of, data_of, element_kind_of, element_of, export_of}
 use Rattle.walrus_contents.specs.declared.parts.Contents.{Contents}
-use Rattle.walrus_contents.specs.View.{export_of}
 use Rattle.walrus_module.specs.Meaning.{Meaning}
 use Rattle.walrus_module.specs.View.{held_view, meanings, view}
 use Rattle.walrus_module.specs.declared.entry.SectionEntry.{SectionEntry}
 use Rattle.walrus_module.specs.declared.module.Module.{Module}
-use Rattle.walrus_parts.specs.Roots.{RootLists, no_roots, with_roots}
-use Rattle.walrus_parts.specs.declared.custom.CustomSection.{Ghosts}
-use Rattle.walrus_rules.proofs.SameItems.{live_back, with_own}
-use Rattle.walrus_parts.specs.declared.error.Error.{Error}
-use Rattle.walrus_parts.specs.declared.error.Error.TheVariants as errors
+use Rattle.walrus_items.specs.Roots.{RootLists, no_roots, with_roots}
+use Rattle.walrus_items.specs.declared.custom.CustomSection.{Ghosts}
+use Rattle.walrus_theorem.proofs.SameItems.{live_back, with_own}
+use Rattle.walrus_items.specs.declared.error.Error.{Error}
+use Rattle.walrus_items.specs.declared.error.Error.TheVariants as errors
 use Rattle.walrus_module.specs.Asked.{IsRefusedBy}
 use Rattle.walrus_base.specs.IdSet.{has_id}
 use Rattle.walrus_base.specs.Marks.{is_marked}
@@ -38,7 +37,7 @@ use Rattle.walrus_base.specs.declared.set.IdHashSet.{IdHashSet}
 use Rattle.walrus.specs.LiveCount.{live_count}
 use Rattle.walrus.specs.Marked.{Finds, HoldsMarked, MarksAreKept, MarksKept, ReachesSound, ReachesUnsound}
 use Rattle.walrus_contents.specs.Named.{active_names, are_passive, export_names, root_elements, root_names, start_names}
-use Rattle.walrus_contents.proofs.Lookups.{mapped_some}
+use Rattle.walrus_base.proofs.Lookups.{mapped_some}
 use Rattle.walrus_contents.proofs.RootNames.{active_is_root, active_named, element_is_root, export_is_root, named_active, named_root_element, named_start, root_cases, root_element_named, start_is_root, start_named}
 use Rattle.walrus.specs.Asked.{asked_items}
 use Rattle.walrus.specs.Used.{IsRefusal, RefusesSearch}

@@ -2,14 +2,14 @@
 use Rattle.std.proofs.Common.{◌≡◌, ℕ, zero, suc, ◌+◌, ◌<◌, Bool, true, false, not, ◌&&◌, cond, List, [], ◌∷◌, ◌++◌, length, get_or, filter, codes, decimal, append_assoc, inl, inr, Option, refl, sym, ap, ◌∙◌, subst, arith}
 use Rattle.std.specs.Prelude.{AllPairs, Contains, IsSome, ◌↔◌}
 use Rattle.std.specs.List.{range_with_len}
-use Rattle.std.proofs.lemmas.Bool.{false≢true}
+use Rattle.std.proofs.lemmas.Bool.{false≢true, and_from as and_both}
 use Rattle.std.proofs.lemmas.List.Elements.{All-contains, filter_passes}
 use Rattle.std.proofs.lemmas.List.FromFn.{get_or-range_with_len, length-range_with_len}
 use Rattle.std.proofs.lemmas.List.Kept.{AllPairs-filter}
 use Rattle.std.proofs.lemmas.List.Sums.{length-filter}
 use Rattle.walrus_base.specs.Arena.{item_at}
 use Rattle.walrus_base.specs.IdSet.{has_id}
-use Rattle.walrus_types.specs.Operators.{Space, Functions, Tables, Memories, Tags, Globals, Elements, DataSegments, Item}
+use Rattle.walrus_base.specs.Operators.{Space, Functions, Tables, Memories, Tags, Globals, Elements, DataSegments, Item}
 use Rattle.walrus_items.specs.Data.{data_segments}
 use Rattle.walrus_items.specs.Elements.{elements}
 use Rattle.walrus_items.specs.Functions.{functions}
@@ -20,17 +20,17 @@ use Rattle.walrus_items.specs.Tags.{tags}
 use Rattle.walrus_model.specs.Abstract.{Abstract, Custom}
 use Rattle.walrus_model.specs.Kept.{Kept}
 use Rattle.walrus_model.specs.Live.{IsLive}
-use Rattle.walrus_model.proofs.Lists.{Contains-head, Contains-tail}
-use Rattle.walrus_contents.proofs.LiveLemmas.{was_there}
-use Rattle.walrus_contents.proofs.Lookups.{still_some}
+use Rattle.walrus_base.proofs.Lists.{Contains-head, Contains-tail}
+use Rattle.walrus_base.proofs.Lookups.{still_some}
 use Rattle.walrus_contents.specs.View.{contents_view, data_of, element_of, function, global_of, memory_of, table_of, tag_of}
 use Rattle.walrus_contents.specs.declared.parts.Contents.{Contents}
-use Rattle.walrus_rules.proofs.SameItems.{with_own}
-use Rattle.walrus_rules.specs.Report.{line, Counts, IsLine, IsReport}
+use Rattle.walrus_theorem.proofs.SameItems.{with_own}
+use Rattle.walrus_theorem.specs.Report.{line, Counts, IsLine, IsReport}
 use Rattle.walrus.proofs.Marking.{below}
 use Rattle.walrus.specs.Marked.{MarksKept, ReachesSound}
 use Rattle.walrus.specs.Reported.{count_where, is_counted}
 use Rattle.walrus.specs.declared.passes.used.Used.{Used}
+use Rattle.walrus_base.proofs.Standing.{was_some as was_there}
 
 -- ---- the text of a line, in which all stands in front of the rest
 
@@ -58,10 +58,6 @@ and_left false b h = h
 and_right : (a b : Bool) → (a && b) ≡ true → b ≡ true
 and_right true b h = h
 and_right false b h = absurd (false≢true h)
-
-and_both : (a b : Bool) → a ≡ true → b ≡ true → (a && b) ≡ true
-and_both true b h k = k
-and_both false b h k = h
 
 not_both : (b : Bool) → not b ≡ true → b ≡ true → ⊥
 not_both true h k = false≢true h

@@ -1,19 +1,19 @@
 -- The report on the module in memory is that on the module that was read: but for types both have the same items, and the same of them are kept.
 use Rattle.std.proofs.Common.{◌≡◌, ℕ, List, codes, subst, Result, Ok, Err}
 use Rattle.std.specs.Prelude.{IfOk, IfErr, ◌↔◌}
-use Rattle.walrus_types.specs.Operators.{Space, Types, Functions, Tables, Memories, Tags, Globals, Elements, DataSegments}
+use Rattle.walrus_base.specs.Operators.{Space, Types, Functions, Tables, Memories, Tags, Globals, Elements, DataSegments}
 use Rattle.walrus_model.specs.Abstract.{Abstract}
 use Rattle.walrus_model.specs.Config.{Config}
 use Rattle.walrus_model.specs.Kept.{Kept}
 use Rattle.walrus_model.specs.Live.{IsLive}
 use Rattle.walrus_model.specs.Rules.{Holds}
-use Rattle.walrus_parts.specs.declared.error.Error.{Error}
+use Rattle.walrus_items.specs.declared.error.Error.{Error}
 use Rattle.walrus_module.specs.Parsed.{IsParsed}
-use Rattle.walrus_rules.specs.Chain.{ParsedAs}
-use Rattle.walrus_rules.specs.Report.{Counts, IsLine, IsReport}
-use Rattle.walrus_rules.proofs.StepParsed.{kept_back, kept_on, live_back, live_forth}
-use Rattle.walrus_rules.proofs.StepPlain.{IsPlain}
-use Rattle.walrus_rules.proofs.StepRead.{read_is_plain}
+use Rattle.walrus_theorem.specs.Chain.{ParsedAs}
+use Rattle.walrus_theorem.specs.Report.{Counts, IsLine, IsReport}
+use Rattle.walrus_theorem.proofs.StepParsed.{kept_back, kept_on, live_back, live_forth}
+use Rattle.walrus_model.proofs.StepPlain.{IsPlain}
+use Rattle.walrus_theorem.proofs.StepRead.{read_is_plain}
 use Rattle.walrus.specs.Marked.{ReachesUnsound}
 use Rattle.walrus.specs.Reported.{IsReportOf, ReportsOn}
 use Rattle.walrus.specs.Used.{RefusesSearch}

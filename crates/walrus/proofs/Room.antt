@@ -4,8 +4,8 @@ use Rattle.std.specs.Prelude.{AllPairs, Contains, IsSome, count_by, is_some}
 use Rattle.std.proofs.lemmas.List.Elements.{Contains-append_left, Contains-append_right}
 use Rattle.std.proofs.lemmas.List.Sums.{count_by-le-length, length-filter}
 use Rattle.walrus_base.specs.Arena.{item_at}
-use Rattle.walrus_types.specs.ModuleTypes.{type_slots}
-use Rattle.walrus_types.specs.Operators.{Space, Types, Functions, Tables, Memories, Tags, Globals, Elements, DataSegments, Item}
+use Rattle.walrus_base.specs.ModuleTypes.{type_slots}
+use Rattle.walrus_base.specs.Operators.{Space, Types, Functions, Tables, Memories, Tags, Globals, Elements, DataSegments, Item}
 use Rattle.walrus_items.specs.Data.{data_segments}
 use Rattle.walrus_items.specs.Elements.{elements}
 use Rattle.walrus_items.specs.Functions.{functions}
@@ -14,12 +14,12 @@ use Rattle.walrus_items.specs.Memories.{memories}
 use Rattle.walrus_items.specs.Tables.{tables}
 use Rattle.walrus_items.specs.Tags.{tags}
 use Rattle.walrus_model.specs.Live.{IsLive}
-use Rattle.walrus_model.proofs.Lists.{Contains-head, Contains-none, Contains-tail, Contains-uncons}
+use Rattle.walrus_base.proofs.Lists.{Contains-head, Contains-none, Contains-tail, Contains-uncons}
 use Rattle.walrus_contents.specs.View.{contents_view, data_of, element_of, function, global_of, memory_of, table_of, tag_of}
 use Rattle.walrus_contents.specs.declared.parts.Contents.{Contents}
-use Rattle.walrus_contents.proofs.LiveLemmas.{was_there}
 use Rattle.walrus.specs.LiveCount.{live_count, place_count}
 use Rattle.walrus.specs.Worklist.{IsRoomForLive}
+use Rattle.walrus_base.proofs.Standing.{was_some as was_there}
 
 -- ---- a list of distinct elements, all of them in another, is no longer
 

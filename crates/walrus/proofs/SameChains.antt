@@ -2,13 +2,13 @@
 use Rattle.std.proofs.Common.{◌≡◌, List, [], ◌∷◌, flat_map, Option, Some, None, subst}
 use Rattle.std.specs.Prelude.{option_map, Result, Ok, Err, IfErr, IfOk, MatchResult}
 use Rattle.std.specs.Global.{Vec}
-use Rattle.walrus_types.specs.Operators.{Item}
+use Rattle.walrus_base.specs.Operators.{Item}
 use Rattle.walrus_code.specs.declared.items.ItemId.{ItemId}
 use Rattle.walrus_model.specs.Abstract.{Abstract, Custom}
-use Rattle.walrus_parts.specs.Roots.{RootLists, no_roots, with_roots}
-use Rattle.walrus_parts.specs.declared.custom.CustomSection.{Ghosts}
-use Rattle.walrus_parts.specs.declared.error.Error.{Error}
-use Rattle.walrus_parts.specs.declared.error.Error.TheVariants as errors
+use Rattle.walrus_items.specs.Roots.{RootLists, no_roots, with_roots}
+use Rattle.walrus_items.specs.declared.custom.CustomSection.{Ghosts}
+use Rattle.walrus_items.specs.declared.error.Error.{Error}
+use Rattle.walrus_items.specs.declared.error.Error.TheVariants as errors
 use Rattle.walrus_contents.specs.Named.{items_in}
 use Rattle.walrus_contents.specs.There.{IsRefusal}
 use Rattle.walrus_contents.proofs.NamedLemmas.{refusal_map}
@@ -16,7 +16,7 @@ use Rattle.walrus_module.specs.Meaning.{Meaning}
 use Rattle.walrus_module.specs.View.{held_view, meanings, view}
 use Rattle.walrus_module.specs.declared.entry.SectionEntry.{SectionEntry}
 use Rattle.walrus_module.specs.declared.module.Module.{Module}
-use Rattle.walrus_rules.proofs.SameItems.{with_own}
+use Rattle.walrus_theorem.proofs.SameItems.{with_own}
 use Rattle.walrus.specs.Asked.{asked_items}
 use Rattle.walrus.specs.Marked.{ReachesUnsound}
 use Rattle.walrus.specs.Used.{RefusesSearch}

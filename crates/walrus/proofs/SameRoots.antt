@@ -1,16 +1,16 @@
 -- Modules that differ in custom sections alone, where these ask to keep the same items: what is reached is the same, and what a search finds.
 use Rattle.std.proofs.Common.{ℕ, inl, inr, List}
 use Rattle.std.specs.Prelude.{◌↔◌, Contains, Result, Ok, Err, MatchResult}
-use Rattle.walrus_types.specs.Operators.{Types, Functions, Tables, Memories, Tags, Globals, Elements, DataSegments, Item}
+use Rattle.walrus_base.specs.Operators.{Types, Functions, Tables, Memories, Tags, Globals, Elements, DataSegments, Item}
 use Rattle.walrus_model.specs.Abstract.{Abstract, Custom}
 use Rattle.walrus_model.specs.Kept.{IsSpareMemory, Kept, ReachedCount}
 use Rattle.walrus_model.specs.Reached.{Reached, root, step}
 use Rattle.walrus_model.specs.Refers.{Refers}
 use Rattle.walrus_model.specs.Roots.{IsRoot, exported, start, data_segment, element_segment, asked_for}
-use Rattle.walrus_parts.specs.declared.error.Error.{Error}
+use Rattle.walrus_items.specs.declared.error.Error.{Error}
 use Rattle.walrus_contents.specs.There.{IsRefusal}
 use Rattle.walrus_contents.proofs.NamedLemmas.{refusal_map}
-use Rattle.walrus_rules.proofs.SameItems.{with_own}
+use Rattle.walrus_theorem.proofs.SameItems.{with_own}
 use Rattle.walrus.specs.Marked.{Finds, ReachesSound, ReachesUnsound}
 use Rattle.walrus.specs.declared.passes.marks.MarkedItems.{MarkedItems}
 use Rattle.walrus.proofs.SameSearch.{sound_back, sound_on}

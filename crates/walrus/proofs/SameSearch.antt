@@ -1,11 +1,11 @@
 -- Modules that differ in custom sections alone, and in what these ask to keep: what an item names is the same, and what a search enters.
 use Rattle.std.proofs.Common.{◌≡◌, ◌⊎◌, inl, inr, List, refl, sym, subst}
 use Rattle.std.specs.Prelude.{Contains}
-use Rattle.walrus_types.specs.Operators.{Types, Functions, Tables, Memories, Tags, Globals, Elements, DataSegments, Item}
+use Rattle.walrus_base.specs.Operators.{Types, Functions, Tables, Memories, Tags, Globals, Elements, DataSegments, Item}
 use Rattle.walrus_model.specs.Abstract.{Abstract, Custom}
 use Rattle.walrus_contents.specs.Named.{NamesItself, group_names}
 use Rattle.walrus_contents.specs.There.{IsSound}
-use Rattle.walrus_rules.proofs.SameItems.{live_back, live_on, with_own}
+use Rattle.walrus_theorem.proofs.SameItems.{live_back, live_on, with_own}
 use Rattle.walrus.specs.Marked.{IsFirst, MarksSpare}
 use Rattle.walrus.specs.MarkedItems.{HavePlaces}
 use Rattle.walrus.specs.Used.{Enters, EntersAll, HoldGroups, IsOf, NamesDead, OneDead}

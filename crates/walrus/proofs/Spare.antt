@@ -3,20 +3,20 @@ use Rattle.std.proofs.Common.{◌≡◌, ℕ, ◌≢◌, ◌⊎◌, inl, inr, �
 use Rattle.std.specs.Prelude.{option_map}
 use Rattle.std.proofs.lemmas.Bool.{cases_order}
 use Rattle.walrus_base.specs.Arena.{entries, item_at}
-use Rattle.walrus_types.specs.Operators.{DataSegments, Memories}
+use Rattle.walrus_base.specs.Operators.{DataSegments, Memories}
 use Rattle.walrus_items.specs.Memories.{MemoryValue, memories}
 use Rattle.walrus_model.specs.Abstract.{Abstract}
 use Rattle.walrus_model.specs.Kept.{IsFirstMemory}
 use Rattle.walrus_contents.specs.View.{contents_view, memory_of}
 use Rattle.walrus_contents.specs.declared.parts.Contents.{Contents}
 use Rattle.walrus_contents.proofs.LiveLemmas.{seen_there}
-use Rattle.walrus_contents.proofs.NamedLemmas.{some_none}
-use Rattle.walrus_contents.proofs.Slots.{first_there, none_there}
+use Rattle.walrus_model.proofs.Slots.{first_there, none_there}
 use Rattle.walrus.specs.Marked.{Finds, IsFirst, MarksAreKept, MarksFirst, MarksSpare}
 use Rattle.walrus.specs.MarkedItems.{AddsMark, has_mark}
 use Rattle.walrus.specs.Used.{Found}
 use Rattle.walrus.specs.declared.passes.marks.MarkedItems.{MarkedItems}
 use Rattle.walrus.proofs.Entered.{same_or_other_item}
+use Rattle.walrus_model.proofs.KeptFollow.{not_none as some_none}
 
 -- ---- the first memory
 

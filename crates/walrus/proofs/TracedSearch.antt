@@ -2,7 +2,7 @@
 use Rattle.std.proofs.Common.{◌≡◌, ℕ, ◌<◌, ◌≤◌, inl, inr, List, [], ◌++◌, get_or, length, map, Some, None, sym, ap, ◌∙◌, subst, arith}
 use Rattle.std.specs.Prelude.{◌↔◌, Contains, vec_len}
 use Rattle.std.proofs.lemmas.List.{get_or_default}
-use Rattle.walrus_types.specs.Operators.{Item, Types}
+use Rattle.walrus_base.specs.Operators.{Item, Types}
 use Rattle.walrus_code.specs.Code.{item_of}
 use Rattle.walrus_model.specs.Abstract.{Abstract}
 use Rattle.walrus_model.specs.Refers.{Refers}
@@ -12,7 +12,7 @@ use Rattle.walrus_contents.specs.There.{IsSound}
 use Rattle.walrus_contents.specs.View.{contents_view}
 use Rattle.walrus_contents.specs.declared.parts.Contents.{Contents}
 use Rattle.walrus_contents.proofs.Groups.{own_refers}
-use Rattle.walrus_rules.proofs.SameItems.{with_own}
+use Rattle.walrus_theorem.proofs.SameItems.{with_own}
 use Rattle.walrus.specs.Marked.{ReachesUnsound}
 use Rattle.walrus.specs.Traced.{IsTraced, MayName, Names, Traces, item_in}
 use Rattle.walrus.specs.Used.{Enters, Follows, NamesDead}

@@ -2,12 +2,12 @@
 use Rattle.std.proofs.Common.{ℕ, List, subst}
 use Rattle.std.specs.Prelude.{Ok}
 use Rattle.std.specs.Global.{Vec}
-use Rattle.walrus_parts.specs.declared.custom.CustomSection.{Ghosts}
+use Rattle.walrus_items.specs.declared.custom.CustomSection.{Ghosts}
 use Rattle.walrus_model.specs.Config.{Config}
-use Rattle.walrus_rules.specs.Chain.{Leaves}
-use Rattle.walrus_rules.specs.Refused.{PassesLimits}
-use Rattle.walrus_rules.specs.WellMade.{IsWellMade}
-use Rattle.walrus_rules.specs.Whole.{ComesWhole}
+use Rattle.walrus_theorem.specs.Chain.{Leaves}
+use Rattle.walrus_theorem.specs.Refused.{PassesLimits}
+use Rattle.walrus_theorem.specs.WellMade.{IsWellMade}
+use Rattle.walrus_theorem.specs.Whole.{ComesWhole}
 use Rattle.walrus_module.specs.Emitted.{told}
 use Rattle.walrus_module.specs.Answered.{IsWellWritten, WritesUnless}
 use Rattle.walrus_module.specs.Flags.{Flags, config_of}
@@ -16,9 +16,9 @@ use Rattle.walrus_module.specs.View.{view}
 use Rattle.walrus_module.specs.declared.entry.SectionEntry.{SectionEntry}
 use Rattle.walrus_module.specs.declared.module.Module.{Module}
 use Rattle.walrus.specs.Whole.{Parses, EmitsBytes, ParsedIsWritten}
-use Rattle.walrus_rules.proofs.StepLive.{plain_comes_out}
-use Rattle.walrus_rules.proofs.WritableParsed.{parsed_is_well}
-use Rattle.walrus.proofs.RawStays.{all_raw, leaves_whole}
+use Rattle.walrus_theorem.proofs.StepLive.{plain_comes_out}
+use Rattle.walrus_theorem.proofs.WritableParsed.{parsed_is_well}
+use Rattle.walrus_module.proofs.RawStays.{all_raw, leaves_whole}
 
 module _ {V : Type 0} {O : V → Type 0} (G : (v : V) → Ghosts (O v)) where
   come_whole : (f : Flags) (bytes : List ℕ) (old new : Module (SectionEntry V O)) (output : Vec ℕ) → Parses G f bytes old → EmitsBytes G old new output → ComesWhole (config_of f) bytes output.items

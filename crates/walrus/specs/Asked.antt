@@ -1,7 +1,7 @@
 -- What the custom sections of a module ask to keep, as a search for used items takes it.
 use Rattle.std.specs.Prelude.{List, ◌++◌, map}
-use Rattle.walrus_types.specs.Operators.{Functions, Tables, Memories, Tags, Globals, Item}
-use Rattle.walrus_parts.specs.Roots.{RootLists}
+use Rattle.walrus_base.specs.Operators.{Functions, Tables, Memories, Tags, Globals, Item}
+use Rattle.walrus_items.specs.Roots.{RootLists}
 use Rattle.walrus_model.specs.Abstract.{Abstract}
 use Rattle.walrus_contents.specs.View.{parts_view}
 use Rattle.walrus.specs.declared.passes.used.Searched.{Searched}

@@ -1,13 +1,13 @@
 -- THE MAIN THEOREM: what a run comes to, for all that was read and all that was written. What the bytes of a module come to stands in
--- `walrus_rules`, with the laws that leave one answer.
+-- `walrus_theorem`, with the laws that leave one answer.
 use Rattle.std.specs.Prelude.{ℕ, List, ◌++◌, Option, ⊤, Result, Ok, Err, ◌≡◌}
 use Rattle.std.specs.Io.KnownBytes.{Appends, Consumes, IsAtEnd, Keeps}
 use Rattle.walrus_model.specs.Config.{Config}
-use Rattle.walrus_parts.specs.declared.error.Error.{Error}
-use Rattle.walrus_parts.specs.declared.error.Error.TheVariants.{Memory, InvalidWasm, TooLarge}
-pub use Rattle.walrus_rules.specs.Headline.{Accepts, ComesTo, ComesOutTooLarge}
-use Rattle.walrus_rules.specs.Engines.{LooksSame}
-use Rattle.walrus_rules.specs.SettledLaw.{IsSettled}
+use Rattle.walrus_items.specs.declared.error.Error.{Error}
+use Rattle.walrus_items.specs.declared.error.Error.TheVariants.{Memory, InvalidWasm, TooLarge}
+pub use Rattle.walrus_theorem.specs.Headline.{Accepts, ComesTo, ComesOutTooLarge}
+use Rattle.walrus_theorem.specs.Engines.{LooksSame}
+use Rattle.walrus_theorem.specs.SettledLaw.{IsSettled}
 use Rattle.walrus.specs.declared.tool.ToolError.{ToolError}
 use Rattle.walrus.specs.declared.tool.ToolError.TheVariants as tool
 

@@ -3,9 +3,9 @@
 use Rattle.std.specs.Prelude.{ℕ, List, [], map, flat_map, Option, Some, None}
 use Rattle.std.specs.String.{string_bytes}
 use Rattle.wasm_forms.specs.Spelling.{little_bytes}
-use Rattle.walrus_types.specs.Operators.{Functions, Item, function_item}
+use Rattle.walrus_base.specs.Operators.{Functions, Item, function_item}
 use Rattle.walrus_code.specs.Names.{Lookup}
-use Rattle.walrus_parts.specs.Roots.{places}
+use Rattle.walrus_items.specs.Roots.{places}
 use Rattle.walrus.specs.declared.sections.listed.ListedSection.{ListedSection}
 
 -- an index in four bytes, the lowest first

@@ -1,6 +1,6 @@
 -- How many items and places a module's collections hold.
 use Rattle.std.specs.Prelude.{ℕ, ◌+◌, length, count_by, is_some}
-use Rattle.walrus_types.specs.ModuleTypes.{type_slots}
+use Rattle.walrus_base.specs.ModuleTypes.{type_slots}
 use Rattle.walrus_items.specs.Data.{data_segments}
 use Rattle.walrus_items.specs.Elements.{elements}
 use Rattle.walrus_items.specs.Functions.{functions}

@@ -1,7 +1,7 @@
 -- What a search for used items finds, in the words of the abstract module.
 use Rattle.std.specs.Prelude.{ℕ, ◌≡◌, ◌↔◌, ◌⊎◌, true}
 use Rattle.walrus_base.specs.IdSet.{HasId}
-use Rattle.walrus_types.specs.Operators.{Types, Functions, Tables, Memories, Tags, Globals, Elements, DataSegments, Item}
+use Rattle.walrus_base.specs.Operators.{Types, Functions, Tables, Memories, Tags, Globals, Elements, DataSegments, Item}
 use Rattle.walrus_model.specs.Abstract.{Abstract}
 use Rattle.walrus_model.specs.Kept.{IsFirstMemory, Kept, ReachedCount}
 use Rattle.walrus_model.specs.Reached.{Reached}

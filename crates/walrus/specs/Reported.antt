@@ -3,9 +3,9 @@ use Rattle.std.specs.Prelude.{ℕ, Bool, true, false, List, length, Option, Resu
 use Rattle.std.specs.List.{range_with_len}
 use Rattle.walrus_base.specs.Arena.{item_at}
 use Rattle.walrus_model.specs.Config.{Config}
-use Rattle.walrus_parts.specs.declared.error.Error.{Error}
-use Rattle.walrus_rules.specs.Headline.{Accepts}
-pub use Rattle.walrus_rules.specs.Report.{IsReportOf}
+use Rattle.walrus_items.specs.declared.error.Error.{Error}
+use Rattle.walrus_theorem.specs.Headline.{Accepts}
+pub use Rattle.walrus_theorem.specs.Report.{IsReportOf}
 use Rattle.walrus.specs.Headline.{Answers, Runs, Transfers}
 use Rattle.walrus.specs.declared.tool.ToolError.{ToolError}
 

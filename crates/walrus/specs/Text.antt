@@ -1,6 +1,6 @@
 -- The text of each refusal of a run.
 use Rattle.std.specs.Prelude.{ℕ, List, codes}
-use Rattle.walrus_parts.specs.Errors.{error_text}
+use Rattle.walrus_items.specs.Errors.{error_text}
 use Rattle.walrus.specs.declared.tool.ToolError.{ToolError}
 use Rattle.walrus.specs.declared.tool.ToolError.TheVariants.{Read, Write, Module}
 

@@ -1,7 +1,7 @@
 -- Who named each item that a search entered, so that a chain is read back from it.
 use Rattle.std.specs.Prelude.{ℕ, ◌≡◌, ◌<◌, ◌≤◌, ◌⊎◌, List, length, Option, Some, None, Contains, slice_index_or}
 use Rattle.std.specs.Global.{Vec}
-use Rattle.walrus_types.specs.Operators.{Item, Types}
+use Rattle.walrus_base.specs.Operators.{Item, Types}
 use Rattle.walrus_code.specs.declared.items.ItemId.{ItemId}
 use Rattle.walrus_model.specs.Abstract.{Abstract}
 use Rattle.walrus_model.specs.Reached.{Reached}

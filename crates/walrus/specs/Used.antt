@@ -1,14 +1,14 @@
 -- What a search for used items finds, and when it refuses.
 use Rattle.std.specs.Prelude.{ℕ, ◌≡◌, ◌↔◌, true, List, ◌++◌, ◌⊎◌, take, Contains, ⊤}
-use Rattle.walrus_types.specs.Operators.{Item}
+use Rattle.walrus_base.specs.Operators.{Item}
 use Rattle.walrus_model.specs.Abstract.{Abstract}
 use Rattle.walrus_model.specs.Kept.{ReachedCount}
 use Rattle.walrus_model.specs.Live.{IsLive}
 use Rattle.walrus_model.specs.Reached.{Reached}
 use Rattle.walrus_model.specs.Refers.{Refers}
 use Rattle.walrus_model.specs.Roots.{IsRoot}
-use Rattle.walrus_parts.specs.declared.error.Error.{Error}
-use Rattle.walrus_parts.specs.declared.error.Error.TheVariants.{Memory, DeadItem, Caller}
+use Rattle.walrus_items.specs.declared.error.Error.{Error}
+use Rattle.walrus_items.specs.declared.error.Error.TheVariants.{Memory, DeadItem, Caller}
 pub use Rattle.walrus_contents.specs.There.{IsRefusal}
 use Rattle.walrus_contents.specs.Named.{group_names}
 use Rattle.walrus_contents.specs.There.{IsSound}

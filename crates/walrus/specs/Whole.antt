@@ -1,10 +1,10 @@
 -- What parsing and emission come to, without gc and without an edit.
 use Rattle.std.specs.Prelude.{ℕ, List, Ok, ◌≡◌}
 use Rattle.std.specs.Global.{Vec}
-use Rattle.walrus_parts.specs.declared.custom.CustomSection.{Ghosts}
-use Rattle.walrus_rules.specs.Refused.{PassesLimits}
-use Rattle.walrus_rules.specs.WellMade.{IsWellMade}
-use Rattle.walrus_rules.specs.Whole.{ComesWhole}
+use Rattle.walrus_items.specs.declared.custom.CustomSection.{Ghosts}
+use Rattle.walrus_theorem.specs.Refused.{PassesLimits}
+use Rattle.walrus_theorem.specs.WellMade.{IsWellMade}
+use Rattle.walrus_theorem.specs.Whole.{ComesWhole}
 use Rattle.walrus_module.specs.Parsed.{IsParsed}
 use Rattle.walrus_module.specs.Emitted.{told}
 use Rattle.walrus_module.specs.Answered.{IsWellWritten, WritesUnless}

@@ -1,6 +1,6 @@
 -- Why an item stays: a chain of references that leads to it from a root.
 use Rattle.std.specs.Prelude.{◌≡◌, ◌≢◌, AllPairs, List, [], ◌∷◌, Option, Some, None}
-use Rattle.walrus_types.specs.Operators.{Item}
+use Rattle.walrus_base.specs.Operators.{Item}
 use Rattle.walrus_model.specs.Abstract.{Abstract}
 use Rattle.walrus_model.specs.Reached.{Reached}
 use Rattle.walrus_model.specs.Refers.{Refers}

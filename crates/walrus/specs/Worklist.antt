@@ -1,6 +1,6 @@
 -- What a contract sees of the worklist of a search.
 use Rattle.std.specs.Prelude.{ℕ, ◌≡◌, ◌≢◌, ◌<◌, ◌≤◌, ◌+◌, ◌↔◌, true, List, [], ◌∷◌, ◌++◌, length, AllPairs, Contains, slice_index_or, vec_capacity, if◌then◌else◌}
-use Rattle.walrus_types.specs.Operators.{Item}
+use Rattle.walrus_base.specs.Operators.{Item}
 use Rattle.walrus_model.specs.Abstract.{Abstract}
 use Rattle.walrus_contents.specs.Named.{items_in}
 use Rattle.walrus_contents.specs.There.{AreLive}

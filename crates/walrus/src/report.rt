@@ -6,7 +6,7 @@ ghost use Rattle.walrus_base.specs.IdSet.{has_id};
 ghost use Rattle.walrus_items.specs.Held.{held};
 ghost use Rattle.walrus_module.specs.Asked.{OneMayRefuse};
 ghost use Rattle.walrus_module.specs.View.{meanings, view};
-ghost use Rattle.walrus_rules.specs.Report.{IsReport, line};
+ghost use Rattle.walrus_theorem.specs.Report.{IsReport, line};
 ghost use Rattle.walrus.specs.Marked.{ReachesUnsound};
 ghost use Rattle.walrus.specs.Reported.{count_where, is_counted};
 ghost use Rattle.walrus.specs.Used.{RefusesSearch};

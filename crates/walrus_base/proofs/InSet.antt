@@ -9,7 +9,7 @@ use Rattle.std.proofs.lemmas.Map.Views.{btree_set_contains_iff}
 use Rattle.walrus_base.specs.IdSet.{has_id, has_place, ids_in, places_in}
 use Rattle.walrus_base.specs.declared.set.IdHashSet.{IdHashSet}
 
-none_in : (n : ℕ) → Contains [] n → ⊥
+pub none_in : (n : ℕ) → Contains [] n → ⊥
 none_in n (k, low, is) = omega (arith, low)
 
 place_is_listed : (places : Option (Box (BTreeSet ℕ))) (n : ℕ) → IsTrue (has_place places n) ↔ Contains (places_in places) n

@@ -1,6 +1,6 @@
 -- The open blocks behind an operator, by the tests that the code makes.
 use Rattle.std.proofs.Common.{◌≡◌, ℕ, true, false, List, [], ◌∷◌, None, refl}
-use Rattle.walrus_types.specs.Operators.{Arg}
+use Rattle.walrus_base.specs.Operators.{Arg}
 use Rattle.walrus_bodies.specs.declared.blocks.Opened.{Opened}
 use Rattle.walrus_bodies.specs.Blocks.{is_none_open, blocks_behind, blocks_meant, blocks_after, labels_below}
 

@@ -1,7 +1,7 @@
 -- Bodies of functions: declarations, and operators behind them.
 use Rattle.std.proofs.Common.{◌≡◌, ℕ, ◌+◌, ◌-◌, ◌^◌, List, [], ◌∷◌, ◌++◌, length, map, min, Option, Some, None, Result, Ok, Err, IsErrAnd, slice_get, refl, ap, ◌∙◌, sym, subst, arith, append_assoc, length-append}
 use Rattle.std.proofs.lemmas.List.{map-append}
-use Rattle.std.proofs.lemmas.List.FromFn.{map-range_with_len_more, length-range_with_len}
+use Rattle.std.proofs.lemmas.List.FromFn.{length-range_with_len}
 use Rattle.std.specs.List.{range_with_len}
 use Rattle.wasm_forms.specs.declared.types.RawVal.{RawVal}
 use Rattle.wasm_forms.specs.Grammar.{Is}
@@ -11,11 +11,11 @@ use Rattle.walrus_base.specs.Id.{place}
 use Rattle.walrus_base.specs.Types.{ValType}
 use Rattle.walrus_base.specs.declared.id.Id.{Id}
 use Rattle.walrus_base.specs.declared.keys.LocalKey.{LocalKey}
-use Rattle.walrus_types.specs.Operators.{Op}
-use Rattle.walrus_types.specs.Locals.{new_local}
-use Rattle.walrus_types.specs.Value.{val_type}
-use Rattle.walrus_types.specs.declared.locals.Local.{Local}
-use Rattle.walrus_types.specs.declared.value.ValType.{ValType as DeclaredValType}
+use Rattle.walrus_base.specs.Operators.{Op}
+use Rattle.walrus_base.specs.Locals.{new_local}
+use Rattle.walrus_base.specs.Value.{val_type}
+use Rattle.walrus_base.specs.declared.locals.Local.{Local}
+use Rattle.walrus_base.specs.declared.value.ValType.{ValType as DeclaredValType}
 use Rattle.walrus_code.specs.Results.{locals_at}
 use Rattle.walrus_code.specs.declared.error.IrError.{IrError}
 use Rattle.walrus_code.specs.declared.error.IrError.TheVariants.{Malformed, Memory, NoIndex, NotWritable, TooLarge}
@@ -25,6 +25,7 @@ use Rattle.walrus_bodies.specs.Body.{Context, OperatorsRead, BodyReads, Located,
 use Rattle.walrus_bodies.specs.BodyRead.{body_locals, new_locals, AddsLocals, Grows, ReadsBody, AreDeclared, Declares}
 use Rattle.walrus_bodies.specs.Declarations.{ReadsDeclarations}
 use Rattle.walrus_bodies.specs.Results.{ReadsOperators}
+use Rattle.walrus_base.proofs.Ranges.{range-more}
 
 -- ---- locals that are added
 
@@ -36,7 +37,7 @@ new_locals-more (i ∷ ids) (t ∷ types) id ty same =
     let shorter : length ids ≡ length types = omega (arith, same) in
     ap (λ (xs : List (Option Local)). Some (new_local i t) ∷ xs) (new_locals-more ids types id ty shorter)
 
-length-new_locals : (ids : List (Id LocalKey)) (types : List DeclaredValType) → length ids ≡ length types → length (new_locals ids types) ≡ length types
+pub length-new_locals : (ids : List (Id LocalKey)) (types : List DeclaredValType) → length ids ≡ length types → length (new_locals ids types) ≡ length types
 length-new_locals [] [] same = refl
 length-new_locals [] (t ∷ types) same = absurd (omega (arith, same))
 length-new_locals (i ∷ ids) [] same = absurd (omega (arith, same))
@@ -44,13 +45,6 @@ length-new_locals (i ∷ ids) (t ∷ types) same =
     let shorter : length ids ≡ length types = omega (arith, same) in
     let rest = length-new_locals ids types shorter in
     omega (arith, rest)
-
-range-more : (first n : ℕ) → range_with_len first (n + 1) ≡ range_with_len first n ++ (first + n) ∷ []
-range-more first n = sym (map-same (range_with_len first (n + 1))) ∙ map-range_with_len_more (λ k. k) first n (first + n) refl ∙ ap (λ (ns : List ℕ). ns ++ (first + n) ∷ []) (map-same (range_with_len first n))
-  where
-    map-same : (ns : List ℕ) → map (λ k. k) ns ≡ ns
-    map-same [] = refl
-    map-same (m ∷ ns) = ap (λ (xs : List ℕ). m ∷ xs) (map-same ns)
 
 length-map-place : (ids : List (Id LocalKey)) → length (map place ids) ≡ length ids
 length-map-place [] = refl
@@ -155,7 +149,7 @@ all_read c args all ids old new bytes rest ds ops found declared is reads = reco
 
 -- ---- locations
 
-same_places : (IsGiven : ℕ → InstrLocId → Type 0) (p q : ℕ) (bytes : List ℕ) (locs : List InstrLocId) → min p (2 ^ 64 - 1) ≡ min q (2 ^ 64 - 1) → Located IsGiven p bytes locs → Located IsGiven q bytes locs
+pub same_places : (IsGiven : ℕ → InstrLocId → Type 0) (p q : ℕ) (bytes : List ℕ) (locs : List InstrLocId) → min p (2 ^ 64 - 1) ≡ min q (2 ^ 64 - 1) → Located IsGiven p bytes locs → Located IsGiven q bytes locs
 same_places IsGiven p q bytes [] same located = located
 same_places IsGiven p q bytes (loc ∷ locs) same (text, (front, (back, (parts, is, given, rest)))) =
     let later : min (p + length front) (2 ^ 64 - 1) ≡ min (q + length front) (2 ^ 64 - 1) = omega arith in

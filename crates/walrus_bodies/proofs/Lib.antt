@@ -1,8 +1,30 @@
-mod BlockLemmas
-mod BodyLemmas
+pub mod BlockLemmas
+pub mod BodyLemmas
 mod DeclarationLemmas
 pub mod EmitLemmas
-mod LocatedLemmas
+pub mod LocatedLemmas
 mod NamedLemmas
 mod ReadLemmas
 mod RelationLemmas
+pub mod LawNamed
+pub mod NestLemmas
+pub mod Lists
+pub mod MoreNames
+mod AgainLemmas
+pub mod AtMarks
+pub mod FlagLemmas
+mod HeldLemmas
+mod KeptLemmas
+mod LocationLemmas
+mod PlacedLemmas
+pub mod NamesShown
+pub mod OrderLemmas
+mod PlainLemmas
+mod PushedLemmas
+mod RangeLemmas
+mod RenamedLemmas
+mod ScannedLemmas
+mod Scanning
+mod StandLemmas
+mod TextLemmas
+mod WrittenLemmas

@@ -7,7 +7,7 @@ use Rattle.wasm_forms.proofs.Bind.{bind_some, if_some, some_same}
 use Rattle.wasm_forms.proofs.Exact.{exact}
 use Rattle.wasm_operators.specs.Operators as wire
 use Rattle.wasm_operators.specs.Forms.{operator}
-use Rattle.walrus_types.specs.Operators.{Op}
+use Rattle.walrus_base.specs.Operators.{Op}
 use Rattle.walrus_code.specs.Names.{named_op}
 use Rattle.walrus_code.specs.FromRaw.{op_of}
 use Rattle.walrus_code.specs.declared.location.InstrLocId.{InstrLocId}

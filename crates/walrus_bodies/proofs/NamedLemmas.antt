@@ -1,7 +1,7 @@
 -- Operators that are looked up, one after another.
 use Rattle.std.proofs.Common.{◌≡◌, ℕ, List, [], ◌∷◌, ◌++◌, Option, Some, None, refl}
 use Rattle.wasm_forms.specs.Reading.{◌>>=◌}
-use Rattle.walrus_types.specs.Operators.{Op}
+use Rattle.walrus_base.specs.Operators.{Op}
 use Rattle.walrus_code.specs.Names.{Lookup, named_op, named_ops}
 
 module _ (names : Lookup) (locals : ℕ → Option ℕ) where

@@ -6,7 +6,7 @@ use Rattle.wasm_forms.proofs.Bind.{bind_some, bind_at, some_same}
 use Rattle.wasm_forms.proofs.Exact.{exact}
 use Rattle.wasm_operators.specs.Operators as wire
 use Rattle.wasm_operators.specs.Forms.{operator}
-use Rattle.walrus_types.specs.Operators.{Op}
+use Rattle.walrus_base.specs.Operators.{Op}
 use Rattle.walrus_code.specs.Names.{named_op, named_ops}
 use Rattle.walrus_code.specs.FromRaw.{op_of, ops_of}
 use Rattle.walrus_code.specs.declared.error.IrError.{IrError}

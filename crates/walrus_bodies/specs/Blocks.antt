@@ -3,7 +3,7 @@
 use Rattle.std.specs.Prelude.{ℕ, ◌-◌, Bool, true, false, ◌||◌, List, [], ◌∷◌, length, Option, Some, None, nat_eq, nat_lt, if◌then◌else◌}
 use Rattle.wasm_opcodes.specs.declared.one_byte.TheConstants.{BLOCK, LOOP, IF, ELSE, TRY, CATCH, END, DELEGATE, CATCH_ALL, TRY_TABLE}
 use Rattle.std.specs.List.{list_all}
-use Rattle.walrus_types.specs.Operators.{Arg, Index, Label, Local, Number, Count, Byte, S32, S64, Bits32, Bits64, Value, Heap, Block, Access, Op, NoResult, OneResult, OfType}
+use Rattle.walrus_base.specs.Operators.{Arg, Index, Label, Local, Number, Count, Byte, S32, S64, Bits32, Bits64, Value, Heap, Block, Access, Op, NoResult, OneResult, OfType}
 use Rattle.walrus_bodies.specs.declared.blocks.Opened.{Opened}
 use Rattle.walrus_bodies.specs.declared.blocks.Opened.TheVariants.{Plain, If, Try, Handled}
 

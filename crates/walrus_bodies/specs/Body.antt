@@ -8,7 +8,7 @@ use Rattle.wasm_forms.specs.Types.{value_type}
 use Rattle.wasm_operators.specs.Operators as wire
 use Rattle.wasm_operators.specs.Forms.{operator}
 use Rattle.walrus_base.specs.Types.{ValType}
-use Rattle.walrus_types.specs.Operators.{Op}
+use Rattle.walrus_base.specs.Operators.{Op}
 use Rattle.walrus_code.specs.Names.{Lookup, named_val, named_ops}
 use Rattle.walrus_code.specs.FromRaw.{val_of, ops_of}
 use Rattle.walrus_code.specs.declared.location.InstrLocId.{InstrLocId}

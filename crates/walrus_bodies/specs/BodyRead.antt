@@ -7,11 +7,11 @@ use Rattle.walrus_base.specs.Id.{place}
 use Rattle.walrus_base.specs.Types.{ValType}
 use Rattle.walrus_base.specs.declared.id.Id.{Id}
 use Rattle.walrus_base.specs.declared.keys.LocalKey.{LocalKey}
-use Rattle.walrus_types.specs.Locals.{new_local}
-use Rattle.walrus_types.specs.Operators.{Op}
-use Rattle.walrus_types.specs.Value.{val_type}
-use Rattle.walrus_types.specs.declared.locals.Local.{Local}
-use Rattle.walrus_types.specs.declared.value.ValType.{ValType as DeclaredValType}
+use Rattle.walrus_base.specs.Locals.{new_local}
+use Rattle.walrus_base.specs.Operators.{Op}
+use Rattle.walrus_base.specs.Value.{val_type}
+use Rattle.walrus_base.specs.declared.locals.Local.{Local}
+use Rattle.walrus_base.specs.declared.value.ValType.{ValType as DeclaredValType}
 use Rattle.walrus_code.specs.Code.{ops_of}
 use Rattle.walrus_code.specs.Names.{Lookup}
 use Rattle.walrus_code.specs.declared.error.IrError.{IrError}

@@ -5,7 +5,7 @@ use Rattle.wasm_forms.specs.Spelling.{row_bytes}
 use Rattle.wasm_operators.specs.Operators as wire
 use Rattle.wasm_operators.specs.Forms.{operator}
 use Rattle.wasm_operators.specs.Spelling.{op_bytes}
-use Rattle.walrus_types.specs.Operators.{Op}
+use Rattle.walrus_base.specs.Operators.{Op}
 use Rattle.walrus_code.specs.FromRaw.{op_of, ops_of}
 use Rattle.walrus_code.specs.Names.{Lookup, LeadsBack, LocalsLeadBack, named_op, named_ops}
 use Rattle.walrus_code.specs.Results.{args_are_exact}

@@ -4,7 +4,7 @@ use Rattle.wasm_opcodes.specs.declared.one_byte.TheConstants.{TRY, CATCH, RETHRO
 use Rattle.wasm_opcodes.specs.declared.behind_fc.TheConstants.{I64_ADD128, I64_MUL_WIDE_U}
 use Rattle.wasm_opcodes.specs.Prefixed.{opcode_behind}
 use Rattle.std.specs.List.{list_all}
-use Rattle.walrus_types.specs.Operators.{Op}
+use Rattle.walrus_base.specs.Operators.{Op}
 use Rattle.walrus_bodies.specs.declared.features.Features.{Features}
 
 -- try, catch, rethrow, delegate, catch_all

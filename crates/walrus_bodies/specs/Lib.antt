@@ -9,7 +9,19 @@ pub mod OpenBlocks
 pub mod Reader
 pub mod Results
 pub mod Writer
-pub use Rattle.walrus_types.specs.Operators
+pub mod Function
+pub mod LendsOperators
+pub mod Locals
+pub mod Names
+pub mod Numbers
+pub mod Placed
+pub mod Plain
+pub mod PlainBody
+pub mod PlainCode
+pub mod Scanned
+pub mod Text
+pub mod Texts
+pub use Rattle.walrus_base.specs.Operators
 pub use Rattle.walrus_code.specs.Code
 pub use Rattle.walrus_code.specs.Location
 pub use Rattle.walrus_code.specs.declared.location.InstrLocId
@@ -17,6 +29,7 @@ pub use Rattle.walrus_code.specs.declared.operator.Operator
 pub use Rattle.walrus_code.specs.contracts.operator.Operator as OperatorRow
 pub use Rattle.walrus_code.specs.FromRaw
 pub use Rattle.walrus_code.specs.Indices
-pub use Rattle.walrus_code.specs.Names
 pub use Rattle.walrus_code.specs.declared.items.ItemId
 pub use Rattle.walrus_code.specs.declared.operator.Arg
+pub use Rattle.wasm_text.specs.Classes
+pub use Rattle.wasm_text.specs.declared.limits.Limits

@@ -3,7 +3,7 @@ use Rattle.std.specs.Prelude.{◌≡◌, ℕ, zero, suc, ◌&&◌, List, [], ◌
 use Rattle.wasm_forms.specs.Reading.{◌>>=◌}
 use Rattle.wasm_forms.specs.Grammar.{at}
 use Rattle.wasm_operators.specs.Forms.{operator}
-use Rattle.walrus_types.specs.Operators.{Op}
+use Rattle.walrus_base.specs.Operators.{Op}
 use Rattle.walrus_code.specs.Names.{named_op}
 use Rattle.walrus_code.specs.FromRaw.{op_of}
 use Rattle.walrus_code.specs.declared.error.IrError.{IrError}

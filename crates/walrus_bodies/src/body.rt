@@ -2,7 +2,7 @@
 ghost use Rattle.std.specs.Prelude.{◌≡◌, ◌++◌, map, IfOk};
 ghost use Rattle.std.specs.Fn.{FnReturnsAt};
 ghost use Rattle.walrus_base.specs.Id.{place};
-ghost use Rattle.walrus_types.specs.Locals.{locals};
+ghost use Rattle.walrus_base.specs.Locals.{locals};
 ghost use Rattle.walrus_code.specs.Indices.{ids_at};
 ghost use Rattle.walrus_bodies.specs.Body.{context};
 ghost use Rattle.walrus_bodies.specs.BodyRead.{ReadsBody, Declares, BodyLocated, AddsLocals, Grows};
@@ -14,9 +14,8 @@ use crate::features::Features;
 use crate::read::read_operators;
 use crate::types::FunctionTypes;
 use std::alloc::{AllocError, Global};
-use walrus_base::LocalId;
+use walrus_base::{LocalId, ModuleLocals, ValType};
 use walrus_code::{IndicesToIds, InstrLocId, IrError, Operator};
-use walrus_types::{ModuleLocals, ValType};
 
 /// The body of a function.
 #[derive(Drop)]

@@ -3,15 +3,15 @@ ghost use Rattle.std.specs.Prelude.{◌≡◌, ℕ, map, IfOk, IfSome, ◌∷◌
 ghost use Rattle.wasm_forms.specs.Grammar.{Vector, U32, ◌then◌, at};
 ghost use Rattle.wasm_forms.specs.Types.{value_type};
 ghost use Rattle.wasm_forms.specs.declared.types.RawVal.{RawVal as DeclaredVal};
-ghost use Rattle.walrus_types.specs.Value.{val_type};
+ghost use Rattle.walrus_base.specs.Value.{val_type};
 ghost use Rattle.walrus_code.specs.Indices.{ids_at};
 ghost use Rattle.walrus_bodies.specs.Body.{declarations, declared_types};
 ghost use Rattle.walrus_bodies.specs.Declarations.{declaration, declarations_of, ReadsDeclarations, spelling};
 ghost use Rattle.walrus_bodies.specs.Reader.{Gives};
 
 use std::alloc::{AllocError, Global};
+use walrus_base::ValType;
 use walrus_code::{IndicesToIds, IrError, name_value};
-use walrus_types::ValType;
 use wasm_forms::{
     Element, RawVal, WireError, Written, read_u32, read_value_type, read_vector, write_u32,
 };

@@ -1,22 +1,41 @@
-//! Function bodies, read from and written to the binary format (Binary Format > Modules > Code Section, Binary Format > Instructions).
+//! Function bodies (Binary Format > Modules > Code Section, Binary Format > Instructions), read and written as lists of operators, and as they
+//! stand: a plain body is kept as its bytes in the input with marks, which are read, walked and written without a list. No crate above
+//! looks inside a function.
 #![tactic(auto)]
 
+mod block_types;
 mod blocks;
 mod body;
+mod calls;
 mod declarations;
 mod emit;
 mod features;
+mod function;
+mod lent;
+mod limits;
+mod locals;
+mod names;
+mod operators;
+mod pieces;
+mod place;
+mod plain_code;
+mod range;
 mod read;
+mod scan;
+mod text;
 mod types;
+mod write;
 
 pub use blocks::{OpenBlocks, Opened};
 pub use body::{ReadBody, declare, read_body_over};
 pub use declarations::{Declaration, read_declarations};
 pub use emit::{append_operators, emit_operators};
 pub use features::Features;
+pub use function::LocalFunction;
+pub use lent::Operators;
+pub use limits::limits_of;
+pub use plain_code::PlainCode;
 pub use read::read_operators;
+pub use scan::ScanRoom;
+pub use text::Text;
 pub use types::{FunctionTypes, blocks_hold};
-pub use walrus_code::{
-    Arg, Args, BlockType, IdsToIndices, IndexSpace, IndicesToIds, InstrLocId, IrError, ItemId,
-    LocalNumbers, Operator, push_names,
-};

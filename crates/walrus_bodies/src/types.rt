@@ -6,9 +6,8 @@ ghost use Rattle.walrus_bodies.specs.Blocks.{blocks_hold};
 ghost use Rattle.walrus_bodies.specs.FunctionTypes.{is_function_at};
 
 use crate::read::args_hold;
-use walrus_base::TypeId;
+use walrus_base::{ModuleTypes, TypeId};
 use walrus_code::Operator;
-use walrus_types::ModuleTypes;
 
 /// The types of a module, of which a body asks only which are function types. `function_types` says so by place.
 pub trait FunctionTypes {

@@ -2,7 +2,7 @@
 use Rattle.std.proofs.Common.{Bool, false, ◌||◌, ◌≡◌, ◌∙◌, ℕ, ◌+◌, ◌<◌, ◌≤◌, suc, List, [], ◌∷◌, ◌++◌, Option, Some, None, map, flat_map, length, take, drop, drop-cons, get_or, refl, sym, ap, append_assoc, append-nil, length-append, arith}
 use Rattle.std.proofs.lemmas.List.{drop_all, take-append-le, map-append}
 use Rattle.wasm_forms.specs.Reading.{◌>>=◌}
-use Rattle.walrus_types.specs.Operators.{Arg, arg_locals}
+use Rattle.walrus_base.specs.Operators.{Arg, arg_locals}
 use Rattle.walrus_code.specs.Code.{arg_of}
 use Rattle.walrus_code.specs.Names.{Lookup, named_arg, named_args}
 use Rattle.walrus_code.specs.Results.{arg_is_exact, args_are_exact}
@@ -15,7 +15,7 @@ behind done rest = rest >>= λ more. Some (done ++ more)
 
 -- ---- one step of such a loop
 
-cut : {A : Type 0} (xs : List A) (i : ℕ) (d : A) → i < length xs → drop i xs ≡ get_or xs i d ∷ drop (i + 1) xs
+pub cut : {A : Type 0} (xs : List A) (i : ℕ) (d : A) → i < length xs → drop i xs ≡ get_or xs i d ∷ drop (i + 1) xs
 cut xs i d h = let e : suc i ≡ i + 1 = omega arith in drop-cons xs i d h ∙ ap (λ k. get_or xs i d ∷ drop k xs) e
 
 one_more : (done : List Arg) (y : Arg) (rest : Option (List Arg)) → behind (done ++ y ∷ []) rest ≡ behind done (rest >>= λ others. Some (y ∷ others))

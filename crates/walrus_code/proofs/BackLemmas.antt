@@ -3,7 +3,7 @@ use Rattle.std.proofs.Common.{◌≡◌, ℕ, List, [], ◌∷◌, Option, Some,
 use Rattle.wasm_forms.specs.Reading.{◌>>=◌}
 use Rattle.wasm_forms.proofs.Bind.{bind_some, some_same}
 use Rattle.walrus_base.specs.Types.{HeapType, OfHeap, Concrete, Exact, ValType, I32, I64, F32, F64, V128, Ref}
-use Rattle.walrus_types.specs.Operators.{Types, Memories, BlockType, NoResult, OneResult, OfType, Arg, Index, Label, Local, Number, Count, Byte, S32, S64, Bits32, Bits64, Value, Heap, Block, Access, Op}
+use Rattle.walrus_base.specs.Operators.{Types, Memories, BlockType, NoResult, OneResult, OfType, Arg, Index, Label, Local, Number, Count, Byte, S32, S64, Bits32, Bits64, Value, Heap, Block, Access, Op}
 use Rattle.walrus_code.specs.Names.{Lookup, LeadsBack, LocalsLeadBack, named_heap, named_val, named_block, named_arg, named_args, named_op, named_ops}
 
 module _ (there back : Lookup) (leads : LeadsBack there back) where

@@ -1,6 +1,8 @@
 pub mod Arguments
 pub mod BackLemmas
-pub mod Fronts
 pub mod Placing
-pub mod Ranges
-pub mod Turns
+pub mod LawTags
+pub mod LawSpelled
+pub mod OneText
+pub mod Named
+pub mod Somes

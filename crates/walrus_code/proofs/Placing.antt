@@ -1,23 +1,18 @@
 -- Where a place stands in a list of places that differ, and one turn of a loop that gives indices along it.
 use Rattle.std.proofs.Common.{inl, inr, ◌≡◌, ℕ, zero, suc, ◌+◌, ◌<◌, Bool, true, false, List, [], ◌∷◌, ◌++◌, length, map, take, length-append, refl, sym, ap, ◌∙◌, subst, Some, None}
 use Rattle.std.specs.Prelude.{◌≢◌, ◌⊎◌, ◌==◌, nat_eq, Option, option_map, slice_get, slice_index_or, if◌then◌else◌}
-use Rattle.std.specs.List.{IsDistinct, AllByRecursion}
-use Rattle.std.proofs.lemmas.Bool.{ne_eqb, eqb-false}
+use Rattle.std.specs.List.{IsDistinct}
+use Rattle.std.proofs.lemmas.Bool.{ne_eqb}
 use Rattle.std.proofs.lemmas.Bool.Decides.{eqb_tells}
 use Rattle.std.proofs.lemmas.Option.{get_or_from_slice_get, slice_get_within}
 use Rattle.walrus_base.specs.Id.{place}
 use Rattle.walrus_base.specs.declared.id.Id.{Id}
-use Rattle.walrus_types.specs.Shape.{place_in}
+use Rattle.walrus_base.specs.Shape.{place_in}
 use Rattle.walrus_code.specs.Indices.{AddsIndex, NumbersAlong, index_in}
 use Rattle.walrus_code.specs.declared.numbering.Numbering.{Numbering}
-use Rattle.walrus_code.proofs.Turns.{map_more, one_more, split_at}
-
-true_by : (b : Bool) → (b ≡ false → ⊥) → b ≡ true
-true_by true h = refl
-true_by false h = absurd (h refl)
-
-self_eq : (t : ℕ) → (t == t) ≡ true
-self_eq t = true_by (t == t) (λ e. eqb-false t t e refl)
+use Rattle.walrus_base.proofs.Turns.{map_more, one_more, split_at}
+use Rattle.walrus_base.proofs.DistinctLemmas.{at_seam}
+use Rattle.walrus_base.proofs.Standing.{self_eq}
 
 new_step : (b : Bool) (o : Option ℕ) → (if b then Some 0 else option_map suc o) ≡ None → (b ≡ false) × (o ≡ None)
 new_step true o e = absurd (cc)
@@ -33,10 +28,6 @@ placed_last (x ∷ xs) t e =
 pub placed_other : (xs : List ℕ) (t u : ℕ) → u ≢ t → place_in (xs ++ t ∷ []) u ≡ place_in xs u
 placed_other [] t u h = ap (λ (b : Bool). if b then Some 0 else option_map suc (place_in [] u)) (ne_eqb t u (λ e. h (sym e)))
 placed_other (x ∷ xs) t u h = ap (λ (o : Option ℕ). if x == u then Some 0 else option_map suc o) (placed_other xs t u h)
-
-at_seam : (P : ℕ → Type 0) (xs : List ℕ) (t : ℕ) (rest : List ℕ) → AllByRecursion P (xs ++ t ∷ rest) → P t
-at_seam P [] t rest h = h.0
-at_seam P (x ∷ xs) t rest h = at_seam P xs t rest h.1
 
 fresh : (xs : List ℕ) (t : ℕ) (rest : List ℕ) → IsDistinct nat_eq (xs ++ t ∷ rest) → place_in xs t ≡ None
 unfolding IsDistinct

@@ -1,8 +1,8 @@
 -- What a contract sees of an operator in memory: the standard's operators, with the place of each id.
 use Rattle.std.specs.Prelude.{List, [], ◌∷◌, map}
 use Rattle.walrus_base.specs.Id.{place}
-use Rattle.walrus_types.specs.Value.{heap_type, val_type}
-use Rattle.walrus_types.specs.Operators.{Item, Types, Functions, Tables, Memories, Tags, Globals, Elements, DataSegments, BlockType, NoResult, OneResult, OfType, Arg, Index, Label, Local, Number, Count, Byte, S32, S64, Bits32, Bits64, Value, Heap, Block, Access, Op}
+use Rattle.walrus_base.specs.Value.{heap_type, val_type}
+use Rattle.walrus_base.specs.Operators.{Item, Types, Functions, Tables, Memories, Tags, Globals, Elements, DataSegments, BlockType, NoResult, OneResult, OfType, Arg, Index, Label, Local, Number, Count, Byte, S32, S64, Bits32, Bits64, Value, Heap, Block, Access, Op}
 use Rattle.walrus_code.specs.declared.items.ItemId.{ItemId}
 use Rattle.walrus_code.specs.declared.items.ItemId.TheVariants as items
 use Rattle.walrus_code.specs.declared.operator.BlockType.{BlockType as DeclaredBlockType}

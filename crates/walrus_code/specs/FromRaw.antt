@@ -11,7 +11,7 @@ use Rattle.wasm_operators.specs.declared.operator.RawBlock.{RawBlock}
 use Rattle.wasm_operators.specs.declared.operator.RawBlock.TheVariants as raw_block
 use Rattle.wasm_operators.specs.Operators as wire
 use Rattle.walrus_base.specs.Types.{AbstractHeap, FuncHeap, ExternHeap, AnyHeap, EqHeap, I31Heap, StructHeap, ArrayHeap, ExnHeap, NoneHeap, NoExternHeap, NoFuncHeap, NoExnHeap, HeapType, OfHeap, Concrete, ValType, I32, I64, F32, F64, V128, Ref}
-use Rattle.walrus_types.specs.Operators.{Types, Functions, Tables, Memories, Tags, Globals, Elements, DataSegments, BlockType, NoResult, OneResult, OfType, Arg, Index, Label, Local, Number, Count, Byte, S32, S64, Bits32, Bits64, Value, Heap, Block, Access, Op}
+use Rattle.walrus_base.specs.Operators.{Types, Functions, Tables, Memories, Tags, Globals, Elements, DataSegments, BlockType, NoResult, OneResult, OfType, Arg, Index, Label, Local, Number, Count, Byte, S32, S64, Bits32, Bits64, Value, Heap, Block, Access, Op}
 
 -- the abstract heap type of a byte from 69 to 74 ("Binary Format > Types > Heap Types")
 abbrev pub abstract_of : ℕ → AbstractHeap

@@ -3,8 +3,8 @@ use Rattle.std.specs.Prelude.{◌≡◌, ◌≢◌, ℕ, ◌+◌, ◌-◌, Bool,
 use Rattle.std.specs.HashMap.{get}
 use Rattle.std.specs.List.{range_with_len}
 use Rattle.walrus_base.specs.Id.{place}
-use Rattle.walrus_types.specs.Shape.{place_in}
-use Rattle.walrus_types.specs.Operators.{Space, Types, Functions, Tables, Memories, Tags, Globals, Elements, DataSegments}
+use Rattle.walrus_base.specs.Shape.{place_in}
+use Rattle.walrus_base.specs.Operators.{Space, Types, Functions, Tables, Memories, Tags, Globals, Elements, DataSegments}
 use Rattle.walrus_code.specs.Names.{Lookup}
 use Rattle.walrus_code.specs.declared.indices.IndexSpace.{IndexSpace}
 use Rattle.walrus_code.specs.declared.indices.IndicesToIds.{IndicesToIds}

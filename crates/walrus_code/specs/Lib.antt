@@ -7,3 +7,4 @@ pub mod Names
 pub mod Results
 pub mod Stands
 pub mod Transform
+pub use Rattle.wasm_operators.specs.Standing

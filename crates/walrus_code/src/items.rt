@@ -1,17 +1,17 @@
 //! What operators name (Structure > Modules > Indices).
 ghost use Rattle.std.specs.Prelude.{◌≡◌, ◌++◌, length, map, flat_map, take, option_map, option_to_list, OnOk, OnErr};
 ghost use Rattle.walrus_base.specs.Id.{place};
-ghost use Rattle.walrus_types.specs.Operators.{type_item, arg_names, arg_locals, op_names, op_locals, block_names};
-ghost use Rattle.walrus_types.specs.Value.{val_type, heap_type};
+ghost use Rattle.walrus_base.specs.Operators.{type_item, arg_names, arg_locals, op_names, op_locals, block_names};
+ghost use Rattle.walrus_base.specs.Value.{val_type, heap_type};
 ghost use Rattle.walrus_base.specs.Types.{heap_names, val_names};
 ghost use Rattle.walrus_code.specs.Code.{arg_of, block_of, item_of, op_of};
 
 use crate::operator::{Arg, BlockType, Operator};
 use std::alloc::AllocError;
 use walrus_base::{
-    DataId, ElementId, FunctionId, GlobalId, LocalId, MemoryId, TableId, TagId, TypeId,
+    DataId, ElementId, FunctionId, GlobalId, HeapType, LocalId, MemoryId, TableId, TagId, TypeId,
+    ValType,
 };
-use walrus_types::{HeapType, ValType};
 
 /// An item that an operator can name, in one of the index spaces.
 #[derive(Clone, Copy, Debug, PartialEq, Eq, PartialOrd, Ord, Hash)]

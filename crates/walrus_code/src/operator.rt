@@ -5,9 +5,9 @@ use crate::location::InstrLocId;
 use std::alloc::{AllocError, Global};
 use std::slice;
 use walrus_base::{
-    DataId, ElementId, FunctionId, GlobalId, LocalId, MemoryId, TableId, TagId, TypeId,
+    DataId, ElementId, FunctionId, GlobalId, HeapType, LocalId, MemoryId, TableId, TagId, TypeId,
+    ValType,
 };
-use walrus_types::{HeapType, ValType};
 use wasm_opcodes::one_byte;
 
 /// The type of a block (Structure > Instructions > Control Instructions).

@@ -1,6 +1,6 @@
 //! Operators over indices, as operators over ids (Structure > Modules > Indices).
 ghost use Rattle.std.specs.Prelude.{◌≡◌, ◌<◌, length, map, option_map, IfOk};
-ghost use Rattle.walrus_types.specs.Value.{abstract_heap, heap_type, val_type};
+ghost use Rattle.walrus_base.specs.Value.{abstract_heap, heap_type, val_type};
 ghost use Rattle.wasm_operators.specs.Operators as wire;
 ghost use Rattle.walrus_code.specs.Code.{arg_of, args_of, block_of, op_of};
 ghost use Rattle.walrus_code.specs.FromRaw as from_raw;
@@ -13,8 +13,7 @@ use crate::indices::IndicesToIds;
 use crate::location::InstrLocId;
 use crate::operator::{Arg, Args, BlockType, Operator};
 use std::alloc::Global;
-use walrus_base::LocalId;
-use walrus_types::{AbstractHeapType, HeapType, RefType, ValType};
+use walrus_base::{AbstractHeapType, HeapType, LocalId, RefType, ValType};
 use wasm_forms::{RawHeap, RawVal};
 use wasm_opcodes::types::{
     HEAP_ANY, HEAP_ARRAY, HEAP_EQ, HEAP_EXN, HEAP_EXTERN, HEAP_FUNC, HEAP_I31, HEAP_NO_EXTERN,

@@ -1,7 +1,7 @@
 //! Operators over ids, as operators over indices (Structure > Modules > Indices).
 ghost use Rattle.std.specs.Prelude.{◌≡◌, ◌<◌, true, length, map, ok_or, All, IfOk};
 ghost use Rattle.wasm_forms.specs.Types.{is_abstract, HeapStands, ValueStands};
-ghost use Rattle.walrus_types.specs.Value.{abstract_heap, heap_type, val_type};
+ghost use Rattle.walrus_base.specs.Value.{abstract_heap, heap_type, val_type};
 ghost use Rattle.wasm_operators.specs.Operators as wire;
 ghost use Rattle.walrus_code.specs.declared.error.IrError.TheVariants.{NoIndex};
 ghost use Rattle.walrus_code.specs.Code.{arg_of, args_of, block_of, op_of};
@@ -16,7 +16,7 @@ use crate::local_numbers::LocalNumbers;
 use crate::numbering::IdsToIndices;
 use crate::operator::{Arg, BlockType, Operator};
 use std::alloc::Global;
-use walrus_types::{AbstractHeapType, HeapType, ValType};
+use walrus_base::{AbstractHeapType, HeapType, ValType};
 use wasm_forms::{RawHeap, RawRef, RawVal};
 use wasm_opcodes::types::{
     HEAP_ANY, HEAP_ARRAY, HEAP_EQ, HEAP_EXN, HEAP_EXTERN, HEAP_FUNC, HEAP_I31, HEAP_NO_EXN,

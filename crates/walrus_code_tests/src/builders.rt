@@ -3,10 +3,10 @@
 use std::alloc::{AllocError, Global};
 use std::test::Fail;
 use test_support::{demand, first_id};
-use walrus_builder::{FunctionBuilder, InstrSeqBuilder};
+use walrus_base::{ModuleTypes, ValType};
+use walrus_bodies::LocalFunction;
 use walrus_code::{Arg, Args, BlockType, Operator};
-use walrus_text::LocalFunction;
-use walrus_types::{ModuleTypes, ValType};
+use walrus_ir::{FunctionBuilder, InstrSeqBuilder};
 use wasm_opcodes::opcodes;
 use wasm_opcodes::opcodes::{CALL, DROP, END, I32_CONST, LOCAL_GET, NOP, UNREACHABLE};
 

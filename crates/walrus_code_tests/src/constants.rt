@@ -3,10 +3,9 @@
 use std::alloc::{AllocError, Global};
 use std::test::Fail;
 use test_support::{demand, second_id};
-use walrus_base::GlobalId;
+use walrus_base::{ConstExpr, ConstOp, GlobalId, Value};
 use walrus_code::{IdsToIndices, IndicesToIds};
 use walrus_constants::{raw_const, raw_consts, raw_op, read_const, read_consts, read_op};
-use walrus_types::{ConstExpr, ConstOp, Value};
 use wasm_entries::{RawConst, RawExpression};
 
 // The sum of five and the value of the global with the index 0.

@@ -1,4 +1,4 @@
-//! Tests of `walrus_types`, `walrus_code`, `walrus_constants` and `walrus_builder`: each call that takes memory, once, where it succeeds;
+//! Tests of `walrus_base`, `walrus_code`, `walrus_constants` and `walrus_ir`: each call that takes memory, once, where it succeeds;
 //! and of `wasm_operators`: operators of each kind of argument, known from the standard and from other encoders.
 #![tactic(auto)]
 

@@ -4,13 +4,12 @@ use std::alloc::{AllocError, Global};
 use std::mem::size_of;
 use std::test::Fail;
 use test_support::{demand, first_id, second_id};
-use walrus_base::{FunctionId, LocalId, TypeId};
+use walrus_base::{FunctionId, HeapType, LocalId, RefType, TypeId, ValType};
+use walrus_bodies::LocalFunction;
 use walrus_code::{
     Arg, Args, IdsToIndices, IndicesToIds, InstrLocId, ItemId, LocalNumbers, Operator,
     index_operator, index_value, name_operator, name_value, push_locals, push_names,
 };
-use walrus_text::LocalFunction;
-use walrus_types::{HeapType, RefType, ValType};
 use wasm_forms::{RawHeap, RawRef, RawVal};
 use wasm_opcodes::one_byte::{CALL, CALL_INDIRECT};
 use wasm_operators::{RawArg, RawArgs, RawOperator};

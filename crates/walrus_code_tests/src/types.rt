@@ -3,11 +3,10 @@
 use std::alloc::{AllocError, Global};
 use std::test::Fail;
 use test_support::{demand, is_name};
-use walrus_base::{Id, LocalId, TypeId};
-use walrus_types::{
+use walrus_base::{
     AbstractHeapType, ArrayType, CompositeType, ConstExpr, ConstOp, FieldType, FunctionType,
-    HeapType, ModuleLocals, ModuleTypes, NewType, RefType, StorageType, StructType, Type, ValType,
-    push_names,
+    HeapType, Id, LocalId, ModuleLocals, ModuleTypes, NewType, RefType, StorageType, StructType,
+    Type, TypeId, ValType, push_names,
 };
 
 const ANY: HeapType = HeapType::Abstract(AbstractHeapType::Any);

@@ -2,8 +2,8 @@
 use Rattle.std.proofs.Common.{◌≡◌, false, List, [], ◌∷◌, map, refl, ap, Some}
 use Rattle.std.specs.Prelude.{ℕ, Option}
 use Rattle.wasm_forms.specs.Reading.{◌>>=◌}
-use Rattle.walrus_types.specs.ConstOps.{vector_const}
-use Rattle.walrus_types.specs.Operators.{Arg, Byte, Op}
+use Rattle.walrus_base.specs.ConstOps.{vector_const}
+use Rattle.walrus_base.specs.Operators.{Arg, Byte, Op}
 use Rattle.walrus_code.specs.Names.{Lookup, named_args}
 use Rattle.walrus_code.specs.Results.{args_are_exact}
 use Rattle.walrus_constants.specs.Named.{named_const_op}

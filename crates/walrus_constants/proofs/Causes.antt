@@ -7,7 +7,7 @@ use Rattle.wasm_forms.proofs.Bind.{bind_some}
 use Rattle.wasm_entries.specs.Record.{Expression}
 use Rattle.wasm_entries.specs.Spelling.{ConstStands, ExpressionStands}
 use Rattle.walrus_base.specs.Types.{HeapType, OfHeap, Concrete, Exact, IsNotExact, ValType, I32, I64, F32, F64, V128, Ref, val_heaps, heap_names, val_names}
-use Rattle.walrus_types.specs.Operators.{Types, Memories, Item, type_item, BlockType, NoResult, OneResult, OfType, block_names, Arg, Index, Label, Local, Number, Count, Byte, S32, S64, Bits32, Bits64, Value, Heap, Block, Access, Op, arg_names, op_names, names_of}
+use Rattle.walrus_base.specs.Operators.{Types, Memories, Item, type_item, BlockType, NoResult, OneResult, OfType, block_names, Arg, Index, Label, Local, Number, Count, Byte, S32, S64, Bits32, Bits64, Value, Heap, Block, Access, Op, arg_names, op_names, names_of}
 use Rattle.walrus_code.specs.Names.{Lookup, named_heap, named_val, named_block, named_arg, named_args}
 use Rattle.walrus_code.specs.Results.{heap_is_exact, val_is_exact, block_is_exact, arg_is_exact, args_are_exact, Indexes, IndexesIn}
 use Rattle.walrus_code.specs.declared.error.IrError.{IrError}
@@ -15,8 +15,8 @@ use Rattle.walrus_code.specs.declared.error.IrError.TheVariants.{Malformed, Memo
 use Rattle.walrus_groups.specs.Named.{each}
 use Rattle.walrus_model.specs.Constants.{consts_of}
 use Rattle.walrus_model.specs.WellMade.{block_heaps, arg_heaps, op_heaps}
-use Rattle.walrus_model.proofs.Lists.{Contains-head, Contains-uncons, Contains-none}
-use Rattle.walrus_model.proofs.Standing.{none_there}
+use Rattle.walrus_base.proofs.Lists.{Contains-head, Contains-uncons, Contains-none}
+use Rattle.walrus_base.proofs.Standing.{none_there}
 use Rattle.walrus_constants.specs.Named.{named_const_op, named_const}
 use Rattle.walrus_constants.specs.Written.{ops_are_exact, LacksAnIndex, IsUnspelled, NoOperator, ExactHeap, IndexesConst}
 

@@ -4,7 +4,7 @@ use Rattle.std.specs.Prelude.{option_map}
 use Rattle.wasm_forms.specs.Reading.{◌>>=◌}
 use Rattle.wasm_entries.specs.Record as entries
 use Rattle.walrus_base.specs.Types.{RefType, ValType, map_ref, map_val}
-use Rattle.walrus_types.specs.Operators.{Types, Op}
+use Rattle.walrus_base.specs.Operators.{Types, Op}
 use Rattle.walrus_code.specs.Names.{Lookup, named_val}
 use Rattle.walrus_model.specs.Abstract.{Origin, Defined, Table, Global}
 use Rattle.walrus_model.specs.Renaming.{Renaming, unchanged, renamed_const, renamed_origin, renamed_global, renamed_table}

@@ -5,18 +5,19 @@ use Rattle.std.proofs.lemmas.List.{map-append}
 use Rattle.std.proofs.lemmas.List.Elements.{All-nil, All-push}
 use Rattle.wasm_forms.specs.Reading.{◌>>=◌}
 use Rattle.wasm_forms.proofs.Bind.{bind_some}
-use Rattle.walrus_types.specs.Operators.{Op}
+use Rattle.walrus_base.specs.Operators.{Op}
 use Rattle.walrus_code.specs.Names.{Lookup}
 use Rattle.walrus_code.specs.Results.{Finds}
 use Rattle.walrus_code.specs.declared.error.IrError.{IrError}
 use Rattle.walrus_code.specs.declared.error.IrError.TheVariants.{Malformed, Memory, NoIndex, NotWritable, TooLarge}
 use Rattle.walrus_groups.specs.Named.{each}
-use Rattle.walrus_model.proofs.Lists.{Contains-head, Contains-append_2}
-use Rattle.walrus_model.proofs.Standing.{some_inj}
+use Rattle.walrus_base.proofs.Lists.{Contains-head, Contains-append_2}
+use Rattle.walrus_base.proofs.Standing.{some_inj}
 use Rattle.walrus_constants.specs.Named.{named_const}
 use Rattle.walrus_constants.specs.Written.{LacksAnIndex, IsUnspelled, IsSpelled, IndexesConst, FirstRefused, IndexesConsts}
 use Rattle.walrus_constants.proofs.Causes.{not_found}
-use Rattle.walrus_constants.proofs.Loops.{behind, cut, one_more}
+use Rattle.walrus_groups.proofs.Loops.{behind, one_more}
+use Rattle.walrus_code.proofs.Arguments.{cut}
 
 -- ---- lists
 

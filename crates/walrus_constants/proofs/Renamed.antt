@@ -3,7 +3,7 @@ use Rattle.std.proofs.Common.{◌≡◌, ◌∙◌, ℕ, List, [], ◌∷◌, ma
 use Rattle.std.specs.Prelude.{option_map}
 use Rattle.wasm_forms.specs.Reading.{◌>>=◌}
 use Rattle.walrus_base.specs.Types.{HeapType, OfHeap, Concrete, Exact, RefType, ValType, I32, I64, F32, F64, V128, Ref, map_heap, map_ref, map_val}
-use Rattle.walrus_types.specs.Operators.{Space, Types, Memories, BlockType, NoResult, OneResult, OfType, Arg, Index, Label, Local, Number, Count, Byte, S32, S64, Bits32, Bits64, Value, Heap, Block, Access, Op, names_of}
+use Rattle.walrus_base.specs.Operators.{Space, Types, Memories, BlockType, NoResult, OneResult, OfType, Arg, Index, Label, Local, Number, Count, Byte, S32, S64, Bits32, Bits64, Value, Heap, Block, Access, Op, names_of}
 use Rattle.walrus_code.specs.Names.{Lookup, LeadsBack, named_heap, named_val, named_block, named_arg, named_args, named_ops}
 use Rattle.walrus_code.proofs.BackLemmas.{ops_back}
 use Rattle.walrus_model.specs.Renaming.{Renaming, renamed, unchanged, renamed_block, renamed_arg, renamed_op, renamed_const}

@@ -3,7 +3,7 @@ use Rattle.std.proofs.Common.{◌≡◌, ◌∙◌, List, [], ◌∷◌, map, Op
 use Rattle.wasm_forms.specs.Reading.{◌>>=◌}
 use Rattle.wasm_entries.specs.Record as entries
 use Rattle.walrus_base.specs.Types.{map_ref}
-use Rattle.walrus_types.specs.Operators.{Types, Functions, Tables, Memories}
+use Rattle.walrus_base.specs.Operators.{Types, Functions, Tables, Memories}
 use Rattle.walrus_code.specs.Names.{Lookup}
 use Rattle.walrus_groups.specs.Named.{each}
 use Rattle.walrus_model.specs.Abstract.{ElementKind, PassiveElements, DeclaredElements, ActiveElements, ElementItems, ListedFunctions, Expressions, Element, DataKind, PassiveData, ActiveData, DataSegment}

@@ -3,7 +3,7 @@ use Rattle.std.proofs.Common.{ℕ, List, [], ◌∷◌, map, Some, refl}
 use Rattle.std.specs.Prelude.{IsSome, flat_map}
 use Rattle.wasm_forms.specs.Reading.{◌>>=◌}
 use Rattle.walrus_base.specs.Types.{RefType, heap_names}
-use Rattle.walrus_types.specs.Operators.{Functions, Tables, Memories, Op, type_item, function_item, names_of}
+use Rattle.walrus_base.specs.Operators.{Functions, Tables, Memories, Op, type_item, function_item, names_of}
 use Rattle.walrus_code.specs.Names.{Lookup, named_heap}
 use Rattle.walrus_groups.specs.Named.{each}
 use Rattle.walrus_model.specs.Abstract.{ElementKind, PassiveElements, DeclaredElements, ActiveElements, ElementItems, ListedFunctions, Expressions, Element, DataKind, PassiveData, ActiveData, DataSegment}

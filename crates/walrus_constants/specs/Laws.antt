@@ -2,7 +2,7 @@
 use Rattle.std.specs.Prelude.{◌≡◌, ◌↔◌, ℕ, List, map, Some, None, IsSome, Contains}
 use Rattle.wasm_entries.specs.Record as entries
 use Rattle.wasm_entries.specs.Spelling.{ExpressionStands}
-use Rattle.walrus_types.specs.Operators.{Space, Item, Op, names_of}
+use Rattle.walrus_base.specs.Operators.{Space, Item, Op, names_of}
 use Rattle.walrus_code.specs.Names.{Lookup, LeadsBack}
 use Rattle.walrus_model.specs.Abstract.{Defined, Table, Global, Element, DataSegment}
 use Rattle.walrus_model.specs.Constants.{consts_of}

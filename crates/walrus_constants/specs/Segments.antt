@@ -1,7 +1,7 @@
 -- Segments of elements and of data, put through a look-up of what they name: from indices to places, or back.
 use Rattle.std.specs.Prelude.{Option, Some}
 use Rattle.wasm_forms.specs.Reading.{◌>>=◌}
-use Rattle.walrus_types.specs.Operators.{Functions, Tables, Memories}
+use Rattle.walrus_base.specs.Operators.{Functions, Tables, Memories}
 use Rattle.walrus_code.specs.Names.{Lookup}
 use Rattle.walrus_groups.specs.Named.{each}
 use Rattle.walrus_model.specs.Abstract.{ElementKind, PassiveElements, DeclaredElements, ActiveElements, ElementItems, ListedFunctions, Expressions, Element, DataKind, PassiveData, ActiveData, DataSegment}

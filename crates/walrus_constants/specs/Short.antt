@@ -1,9 +1,9 @@
 -- The shortest form of a constant expression in memory.
 use Rattle.std.specs.Prelude.{Bool, true, false, not, List, [], ◌∷◌}
-use Rattle.walrus_types.specs.declared.const_expr.ConstOp.{ConstOp}
-use Rattle.walrus_types.specs.declared.const_expr.ConstOp.TheVariants as ops
-use Rattle.walrus_types.specs.declared.const_expr.ConstExpr.{ConstExpr}
-use Rattle.walrus_types.specs.declared.const_expr.ConstExpr.TheVariants.{Value, Global, RefNull, RefFunc, Extended}
+use Rattle.walrus_base.specs.declared.const_expr.ConstOp.{ConstOp}
+use Rattle.walrus_base.specs.declared.const_expr.ConstOp.TheVariants as ops
+use Rattle.walrus_base.specs.declared.const_expr.ConstExpr.{ConstExpr}
+use Rattle.walrus_base.specs.declared.const_expr.ConstExpr.TheVariants.{Value, Global, RefNull, RefFunc, Extended}
 
 -- whether an operator that stands alone is a case of its own
 abbrev pub is_simple : ConstOp → Bool

@@ -2,7 +2,7 @@
 use Rattle.std.specs.Prelude.{◌≡◌, ⊤, ℕ, Bool, List, [], ◌∷◌, ◌++◌, flat_map, Some, None, IsSome, All, Contains, Result, Ok, Err}
 use Rattle.std.specs.List.{list_any}
 use Rattle.walrus_base.specs.Types.{HeapType, IsNotExact}
-use Rattle.walrus_types.specs.Operators.{Item, Op, names_of}
+use Rattle.walrus_base.specs.Operators.{Item, Op, names_of}
 use Rattle.walrus_code.specs.Names.{Lookup}
 use Rattle.walrus_code.specs.Results.{args_are_exact}
 use Rattle.walrus_code.specs.declared.error.IrError.{IrError}

@@ -1,14 +1,14 @@
 //! Heap types over indices and over ids (Structure > Types > Heap Types): each is that of a reference to it.
 ghost use Rattle.std.specs.Prelude.{◌≡◌, option_map, IfOk};
 ghost use Rattle.wasm_forms.specs.Types.{HeapStands};
-ghost use Rattle.walrus_types.specs.Value.{heap_type};
+ghost use Rattle.walrus_base.specs.Value.{heap_type};
 ghost use Rattle.walrus_code.specs.FromRaw.{heap_of};
 ghost use Rattle.walrus_code.specs.Indices.{ids_at, index_of};
 ghost use Rattle.walrus_code.specs.Names.{named_heap};
 ghost use Rattle.walrus_code.specs.Results.{heap_is_exact, IndexesIn, NeedsNoMemory};
 
+use walrus_base::{HeapType, RefType, ValType};
 use walrus_code::{IdsToIndices, IndicesToIds, IrError, index_value, name_value};
-use walrus_types::{HeapType, RefType, ValType};
 use wasm_forms::{RawHeap, RawRef, RawVal};
 
 // The heap type with the id for the index of a type in it; none where that index isn't declared.

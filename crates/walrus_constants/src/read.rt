@@ -1,7 +1,7 @@
 //! Constant expressions over indices, as constant expressions over ids.
 ghost use Rattle.std.specs.Prelude.{◌≡◌, ◌∷◌, [], true, false, length, map, option_map, All, IfOk, MatchOption, Some};
 ghost use Rattle.wasm_entries.specs.Record.{expression};
-ghost use Rattle.walrus_types.specs.ConstOps.{const_op, const_ops};
+ghost use Rattle.walrus_base.specs.ConstOps.{const_op, const_ops};
 ghost use Rattle.walrus_code.specs.Indices.{ids_at};
 ghost use Rattle.walrus_code.specs.Results.{Finds};
 ghost use Rattle.walrus_groups.specs.Named.{each};
@@ -11,8 +11,8 @@ ghost use Rattle.walrus_constants.specs.Short.{is_simple, is_short};
 
 use crate::heap::read_heap;
 use std::alloc::Global;
+use walrus_base::{ConstExpr, ConstOp, RefType, Value};
 use walrus_code::{IndicesToIds, IrError};
-use walrus_types::{ConstExpr, ConstOp, RefType, Value};
 use wasm_entries::{RawConst, RawExpression};
 
 /// The constant expression with the id for each index in it (Valid > Instructions > Expressions > Constant Expressions), in

@@ -2,7 +2,7 @@
 ghost use Rattle.std.specs.Prelude.{◌≡◌, ◌∷◌, [], map, ok_or, All, IfOk};
 ghost use Rattle.wasm_entries.specs.Record.{expression};
 ghost use Rattle.wasm_entries.specs.Spelling.{ConstStands, ExpressionStands};
-ghost use Rattle.walrus_types.specs.ConstOps.{const_op, const_ops, value_op, vector_const};
+ghost use Rattle.walrus_base.specs.ConstOps.{const_op, const_ops, value_op, vector_const};
 ghost use Rattle.walrus_code.specs.Indices.{index_of};
 ghost use Rattle.walrus_code.specs.Results.{Indexes, IndexesIn, NeedsNoMemory};
 ghost use Rattle.walrus_code.specs.declared.error.IrError.TheVariants.{NoIndex};
@@ -12,8 +12,8 @@ ghost use Rattle.walrus_constants.specs.Written.{ops_are_exact, IndexesConst, In
 
 use crate::heap::raw_heap;
 use std::alloc::Global;
+use walrus_base::{ConstExpr, ConstOp, Value};
 use walrus_code::{IdsToIndices, IrError};
-use walrus_types::{ConstExpr, ConstOp, Value};
 use wasm_entries::{RawConst, RawExpression};
 
 /// The constant expression with the index for each id in it, which bytes can spell (Binary Format > Instructions > Expressions).

@@ -3,16 +3,16 @@ use Rattle.std.proofs.Common.{◌≡◌, ℕ, List, [], ◌∷◌, ◌++◌, map
 use Rattle.std.specs.Prelude.{flat_map}
 use Rattle.std.proofs.lemmas.List.{append-nil}
 use Rattle.walrus_base.specs.Types.{heap_names}
-use Rattle.walrus_types.specs.ConstOps.{const_op, const_ops, value_op}
-use Rattle.walrus_types.specs.Operators.{Byte, Item, arg_names, names_of, op_names, type_item}
-use Rattle.walrus_types.specs.Value.{heap_type}
-use Rattle.walrus_types.specs.declared.value.HeapType.{HeapType as DeclaredHeap}
-use Rattle.walrus_types.specs.declared.const_expr.Value.{Value}
-use Rattle.walrus_types.specs.declared.const_expr.Value.TheVariants as constant
-use Rattle.walrus_types.specs.declared.const_expr.ConstOp.{ConstOp}
-use Rattle.walrus_types.specs.declared.const_expr.ConstOp.TheVariants.{RefNull, V128Const}
-use Rattle.walrus_types.specs.declared.const_expr.ConstExpr.{ConstExpr}
-use Rattle.walrus_types.specs.declared.const_expr.ConstExpr.TheVariants as expression
+use Rattle.walrus_base.specs.ConstOps.{const_op, const_ops, value_op}
+use Rattle.walrus_base.specs.Operators.{Byte, Item, arg_names, names_of, op_names, type_item}
+use Rattle.walrus_base.specs.Value.{heap_type}
+use Rattle.walrus_base.specs.declared.value.HeapType.{HeapType as DeclaredHeap}
+use Rattle.walrus_base.specs.declared.const_expr.Value.{Value}
+use Rattle.walrus_base.specs.declared.const_expr.Value.TheVariants as constant
+use Rattle.walrus_base.specs.declared.const_expr.ConstOp.{ConstOp}
+use Rattle.walrus_base.specs.declared.const_expr.ConstOp.TheVariants.{RefNull, V128Const}
+use Rattle.walrus_base.specs.declared.const_expr.ConstExpr.{ConstExpr}
+use Rattle.walrus_base.specs.declared.const_expr.ConstExpr.TheVariants as expression
 use Rattle.std.specs.Global.{Vec}
 use Rattle.walrus_code.specs.declared.items.ItemId.{ItemId}
 use Rattle.walrus_contents.specs.Named.{Puts, items_in}

@@ -2,45 +2,43 @@
 use Rattle.std.proofs.Common.{◌≡◌, ◌<◌, ◌==◌, ◌||◌, ◌⊎◌, ◌+◌, ℕ, zero, suc, Bool, true, false, List, [], ◌∷◌, length, map, drop, get_or, inl, inr, refl, sym, ap, ◌∙◌, ⊎_elim, subst, eqb-true, eq-eqb, drop-cons, add-one, zero-add, arith}
 use Rattle.std.specs.Prelude.{filter_map, flat_map, filter, not, Contains, AllPairs, IsSome, Option, Some, None, option_map, slice_index_or, Result, Ok, Err, IfOk, if◌then◌else◌}
 use Rattle.std.specs.List.{AllByRecursion, cons_option}
-use Rattle.std.proofs.lemmas.Bool.{false≢true}
+use Rattle.std.proofs.lemmas.Bool.{false≢true, or_left, or_right}
 use Rattle.std.proofs.lemmas.List.Elements.{All-from_recursion, Contains-append_cases, Contains-append_left, Contains-append_right}
 use Rattle.std.proofs.lemmas.List.Kept.{AllPairs-cons, AllPairs-filter}
 use Rattle.walrus_base.specs.Arena.{item_at, items, entries}
 use Rattle.walrus_base.specs.Marks.{marked_from}
 use Rattle.walrus_items.specs.Function.{body_of}
-use Rattle.walrus_types.specs.ConstOps.{const_ops}
-use Rattle.walrus_types.specs.Operators.{Types, Functions, Tables, Memories, Tags, Globals, Elements, DataSegments, Arg, Index, Label, Local, Number, Count, Byte, S32, S64, Bits32, Bits64, Value as ValueArg, Heap, Block, Access, Item, Op, function_item}
-use Rattle.walrus_types.proofs.Noted.{or_left, or_right}
-use Rattle.walrus_types.proofs.ShapesEnd.{has_contained}
+use Rattle.walrus_base.specs.ConstOps.{const_ops, value_op}
+use Rattle.walrus_base.specs.Operators.{Types, Functions, Tables, Memories, Tags, Globals, Elements, DataSegments, Arg, Index, Label, Local, Number, Count, Byte, S32, S64, Bits32, Bits64, Value as ValueArg, Heap, Block, Access, Item, Op, function_item}
+use Rattle.walrus_base.proofs.ShapesEnd.{has_contained}
 use Rattle.walrus_items.specs.LocalFunction.{LocalFunction}
 use Rattle.walrus_items.specs.Exports.{ExportValue, exports}
 use Rattle.walrus_items.specs.Kinds.{exported}
 use Rattle.walrus_items.specs.Elements.{ElementValue, elements}
 use Rattle.walrus_items.specs.Functions.{FunctionValue, functions}
 use Rattle.walrus_items.specs.Globals.{GlobalValue, globals}
-use Rattle.walrus_items.specs.FunctionKind.{FunctionKind}
-use Rattle.walrus_items.specs.FunctionKind.TheVariants as kind
-use Rattle.walrus_items.specs.ElementItems.{ElementItems}
-use Rattle.walrus_items.specs.ElementItems.TheVariants as element_contents
+use Rattle.walrus_items.specs.declared.function_kind.FunctionKind.{FunctionKind}
+use Rattle.walrus_items.specs.declared.function_kind.FunctionKind.TheVariants as kind
+use Rattle.walrus_items.specs.declared.segments.ElementItems.{ElementItems}
+use Rattle.walrus_items.specs.declared.segments.ElementItems.TheVariants as element_contents
 use Rattle.walrus_model.specs.Abstract.{Abstract, Body, Export}
 use Rattle.walrus_model.specs.Abstract as abstract
 use Rattle.walrus_model.specs.Declared.{ref_func, AreUndeclared, IsRefInBody, IsRefInGlobal, IsUndeclared, Lists}
 use Rattle.walrus_model.specs.Live.{IsLive}
 use Rattle.walrus_model.specs.Names.{body_of as body_in, body_of_function}
-use Rattle.walrus_model.proofs.Lists.{Contains-head, Contains-tail, Contains-uncons, Contains-none, Contains-map}
+use Rattle.walrus_base.proofs.Lists.{Contains-head, Contains-tail, Contains-uncons, Contains-none, Contains-map}
 use Rattle.walrus_model.proofs.Reach.{Contains-unmap}
-use Rattle.walrus_model.proofs.Standing.{some_inj}
+use Rattle.walrus_base.proofs.Standing.{some_inj}
 use Rattle.walrus_model.proofs.TypeRules.{Contains-flat_map}
-use Rattle.walrus_contents.proofs.Filters.{from_filter, in_filter}
-use Rattle.walrus_contents.proofs.Lookups.{mapped_some}
-use Rattle.walrus_contents.proofs.Slots.{entry_in, item_seen}
+use Rattle.walrus_base.proofs.Filters.{from_filter, in_filter}
+use Rattle.walrus_base.proofs.Lookups.{mapped_some}
+use Rattle.walrus_model.proofs.Slots.{entry_in, item_seen}
 use Rattle.walrus_contents.specs.declared.parts.Contents.{Contents}
 use Rattle.walrus_contents.specs.View.{export_of, body, kind_of, element_items_of, element_of, function, global_of, contents_view}
-use Rattle.walrus_types.specs.ConstOps.{value_op}
-use Rattle.walrus_types.specs.PlaceList.{has}
-use Rattle.walrus_types.specs.declared.const_expr.ConstExpr.{ConstExpr}
-use Rattle.walrus_types.specs.declared.const_expr.Value.{Value}
-use Rattle.walrus_types.specs.declared.const_expr.Value.TheVariants as constant
+use Rattle.walrus_base.specs.PlaceList.{has}
+use Rattle.walrus_base.specs.declared.const_expr.ConstExpr.{ConstExpr}
+use Rattle.walrus_base.specs.declared.const_expr.Value.{Value}
+use Rattle.walrus_base.specs.declared.const_expr.Value.TheVariants as constant
 use Rattle.walrus_contents.specs.References.{arg_ref, args_ref, op_ref, kind_refs, init_refs, function_refs, global_refs, named_refs, declared_refs, export_refs, function_number, listed_in, listed_refs, only_ref}
 
 -- a constant isn't ref.func

@@ -3,17 +3,17 @@ use Rattle.std.proofs.Common.{◌≡◌, ℕ, ◌⊎◌, inl, inr, ⊎_elim, Lis
 use Rattle.std.specs.Prelude.{Contains, IsSome}
 use Rattle.std.proofs.lemmas.List.Elements.{Contains-append_left, Contains-append_right, Contains-append_cases}
 use Rattle.walrus_base.specs.Arena.{item_at}
-use Rattle.walrus_types.specs.ModuleTypes.{type_slots}
-use Rattle.walrus_types.specs.Operators.{Types, Functions, Tables, Memories, Tags, Globals, Elements, DataSegments, Item, type_item}
-use Rattle.walrus_types.specs.TypeDef.{TypeDef}
-use Rattle.walrus_types.specs.TypeSlots.{group_at, group_of}
-use Rattle.walrus_types.specs.Whole.{AreWhole}
-use Rattle.walrus_types.proofs.ShapesEnd.{has_contained}
-use Rattle.walrus_types.proofs.ShapesKept.{made_of}
+use Rattle.walrus_base.specs.ModuleTypes.{type_slots}
+use Rattle.walrus_base.specs.Operators.{Types, Functions, Tables, Memories, Tags, Globals, Elements, DataSegments, Item, type_item}
+use Rattle.walrus_base.specs.TypeDef.{TypeDef}
+use Rattle.walrus_base.specs.TypeSlots.{group_at, group_of}
+use Rattle.walrus_base.specs.Whole.{AreWhole}
+use Rattle.walrus_base.proofs.ShapesEnd.{has_contained}
+use Rattle.walrus_base.proofs.ShapesKept.{made_of}
 use Rattle.walrus_model.specs.Abstract.{Abstract}
 use Rattle.walrus_model.specs.Live.{IsLive}
 use Rattle.walrus_model.specs.Refers.{Refers, named_by, type_names, written_in}
-use Rattle.walrus_model.proofs.Lists.{Contains-none}
+use Rattle.walrus_base.proofs.Lists.{Contains-none}
 use Rattle.walrus_model.proofs.Reach.{Contains-unmap}
 use Rattle.walrus_contents.specs.Named.{NamesItself, group_names, own_type_names, own_written}
 use Rattle.walrus_contents.specs.View.{contents_view}

@@ -9,14 +9,14 @@ use Rattle.walrus_base.specs.declared.keys.DataKey.{DataKey}
 use Rattle.walrus_base.specs.declared.keys.ElementKey.{ElementKey}
 use Rattle.walrus_base.specs.declared.set.IdHashSet.{IdHashSet}
 use Rattle.walrus_base.proofs.InSet.{id_is_listed}
-use Rattle.walrus_types.specs.Operators.{Space, Functions, Tables, Memories, Elements, DataSegments, Item, type_item}
+use Rattle.walrus_base.specs.Operators.{Space, Functions, Tables, Memories, Elements, DataSegments, Item, type_item}
 use Rattle.walrus_code.specs.declared.items.ItemId.{ItemId}
 use Rattle.walrus_items.specs.Functions.{FunctionValue, functions}
 use Rattle.walrus_items.specs.Memories.{MemoryValue, memories}
 use Rattle.walrus_items.specs.Tables.{TableValue, tables}
 use Rattle.walrus_model.specs.Abstract.{Abstract}
 use Rattle.walrus_model.specs.Refers.{KeepsToo}
-use Rattle.walrus_model.proofs.Lists.{Contains-map}
+use Rattle.walrus_base.proofs.Lists.{Contains-map}
 use Rattle.walrus_model.proofs.Reach.{Contains-unmap}
 use Rattle.walrus_contents.specs.Named.{NamesItself, Puts, PutsAll, items_in, own_written}
 use Rattle.walrus_contents.specs.View.{contents_view, handlers_at, kept_data, kept_elements, kind_handlers}

@@ -2,17 +2,8 @@ pub mod ExportedRefs
 pub mod LiveLemmas
 pub mod NamedLemmas
 pub mod LocalTypes
-pub mod Slots
-pub mod Walked
-pub mod Lookups
-pub mod Steps
-pub mod Taking
-pub mod TypeLists
-pub mod Named
-pub mod NamedFound
 pub mod ConstNames
 pub mod Groups
 pub mod RootNames
-pub mod Filters
 pub mod KeptNames
 pub mod PlainBodies

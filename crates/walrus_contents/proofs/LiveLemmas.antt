@@ -2,7 +2,7 @@
 use Rattle.std.proofs.Common.{◌≡◌, ℕ, ◌<◌, ◌+◌, List, [], ◌∷◌, length, map, take, get_or, Some, None, sym, ap, ◌∙◌, subst, refl, ⊎_elim}
 use Rattle.std.specs.Prelude.{Option, IsSome, Contains, option_map, Result, MatchResult}
 use Rattle.walrus_base.specs.Arena.{item_at, items}
-use Rattle.walrus_types.specs.Operators.{Space, Types, Functions, Tables, Memories, Tags, Globals, Elements, DataSegments, Item}
+use Rattle.walrus_base.specs.Operators.{Space, Types, Functions, Tables, Memories, Tags, Globals, Elements, DataSegments, Item}
 use Rattle.walrus_code.specs.Code.{item_of}
 use Rattle.walrus_code.specs.declared.items.ItemId.{ItemId}
 use Rattle.walrus_items.specs.Kinds.{exported, imported}
@@ -15,19 +15,20 @@ use Rattle.walrus_model.specs.Dead.{HasDead, DeadName, DeadLocal, DeadExport, De
 use Rattle.walrus_model.specs.Live.{IsLive}
 use Rattle.walrus_model.specs.Names.{body_of_kind, body_of_function}
 use Rattle.walrus_model.specs.Refers.{named_by, written_in, type_names, function_names, table_names, memory_names, tag_names, global_names, element_names, data_names}
-use Rattle.walrus_model.proofs.Lists.{Contains-head, Contains-map, Contains-none, Contains-tail, Contains-uncons}
+use Rattle.walrus_base.proofs.Lists.{Contains-head, Contains-map, Contains-none, Contains-tail, Contains-uncons}
 use Rattle.walrus_model.proofs.Reach.{Contains-unmap}
-use Rattle.walrus_items.specs.Error.{Error}
+use Rattle.walrus_items.specs.declared.error.Error.{Error}
 use Rattle.walrus_contents.specs.Named.{active_names, export_names, other_roots, own_written, root_elements, start_names}
 use Rattle.walrus_contents.specs.There.{AreLive, AreWhole, ImportsAreLive, IsRefusal, IsSound, IsThere, IsUnsound, IsWhole, NoBody, NoLocal, OneIsDead}
 use Rattle.walrus_items.specs.Imports.{ImportValue}
 use Rattle.walrus_contents.specs.View.{contents_view, data_of, element_of, export_of, import_of}
 use Rattle.walrus_contents.specs.declared.parts.Contents.{Contents}
 use Rattle.walrus_contents.proofs.Groups.{GroupsAreWhole, own_is_written, written_split}
-use Rattle.walrus_contents.proofs.Lookups.{mapped_some}
-use Rattle.walrus_contents.proofs.NamedLemmas.{among, result_map, row_more, same_some, some_none}
+use Rattle.walrus_base.proofs.Lookups.{mapped_some}
+use Rattle.walrus_contents.proofs.NamedLemmas.{among, result_map, row_more, same_some}
 use Rattle.walrus_contents.proofs.RootNames.{named_active, named_root_element, named_start, other_cases, start_is_other, start_named}
-use Rattle.walrus_contents.proofs.Walked.{Walked, next_there, walk_goes}
+use Rattle.walrus_model.proofs.Walked.{Walked, next_there, walk_goes}
+use Rattle.walrus_model.proofs.KeptFollow.{none_unless as none_where, not_none as some_none}
 
 -- what something is written in is there
 live_where : {X : Type 0} (names : X → List Item) (o : Option X) (y : Item) → Contains (named_by names o) y → IsSome o
@@ -43,10 +44,6 @@ written_is_live v (Tags, i) y at = live_where tag_names (v.tags i) y at
 written_is_live v (Globals, i) y at = live_where global_names (v.globals i) y at
 written_is_live v (Elements, i) y at = live_where element_names (v.elements i) y at
 written_is_live v (DataSegments, i) y at = live_where data_names (v.data_segments i) y at
-
-none_where : {X : Type 0} (o : Option X) → (IsSome o → ⊥) → o ≡ None
-none_where (Some x) h = absurd (h refl)
-none_where None h = refl
 
 -- ---- bodies
 
@@ -116,10 +113,6 @@ item_checked v groups x named is sound r h = result_map (AreLive v named) (IsWho
 
 pub seen_there : {A B : Type 0} (f : A → B) (o : Option A) (x : A) → o ≡ Some x → IsSome (option_map f o)
 seen_there {A} f o x e = subst (λ (s : Option A). IsSome (option_map f s)) (sym e) refl
-
-pub was_there : {A B : Type 0} (f : A → B) (o : Option A) → IsSome (option_map f o) → IsSome o
-was_there f (Some x) h = refl
-was_there f None h = h
 
 -- what isn't a function is sound where it is there
 other_sound : (v : Abstract) (s : Space) (i : ℕ) → (s ≡ Functions → ⊥) → IsLive v (s, i) → IsSound v (s, i)

@@ -5,13 +5,13 @@ use Rattle.std.specs.Global.{Vec}
 use Rattle.std.proofs.lemmas.Grind.{flat_map-append}
 use Rattle.std.proofs.lemmas.List.{append-nil, map_more, take_all}
 use Rattle.std.proofs.lemmas.List.Elements.{Contains-append_cases}
-use Rattle.walrus_types.specs.declared.locals.ModuleLocals.{ModuleLocals}
-use Rattle.walrus_types.specs.Operators.{Item}
+use Rattle.walrus_base.specs.declared.locals.ModuleLocals.{ModuleLocals}
+use Rattle.walrus_base.specs.Operators.{Item}
 use Rattle.walrus_code.specs.declared.items.ItemId.{ItemId}
-use Rattle.walrus_items.specs.Error.{Error}
+use Rattle.walrus_items.specs.declared.error.Error.{Error}
 use Rattle.walrus_model.proofs.TypeRules.{Contains-flat_map}
 use Rattle.walrus_contents.specs.Named.{AreThere, OneIsMissing, Puts, PutsTypes, items_in, local_type_names, type_at}
-use Rattle.walrus_model.proofs.Lists.{Contains-none, Contains-uncons}
+use Rattle.walrus_base.proofs.Lists.{Contains-none, Contains-uncons}
 use Rattle.walrus_contents.specs.There.{IsRefusal}
 use Rattle.walrus_contents.proofs.NamedLemmas.{among, result_map, two_rows}
 

@@ -1,32 +1,28 @@
 -- How what the parts of an item name comes together.
-use Rattle.std.proofs.Common.{◌≡◌, ℕ, zero, suc, ◌+◌, ◌<◌, ⊎_elim, List, [], ◌∷◌, ◌++◌, Option, Some, None, length, map, take, drop, get_or, ap, sym, ◌∙◌, subst, refl, arith, add-one, append_assoc, drop-cons}
+use Rattle.std.proofs.Common.{◌≡◌, ℕ, zero, suc, ◌+◌, ◌<◌, ⊎_elim, List, [], ◌∷◌, ◌++◌, Option, Some, length, map, take, drop, get_or, ap, sym, ◌∙◌, subst, refl, arith, add-one, append_assoc, drop-cons}
 use Rattle.std.specs.Prelude.{Contains, IsSome, option_map, flat_map, Result, Ok, Err, MatchResult}
-use Rattle.std.proofs.lemmas.Bool.{false≢true}
 use Rattle.std.proofs.lemmas.List.{map-append, map_more}
 use Rattle.std.proofs.lemmas.List.Elements.{Contains-push_cases}
 use Rattle.std.specs.Global.{Vec}
 use Rattle.walrus_base.specs.Arena.{item_at}
-use Rattle.walrus_types.specs.declared.locals.ModuleLocals.{ModuleLocals}
-use Rattle.walrus_types.specs.Operators.{Functions, Item, locals_of, names_of}
+use Rattle.walrus_base.specs.declared.locals.ModuleLocals.{ModuleLocals}
+use Rattle.walrus_base.specs.Operators.{Functions, Item, locals_of, names_of}
 use Rattle.walrus_items.specs.Function.{body_of}
 use Rattle.walrus_items.specs.LocalFunction.{LocalFunction}
 use Rattle.walrus_code.specs.declared.items.ItemId.{ItemId}
 use Rattle.walrus_items.specs.Functions.{FunctionValue, functions}
-use Rattle.walrus_items.specs.FunctionKind.{FunctionKind}
-use Rattle.walrus_items.specs.FunctionKind.TheVariants.{Import, Local, Uninitialized}
+use Rattle.walrus_items.specs.declared.function_kind.FunctionKind.{FunctionKind}
+use Rattle.walrus_items.specs.declared.function_kind.FunctionKind.TheVariants.{Import, Local, Uninitialized}
 use Rattle.walrus_model.specs.Abstract as abstract
 use Rattle.walrus_model.specs.Refers.{IsUsed, body_names, function_names, named_by, written_in}
 use Rattle.walrus_contents.specs.View.{body, contents_view, function, kind_of}
 use Rattle.walrus_contents.specs.declared.parts.Contents.{Contents}
-use Rattle.walrus_items.specs.Error.{Error}
-use Rattle.walrus_items.specs.Error.TheVariants.{Memory, DeadItem}
-use Rattle.walrus_model.proofs.Lists.{Contains-head, Contains-tail}
+use Rattle.walrus_items.specs.declared.error.Error.{Error}
+use Rattle.walrus_items.specs.declared.error.Error.TheVariants.{Memory, DeadItem}
+use Rattle.walrus_base.proofs.Lists.{Contains-head, Contains-tail}
 use Rattle.walrus_contents.specs.Named.{AreThere, IsReady, IsUnready, OneIsMissing, Puts, PutsTypes, items_in, local_type_names}
 use Rattle.walrus_contents.specs.There.{IsRefusal, IsSound, IsUnsound, NoBody, NoLocal}
-
-pub some_none : {X : Type 0} (o : Option X) → IsSome o → o ≡ None → ⊥
-some_none (Some x) h e = absurd cc
-some_none None h e = false≢true h
+use Rattle.walrus_model.proofs.KeptFollow.{not_none as some_none}
 
 -- a refusal for one reason is one for each reason that follows from it
 pub refusal_map : (P Q : Type 0) → (P → Q) → (e : Error) → IsRefusal P e → IsRefusal Q e

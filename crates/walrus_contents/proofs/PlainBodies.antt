@@ -2,23 +2,18 @@
 use Rattle.std.proofs.Common.{◌≡◌, ℕ, ◌+◌, ◌<◌, ◌≤◌, ⊎_elim, Bool, true, false, not, ◌&&◌, ◌||◌, ◌==◌, List, [], ◌∷◌, ◌++◌, None, refl, ap₂, arith, subst, nat_le, nat_lt}
 use Rattle.std.specs.Prelude.{Contains, IsSome, flat_map, filter_map}
 use Rattle.std.specs.List.{list_all}
-use Rattle.std.proofs.lemmas.Bool.{leb-true, ltb-false, ltb-true}
+use Rattle.std.proofs.lemmas.Bool.{leb-true, ltb-false, ltb-true, and_parts as both}
 use Rattle.std.proofs.Math.Dec.{ltb}
 use Rattle.std.proofs.lemmas.List.Elements.{Contains-append_cases, Contains-append_right}
-use Rattle.walrus_types.specs.declared.locals.ModuleLocals.{ModuleLocals}
-use Rattle.walrus_types.specs.Operators.{Arg, Index, Label, Local, Number, Count, Byte, S32, S64, Bits32, Bits64, Value, Heap, Block, Access, Op, arg_locals, op_locals, locals_of}
-use Rattle.walrus_model.proofs.Lists.{Contains-none, Contains-uncons}
+use Rattle.walrus_base.specs.declared.locals.ModuleLocals.{ModuleLocals}
+use Rattle.walrus_base.specs.Operators.{Arg, Index, Label, Local, Number, Count, Byte, S32, S64, Bits32, Bits64, Value, Heap, Block, Access, Op, arg_locals, op_locals, locals_of}
+use Rattle.walrus_base.proofs.Lists.{Contains-none, Contains-uncons}
 use Rattle.wasm_opcodes.specs.declared.one_byte.TheConstants.{REF_FUNC}
 use Rattle.walrus_model.specs.Classes.{is_plain}
 use Rattle.walrus_model.specs.Blocks.{are_nested}
 use Rattle.walrus_model.specs.PlainBodies.{are_plain, is_plain_arg, is_plain_op}
 use Rattle.walrus_contents.specs.References.{op_ref}
 use Rattle.walrus_contents.specs.Named.{NamesNoTypes, local_type_names, type_at}
-
-pub both : (a b : Bool) → (a && b) ≡ true → (a ≡ true) × (b ≡ true)
-both true true is = (refl, refl)
-both true false is = absurd cc
-both false b is = absurd cc
 
 module _ (first count : ℕ) where
   abbrev Within : ℕ → Type 0

@@ -8,16 +8,16 @@ use Rattle.walrus_base.specs.Arena.{item_at, entries}
 use Rattle.walrus_base.specs.Id.{place}
 use Rattle.walrus_base.specs.declared.id.Id.{Id}
 use Rattle.walrus_base.specs.declared.keys.FunctionKey.{FunctionKey}
-use Rattle.walrus_types.specs.Operators.{Space, Elements, DataSegments, Item, function_item}
+use Rattle.walrus_base.specs.Operators.{Space, Elements, DataSegments, Item, function_item}
 use Rattle.walrus_items.specs.Data.{DataValue, data_segments, is_passive_data, ModuleData}
 use Rattle.walrus_items.specs.Elements.{ElementValue, elements, ModuleElements}
-use Rattle.walrus_model.proofs.Lists.{Contains-head, Contains-map, Contains-none}
+use Rattle.walrus_base.proofs.Lists.{Contains-head, Contains-map, Contains-none}
 use Rattle.walrus_model.proofs.Reach.{Contains-unmap}
 use Rattle.walrus_contents.specs.Named.{active_names, are_passive, export_names, other_roots, root_elements, root_names, start_names}
 use Rattle.walrus_contents.specs.declared.parts.Contents.{Contents}
-use Rattle.walrus_contents.proofs.Filters.{from_filter, in_filter}
+use Rattle.walrus_base.proofs.Filters.{from_filter, in_filter}
 use Rattle.walrus_contents.proofs.NamedLemmas.{same_some}
-use Rattle.walrus_contents.proofs.Slots.{entry_in, stands_at}
+use Rattle.walrus_model.proofs.Slots.{entry_in, stands_at}
 
 -- ---- the start function
 

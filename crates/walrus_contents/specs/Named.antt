@@ -7,9 +7,9 @@ use Rattle.walrus_base.specs.Id.{place}
 use Rattle.walrus_base.specs.Types.{ValType, sub_names, val_names}
 use Rattle.walrus_base.specs.declared.id.Id.{Id}
 use Rattle.walrus_base.specs.declared.keys.FunctionKey.{FunctionKey}
-use Rattle.walrus_types.specs.Locals.{locals}
-use Rattle.walrus_types.specs.Operators.{Types, Functions, Tables, Memories, Tags, Globals, Elements, DataSegments, Item, function_item, type_item, locals_of}
-use Rattle.walrus_types.specs.declared.locals.ModuleLocals.{ModuleLocals}
+use Rattle.walrus_base.specs.Locals.{locals}
+use Rattle.walrus_base.specs.Operators.{Types, Functions, Tables, Memories, Tags, Globals, Elements, DataSegments, Item, function_item, type_item, locals_of}
+use Rattle.walrus_base.specs.declared.locals.ModuleLocals.{ModuleLocals}
 use Rattle.walrus_code.specs.Code.{item_of}
 use Rattle.walrus_items.specs.Function.{body_of}
 use Rattle.walrus_code.specs.declared.items.ItemId.{ItemId}
@@ -18,10 +18,10 @@ use Rattle.walrus_items.specs.Kinds.{exported}
 use Rattle.walrus_items.specs.Data.{data_segments, is_passive_data, ModuleData}
 use Rattle.walrus_items.specs.Elements.{elements, ModuleElements}
 use Rattle.walrus_items.specs.Exports.{exports, ModuleExports}
-use Rattle.walrus_items.specs.FunctionKind.{FunctionKind}
-use Rattle.walrus_items.specs.FunctionKind.TheVariants.{Import, Local, Uninitialized}
-use Rattle.walrus_items.specs.ElementKind.TheVariants as element_kinds
-use Rattle.walrus_items.specs.ElementKind.{ElementKind}
+use Rattle.walrus_items.specs.declared.function_kind.FunctionKind.{FunctionKind}
+use Rattle.walrus_items.specs.declared.function_kind.FunctionKind.TheVariants.{Import, Local, Uninitialized}
+use Rattle.walrus_items.specs.declared.segments.ElementKind.TheVariants as element_kinds
+use Rattle.walrus_items.specs.declared.segments.ElementKind.{ElementKind}
 use Rattle.walrus_model.specs.Abstract.{Abstract, TypeDef}
 use Rattle.walrus_model.specs.Refers.{KeepsToo, named_by, written_in}
 use Rattle.walrus_contents.specs.declared.parts.Contents.{Contents}

@@ -4,15 +4,15 @@ use Rattle.std.specs.Prelude.{ℕ, List, [], ◌∷◌, ◌++◌, Option, Some, 
 use Rattle.wasm_opcodes.specs.declared.one_byte.TheConstants.{REF_FUNC}
 use Rattle.walrus_base.specs.Id.{place}
 use Rattle.walrus_items.specs.Function.{body_of}
-use Rattle.walrus_types.specs.ConstOps.{const_ops}
-use Rattle.walrus_types.specs.Operators.{Types, Functions, Tables, Memories, Tags, Globals, Elements, DataSegments, Arg, Index, Label, Local, Number, Count, Byte, S32, S64, Bits32, Bits64, Value, Heap, Block, Access, Item, Op}
+use Rattle.walrus_base.specs.ConstOps.{const_ops}
+use Rattle.walrus_base.specs.Operators.{Types, Functions, Tables, Memories, Tags, Globals, Elements, DataSegments, Arg, Index, Label, Local, Number, Count, Byte, S32, S64, Bits32, Bits64, Value, Heap, Block, Access, Item, Op}
 use Rattle.walrus_items.specs.Elements.{ElementValue}
 use Rattle.walrus_items.specs.Functions.{FunctionValue}
 use Rattle.walrus_items.specs.Kinds.{exported}
-use Rattle.walrus_items.specs.FunctionKind.{FunctionKind}
-use Rattle.walrus_items.specs.FunctionKind.TheVariants as kind
-use Rattle.walrus_items.specs.ElementItems.{ElementItems}
-use Rattle.walrus_items.specs.ElementItems.TheVariants as element_contents
+use Rattle.walrus_items.specs.declared.function_kind.FunctionKind.{FunctionKind}
+use Rattle.walrus_items.specs.declared.function_kind.FunctionKind.TheVariants as kind
+use Rattle.walrus_items.specs.declared.segments.ElementItems.{ElementItems}
+use Rattle.walrus_items.specs.declared.segments.ElementItems.TheVariants as element_contents
 use Rattle.walrus_items.specs.Globals.{GlobalValue}
 use Rattle.walrus_items.specs.Exports.{ExportValue}
 

@@ -1,13 +1,13 @@
 -- What has to be there: what items, imports and exports name, and the locals that bodies use.
 use Rattle.std.specs.Prelude.{ℕ, List, Some, None, IsSome, Contains, ◌≡◌, ◌≢◌, ⊤}
-use Rattle.walrus_types.specs.Operators.{Space, Functions, Item}
+use Rattle.walrus_base.specs.Operators.{Space, Functions, Item}
 use Rattle.walrus_model.specs.Abstract.{Abstract, Body, Uninitialised, LocalFunction, Function, Import, Export}
 use Rattle.walrus_model.specs.Closed.{NamesAreLive}
 use Rattle.walrus_model.specs.Live.{Has, IsLive}
 use Rattle.walrus_model.specs.Names.{body_of}
 use Rattle.walrus_model.specs.Refers.{IsUsed, written_in}
-use Rattle.walrus_items.specs.Error.{Error}
-use Rattle.walrus_items.specs.Error.TheVariants.{Memory, DeadItem}
+use Rattle.walrus_items.specs.declared.error.Error.{Error}
+use Rattle.walrus_items.specs.declared.error.Error.TheVariants.{Memory, DeadItem}
 
 -- what each import brings is there
 abbrev pub ImportsAreLive : Abstract → Type 0

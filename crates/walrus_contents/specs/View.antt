@@ -4,15 +4,15 @@ use Rattle.std.specs.Prelude.{ℕ, Bool, false, ◌&&◌, not, List, [], map, fi
 use Rattle.std.specs.List.{range_with_len}
 use Rattle.walrus_base.specs.Arena.{item_at, items}
 use Rattle.walrus_base.specs.Id.{place}
-use Rattle.walrus_types.specs.Locals.{locals}
-use Rattle.walrus_types.specs.TypeDef.{name_bytes}
-use Rattle.walrus_types.specs.ModuleTypes.{type_names, type_slots}
-use Rattle.walrus_types.specs.ConstOps.{const_ops}
-use Rattle.walrus_types.specs.Operators.{Types, Functions, Tables, Memories, Tags, Globals, Elements, DataSegments, Op, locals_of}
-use Rattle.walrus_types.specs.PlaceList.{has}
-use Rattle.walrus_types.specs.Value.{ref_type}
-use Rattle.walrus_types.specs.declared.locals.ModuleLocals.{ModuleLocals}
-use Rattle.walrus_types.specs.declared.module_types.ModuleTypes.{ModuleTypes}
+use Rattle.walrus_base.specs.Locals.{locals}
+use Rattle.walrus_base.specs.TypeDef.{name_bytes}
+use Rattle.walrus_base.specs.ModuleTypes.{type_names, type_slots}
+use Rattle.walrus_base.specs.ConstOps.{const_ops}
+use Rattle.walrus_base.specs.Operators.{Types, Functions, Tables, Memories, Tags, Globals, Elements, DataSegments, Op, locals_of}
+use Rattle.walrus_base.specs.PlaceList.{has}
+use Rattle.walrus_base.specs.Value.{ref_type}
+use Rattle.walrus_base.specs.declared.locals.ModuleLocals.{ModuleLocals}
+use Rattle.walrus_base.specs.declared.module_types.ModuleTypes.{ModuleTypes}
 use Rattle.walrus_items.specs.Function.{body_of, args_of, handlers_in}
 use Rattle.walrus_items.specs.LocalFunction.{LocalFunction}
 use Rattle.walrus_model.specs.EmittedBody.{types_of as local_types}
@@ -21,14 +21,14 @@ use Rattle.walrus_items.specs.Exports.{ExportValue, exports, ModuleExports}
 use Rattle.walrus_items.specs.FunctionKinds.{kind_type}
 use Rattle.walrus_items.specs.Functions.{FunctionValue, functions, ModuleFunctions}
 use Rattle.walrus_items.specs.Imports.{ImportValue, imports, ModuleImports}
-use Rattle.walrus_items.specs.FunctionKind.TheVariants as kind
-use Rattle.walrus_items.specs.FunctionKind.{FunctionKind}
-use Rattle.walrus_items.specs.DataKind.TheVariants.{Active, Passive}
-use Rattle.walrus_items.specs.DataKind.{DataKind}
-use Rattle.walrus_items.specs.ElementItems.TheVariants as element_contents
-use Rattle.walrus_items.specs.ElementItems.{ElementItems}
-use Rattle.walrus_items.specs.ElementKind.TheVariants as element_kinds
-use Rattle.walrus_items.specs.ElementKind.{ElementKind}
+use Rattle.walrus_items.specs.declared.function_kind.FunctionKind.TheVariants as kind
+use Rattle.walrus_items.specs.declared.function_kind.FunctionKind.{FunctionKind}
+use Rattle.walrus_items.specs.declared.segments.DataKind.TheVariants.{Active, Passive}
+use Rattle.walrus_items.specs.declared.segments.DataKind.{DataKind}
+use Rattle.walrus_items.specs.declared.segments.ElementItems.TheVariants as element_contents
+use Rattle.walrus_items.specs.declared.segments.ElementItems.{ElementItems}
+use Rattle.walrus_items.specs.declared.segments.ElementKind.TheVariants as element_kinds
+use Rattle.walrus_items.specs.declared.segments.ElementKind.{ElementKind}
 use Rattle.walrus_items.specs.Data.{DataValue, data_segments, ModuleData}
 use Rattle.walrus_items.specs.Elements.{ElementValue, elements, ModuleElements}
 use Rattle.walrus_items.specs.Globals.{GlobalValue, globals, ModuleGlobals}

@@ -10,9 +10,9 @@ ghost use Rattle.walrus_items.specs.Globals.{global_init, global_value};
 ghost use Rattle.walrus_items.specs.Tables.{table_value};
 ghost use Rattle.walrus_items.specs.Tags.{tag_value};
 ghost use Rattle.walrus_model.specs.Refers.{data_kind_names, data_names, element_item_names, element_kind_names, element_names, global_names, named_by, table_names, tag_names};
-ghost use Rattle.walrus_types.specs.ConstOps.{const_op, const_ops};
-ghost use Rattle.walrus_types.specs.Operators.{function_item, names_of, op_names, type_item};
-ghost use Rattle.walrus_types.specs.Value.{heap_type};
+ghost use Rattle.walrus_base.specs.ConstOps.{const_op, const_ops};
+ghost use Rattle.walrus_base.specs.Operators.{function_item, names_of, op_names, type_item};
+ghost use Rattle.walrus_base.specs.Value.{heap_type};
 ghost use Rattle.walrus_base.specs.Types.{heap_names};
 ghost use Rattle.walrus_base.specs.Id.{place};
 ghost use Rattle.walrus_contents.specs.Named.{Puts};
@@ -21,12 +21,11 @@ ghost use Rattle.walrus_contents.specs.View.{data_kind_of, data_of, element_item
 use crate::names::{push_heap_type, push_value_type};
 use std::alloc::AllocError;
 use std::result;
-use walrus_base::FunctionId;
+use walrus_base::{ConstExpr, ConstOp, FunctionId, HeapType, TypeId};
+use walrus_code::ItemId;
 use walrus_items::{
-    Data, DataKind, Element, ElementItems, ElementKind, Global, GlobalKind, HeapType, ItemId,
-    Table, Tag, TypeId,
+    Data, DataKind, Element, ElementItems, ElementKind, Global, GlobalKind, Table, Tag,
 };
-use walrus_types::{ConstExpr, ConstOp};
 
 // Puts what a table names behind `to`: the concrete type of its elements, and what its initialiser names, if no import brings it.
 pub(crate) fn push_table_names(

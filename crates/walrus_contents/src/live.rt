@@ -4,7 +4,7 @@ ghost use Rattle.walrus_code.specs.Code.{item_of};
 ghost use Rattle.walrus_model.specs.Dead.{HasDead};
 ghost use Rattle.walrus_model.specs.Live.{IsLive};
 ghost use Rattle.walrus_items.specs.Kinds.{imported};
-ghost use Rattle.walrus_types.specs.Operators.{DataSegments, Elements, Functions, Globals, Tables, Tags, Types};
+ghost use Rattle.walrus_base.specs.Operators.{DataSegments, Elements, Functions, Globals, Tables, Tags, Types};
 ghost use Rattle.walrus_contents.specs.Named.{export_names};
 ghost use Rattle.walrus_contents.specs.There.{AreLive, AreWhole, ImportsAreLive, IsRefusal, IsWhole, OneIsDead};
 ghost use Rattle.walrus_contents.specs.View.{parts_view};
@@ -12,7 +12,8 @@ ghost use Rattle.walrus_contents.specs.View.{parts_view};
 use crate::names::{push_other_roots, push_written_names};
 use crate::parts::{Parts, is_live};
 use std::alloc::Global;
-use walrus_items::{Error, ImportKind, ItemId, Result};
+use walrus_code::ItemId;
+use walrus_items::{Error, ImportKind, Result};
 
 /// Checks that each function has an import or a body, and that all that items, imports and exports name is there, the locals of
 /// bodies and the start function among it. Refused with `DeadItem` exactly where one of these isn't so, and with `Memory`.

@@ -11,9 +11,9 @@ ghost use Rattle.walrus_items.specs.Functions.{function_value};
 ghost use Rattle.walrus_model.specs.Live.{IsLive};
 ghost use Rattle.walrus_model.specs.Refers.{KeepsToo, body_names, function_names, kind_names, named_by};
 ghost use Rattle.walrus_contents.specs.View.{body, function as function_of, kind_handlers, kind_of, lent, parts_view, types_of};
-ghost use Rattle.walrus_types.specs.ModuleTypes.{type_slots};
-ghost use Rattle.walrus_types.specs.Operators.{DataSegments, Elements, arg_locals, locals_of, names_of, op_locals, type_item};
-ghost use Rattle.walrus_types.specs.Value.{heap_type, val_type};
+ghost use Rattle.walrus_base.specs.ModuleTypes.{type_slots};
+ghost use Rattle.walrus_base.specs.Operators.{DataSegments, Elements, arg_locals, locals_of, names_of, op_locals, type_item};
+ghost use Rattle.walrus_base.specs.Value.{heap_type, val_type};
 ghost use Rattle.walrus_contents.specs.There.{IsRefusal, IsSound, IsUnsound};
 ghost use Rattle.walrus_contents.specs.Named.{AreThere, IsReady, IsUnready, NamesItself, NamesNoTypes, OneIsMissing, Puts, PutsAll, PutsTypes, active_names, are_passive, export_names, local_type_names, own_type_names, own_written, root_elements, other_roots, root_names, start_names, type_at};
 
@@ -23,11 +23,15 @@ use crate::initialisers::{
 use crate::parts::Parts;
 use std::alloc::{AllocError, Global};
 use std::result;
-use walrus_base::{DataKey, ElementKey, FunctionId, IdHashSet};
+use walrus_base::{
+    DataKey, ElementKey, FunctionId, HeapType, IdHashSet, LocalId, ModuleLocals, ModuleTypes,
+    TypeId, ValType,
+};
+use walrus_bodies::LocalFunction;
+use walrus_code::{Arg, ItemId, Operator};
 use walrus_items::{
-    Arg, ElementKind, Error, Function, FunctionKind, HeapType, ItemId, LocalFunction, LocalId,
-    ModuleData, ModuleElements, ModuleExports, ModuleFunctions, ModuleLocals, ModuleTypes,
-    Operator, Result, TypeId, ValType,
+    ElementKind, Error, Function, FunctionKind, ModuleData, ModuleElements, ModuleExports,
+    ModuleFunctions, Result,
 };
 
 /// Puts the roots behind `to`: what the exports name, in order, then the start function, the active data segments by rising id, and
@@ -229,7 +233,7 @@ fn push_type_names(
     ensures { OnOk result (Puts to.old to.new (named_by own_type_names (types_of types.now (place id)))) }
 {
     let mut named = Vec::new(alloc);
-    walrus_types::push_names(&mut named, types.get(id))?;
+    walrus_base::push_names(&mut named, types.get(id))?;
     push_type_ids(named.as_slice(), to)
 }
 

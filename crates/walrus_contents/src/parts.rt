@@ -6,10 +6,11 @@ ghost use Rattle.walrus_model.specs.Live.{IsLive};
 ghost use Rattle.walrus_contents.specs.View.{HoldsNothing, contents_view, parts_view};
 
 use std::alloc::Global;
-use walrus_base::FunctionId;
+use walrus_base::{FunctionId, ModuleLocals, ModuleTypes};
+use walrus_code::ItemId;
 use walrus_items::{
-    ItemId, ModuleData, ModuleElements, ModuleExports, ModuleFunctions, ModuleGlobals,
-    ModuleImports, ModuleLocals, ModuleMemories, ModuleTables, ModuleTags, ModuleTypes, Result,
+    ModuleData, ModuleElements, ModuleExports, ModuleFunctions, ModuleGlobals, ModuleImports,
+    ModuleMemories, ModuleTables, ModuleTags, Result,
 };
 use walrus_producers::ModuleProducers;
 

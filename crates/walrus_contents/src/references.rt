@@ -9,8 +9,8 @@ ghost use Rattle.walrus_items.specs.Functions.{functions};
 ghost use Rattle.walrus_items.specs.Globals.{global_init, globals};
 ghost use Rattle.walrus_items.specs.Elements.{elements};
 ghost use Rattle.walrus_items.specs.Exports.{exports};
-ghost use Rattle.walrus_types.specs.ConstOps.{const_op, const_ops};
-ghost use Rattle.walrus_types.specs.PlaceList.{has};
+ghost use Rattle.walrus_base.specs.ConstOps.{const_op, const_ops};
+ghost use Rattle.walrus_base.specs.PlaceList.{has};
 ghost use Rattle.walrus_items.specs.Errors.{out_of_memory};
 ghost use Rattle.walrus_model.specs.Declared.{AreUndeclared};
 ghost use Rattle.walrus_model.specs.Live.{IsLive};
@@ -19,12 +19,13 @@ ghost use Rattle.walrus_contents.specs.View.{parts_view};
 
 use crate::parts::Parts;
 use std::alloc::{AllocError, Global};
-use walrus_base::{FunctionId, Marks};
+use walrus_base::{ConstExpr, ConstOp, FunctionId, FunctionKey, Marks};
+use walrus_bodies::LocalFunction;
+use walrus_code::{Arg, Operator};
 use walrus_items::{
-    Arg, ElementItems, Error, ExportItem, FunctionKey, FunctionKind, GlobalKind, LocalFunction,
-    ModuleElements, ModuleExports, ModuleFunctions, ModuleGlobals, Operator, Result,
+    ElementItems, Error, ExportItem, FunctionKind, GlobalKind, ModuleElements, ModuleExports,
+    ModuleFunctions, ModuleGlobals, Result,
 };
-use walrus_types::{ConstExpr, ConstOp};
 use wasm_opcodes::one_byte::REF_FUNC;
 
 // The function that the argument names.

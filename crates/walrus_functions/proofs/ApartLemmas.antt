@@ -8,21 +8,14 @@ use Rattle.walrus_base.specs.Arena.{item_at}
 use Rattle.walrus_base.specs.Types.{ValType}
 use Rattle.walrus_functions.specs.DeclaredLocals.{TypeGoesBefore, GoesBefore, AreGrouped}
 use Rattle.walrus_functions.specs.Declaring.{AreRuns, Changes, spread}
+use Rattle.wasm_forms.proofs.Bind.{some_same}
+use Rattle.walrus_base.proofs.FunctionSame.{cons_head as head_same, cons_tail as tail_same}
 
 abbrev Group : Type 0
 Group = ℕ × ValType ℕ
 
 abbrev Filled : Group → Type 0
 Filled g = 0 < g.0
-
-some_same : {T : Type 0} (x y : T) → Some x ≡ Some y → x ≡ y
-some_same x y h = cc
-
-head_same : {T : Type 0} (x y : T) (xs ys : List T) → x ∷ xs ≡ y ∷ ys → x ≡ y
-head_same x y xs ys h = cc
-
-tail_same : {T : Type 0} (x y : T) (xs ys : List T) → x ∷ xs ≡ y ∷ ys → xs ≡ ys
-tail_same x y xs ys h = cc
 
 pairs-head : {X : Type 0} (R : X → X → Type 0) (x : X) (xs : List X) → AllPairs R (x ∷ xs) → All (R x) xs
 pairs-head R x xs h = λ k d low. h 0 (suc k) d (omega arith) (omega arith)

@@ -8,7 +8,7 @@ use Rattle.wasm_forms.specs.declared.error.WireError.TheVariants as wire_errors
 use Rattle.wasm_forms.specs.declared.types.RawVal.{RawVal}
 use Rattle.wasm_operators.specs.Operators as wire
 use Rattle.wasm_operators.specs.Spelling.{op_bytes}
-use Rattle.walrus_types.specs.Operators.{Op}
+use Rattle.walrus_base.specs.Operators.{Op}
 use Rattle.walrus_code.specs.Errors.{ir_error}
 use Rattle.walrus_code.specs.Names.{Lookup}
 use Rattle.walrus_code.specs.declared.error.IrError.{IrError}

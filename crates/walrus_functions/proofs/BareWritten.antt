@@ -4,15 +4,13 @@ use Rattle.std.specs.Prelude.{Contains, nat_eq}
 use Rattle.std.specs.List.{IsDistinct}
 use Rattle.walrus_base.specs.Arena.{item_at}
 use Rattle.walrus_base.specs.Types.{ValType}
-use Rattle.walrus_types.specs.Operators.{locals_of}
+use Rattle.walrus_base.specs.Operators.{locals_of}
 use Rattle.walrus_code.specs.declared.error.IrError.{IrError}
 use Rattle.walrus_bodies.specs.Blocks.{blocks_hold}
 use Rattle.walrus_functions.specs.EmittedBody.{FitsType, Source, EmitsBody, Declares, index_in, takes}
 use Rattle.walrus_functions.specs.Writing.{HasSignature, LocalsDeclared, WritesBehind}
 use Rattle.walrus_functions.proofs.WrittenLemmas as written
-
-nothing : (x : ℕ) → Contains [] x → ⊥
-nothing x (k, low, is) = omega (arith, low)
+use Rattle.walrus_base.proofs.InSet.{none_in as nothing}
 
 no_types : (types : List (ValType ℕ)) → map {B = Option (ValType ℕ)} (λ v. Some v) types ≡ [] → types ≡ []
 no_types [] e = refl

@@ -16,6 +16,7 @@ use Rattle.walrus_code.proofs.BackLemmas.{val_back}
 use Rattle.walrus_bodies.specs.Body.{declarations, declared_types}
 use Rattle.walrus_functions.specs.Declaring.{AreDeclarations, spread}
 use Rattle.walrus_functions.specs.EmittedBody.{declaration_bytes, declarations_bytes}
+use Rattle.walrus_base.proofs.FunctionSame.{cons_head as head_same, cons_tail as tail_same}
 
 abbrev Seen : Type 0
 Seen = ℕ × Option (ValType ℕ)
@@ -25,12 +26,6 @@ seen d = (d.0, Some (val_of d.1))
 
 abbrev indexed : Lookup → ℕ × ValType ℕ → Seen
 indexed names g = (g.0, named_val names g.1)
-
-head_same : {T : Type 0} (x y : T) (xs ys : List T) → x ∷ xs ≡ y ∷ ys → x ≡ y
-head_same x y xs ys h = cc
-
-tail_same : {T : Type 0} (x y : T) (xs ys : List T) → x ∷ xs ≡ y ∷ ys → xs ≡ ys
-tail_same x y xs ys h = cc
 
 length-replicate : (n : ℕ) (v : ValType ℕ) → length (replicate n v) ≡ n
 length-replicate zero v = refl

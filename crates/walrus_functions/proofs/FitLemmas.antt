@@ -5,7 +5,7 @@ use Rattle.std.proofs.lemmas.List.Elements.{All-head, All-tail, Contains-append_
 use Rattle.wasm_forms.specs.declared.types.RawVal.{RawVal}
 use Rattle.walrus_base.specs.Arena.{item_at}
 use Rattle.walrus_base.specs.Types.{ValType}
-use Rattle.walrus_types.specs.TypeDef.{TypeDef}
+use Rattle.walrus_base.specs.TypeDef.{TypeDef}
 use Rattle.walrus_code.specs.Names.{Lookup, named_val}
 use Rattle.walrus_code.specs.Results.{val_is_exact}
 use Rattle.walrus_code.specs.declared.error.IrError.{IrError}
@@ -14,15 +14,9 @@ use Rattle.walrus_functions.specs.Declaring.{AreRuns, Declares}
 use Rattle.walrus_functions.specs.EmittedBody.{takes}
 use Rattle.walrus_functions.specs.Writing.{HasSignature, HasOneOf, DeclaresLocals}
 use Rattle.walrus_functions.proofs.RunLemmas.{type_among}
-
-some_same : {T : Type 0} (x y : T) → Some x ≡ Some y → x ≡ y
-some_same x y h = cc
-
-head_same : {T : Type 0} (x y : T) (xs ys : List T) → x ∷ xs ≡ y ∷ ys → x ≡ y
-head_same x y xs ys h = cc
-
-tail_same : {T : Type 0} (x y : T) (xs ys : List T) → x ∷ xs ≡ y ∷ ys → xs ≡ ys
-tail_same x y xs ys h = cc
+use Rattle.wasm_forms.proofs.Bind.{some_same}
+use Rattle.walrus_base.proofs.FunctionSame.{cons_head as head_same, cons_tail as tail_same}
+use Rattle.walrus_base.proofs.Standing.{some_of as there}
 
 -- lists that are the same where each element is there
 pub all_same : {T : Type 0} (xs ys : List T) → map Some xs ≡ map Some ys → xs ≡ ys
@@ -38,10 +32,6 @@ fit def slots parameters held wanted r taken are same = (
 )
 
 -- ---- locals that are there
-
-there : {T : Type 0} (o : Option T) → IsSome o → (x : T) × (o ≡ Some x)
-there None h = absurd cc
-there (Some x) h = (x, refl)
 
 pub held_by : {A : Type 0} (f : A → ℕ) (slots : List (Option (ValType ℕ))) (ids : List A) → All (λ id. IsSome (item_at slots (f id))) ids → (types : List (ValType ℕ)) × (map (item_at slots) (map f ids) ≡ map Some types)
 held_by f slots [] h = ([], refl)

@@ -1,20 +1,13 @@
 -- Locations of operators: given ones, and places of the input.
-use Rattle.std.proofs.Common.{◌≡◌, ℕ, ◌+◌, ◌-◌, ◌^◌, inl, inr, List, [], ◌∷◌, length, min, Option, Some, None, Result, Ok, Err, IfOk, OnOk, subst, arith}
+use Rattle.std.proofs.Common.{◌≡◌, ℕ, ◌+◌, ◌-◌, ◌^◌, inl, inr, List, [], ◌∷◌, length, min, Option, Some, None, Result, Ok, Err, IfOk, OnOk}
 use Rattle.walrus_code.specs.declared.error.IrError.{IrError}
 use Rattle.walrus_code.specs.declared.location.InstrLocId.{InstrLocId}
-use Rattle.walrus_text.specs.Function.{locations_of}
-use Rattle.walrus_text.specs.declared.function.LocalFunction.{LocalFunction}
+use Rattle.walrus_bodies.specs.Function.{locations_of}
+use Rattle.walrus_bodies.specs.declared.function.LocalFunction.{LocalFunction}
 use Rattle.walrus_bodies.specs.Body.{Located}
 use Rattle.walrus_bodies.specs.BodyRead.{BodyLocated}
-use Rattle.walrus_text.specs.Scanned.{IsPlace}
+use Rattle.walrus_bodies.specs.Scanned.{IsPlace}
 use Rattle.walrus_functions.specs.ReadFunction.{Given}
-
--- places end at 2^64 - 1
-pub same_places : (IsGiven : ℕ → InstrLocId → Type 0) (p q : ℕ) (bytes : List ℕ) (locs : List InstrLocId) → min p (2 ^ 64 - 1) ≡ min q (2 ^ 64 - 1) → Located IsGiven p bytes locs → Located IsGiven q bytes locs
-same_places IsGiven p q bytes [] same located = located
-same_places IsGiven p q bytes (loc ∷ locs) same (text, (front, (back, (parts, is, given, rest)))) =
-    let later : min (p + length front) (2 ^ 64 - 1) ≡ min (q + length front) (2 ^ 64 - 1) = omega arith in
-    (text, (front, (back, (parts, is, subst (λ (n : ℕ). IsGiven n loc) same given, same_places IsGiven (p + length front) (q + length front) back locs later rest))))
 
 -- what holds of each place and its location may be said in a weaker way
 module _ (P Q : ℕ → InstrLocId → Type 0) (weaker : (place : ℕ) (loc : InstrLocId) → P place loc → Q place loc) where

@@ -7,15 +7,16 @@ use Rattle.std.proofs.Math.Seq.{drop-cons}
 use Rattle.wasm_opcodes.specs.declared.one_byte.TheConstants.{CATCH, CATCH_ALL}
 use Rattle.walrus_base.specs.Arena.{item_at}
 use Rattle.walrus_base.specs.Types.{ValType}
-use Rattle.walrus_types.specs.Alone.{FoundOrAdded}
-use Rattle.walrus_types.specs.Composite.{FunctionType}
-use Rattle.walrus_types.specs.Operators.{BlockType, Arg, Index, Label, Local, Number, Count, Byte, S32, S64, Bits32, Bits64, Value, Heap, Block, Access, Op}
-use Rattle.walrus_types.specs.TypeDef.{TypeDef}
+use Rattle.walrus_base.specs.Alone.{FoundOrAdded}
+use Rattle.walrus_base.specs.Composite.{FunctionType}
+use Rattle.walrus_base.specs.Operators.{BlockType, Arg, Index, Label, Local, Number, Count, Byte, S32, S64, Bits32, Bits64, Value, Heap, Block, Access, Op}
+use Rattle.walrus_base.specs.TypeDef.{TypeDef}
 use Rattle.walrus_code.specs.Code.{op_of, ops_of}
 use Rattle.walrus_code.specs.declared.operator.Operator.{Operator}
 use Rattle.walrus_functions.specs.Handlers.{OpenBlock, Try, OtherBlock, begins_handler, catch_type, catch_all_type, opens_other, closes, block_results, opened_results, blocks_after, caught_params, handler_at, handlers_from, handlers_of, tag_params, without_innermost}
 use Rattle.walrus_functions.specs.ReadFunction.{Slots, AddsTypes, Nothing, AndOne, StaysInFront}
 use Rattle.walrus_functions.specs.Signatures.{first_place, first_opened, handler_in, opened_after, opened_type, types_below, with_results, without_first}
+use Rattle.wasm_operators.proofs.OneStands.{true_not_false as untrue}
 
 pub caught_is : (types : ℕ → Option TypeDef) (tags : ℕ → Option ℕ) (args : List Arg) → caught_params types tags args ≡ tag_params types tags (option_and_then tags (first_place args))
 caught_is types tags [] = refl
@@ -61,9 +62,6 @@ pub types_are : (bound : ℕ) (old new : List (Option TypeDef)) → bound ≡ le
 types_are bound old new is stays = ap (λ (n : ℕ). types_below n new) is ∙ below_all old new stays
 
 -- ---- operators of which none begins a handler
-
-untrue : true ≡ false → ⊥
-untrue e = cc
 
 none_at : (types : ℕ → Option TypeDef) (tags : ℕ → Option ℕ) (blocks : List OpenBlock) (o : Op) → begins_handler o.op ≡ false → handler_at types tags blocks o ≡ []
 none_at types tags [] o none = refl

@@ -1,30 +1,26 @@
 -- Locals that keep their indices are declared in their order.
 use Rattle.std.proofs.Common.{◌≡◌, ℕ, zero, suc, ◌+◌, ◌-◌, ◌<◌, ◌≤◌, ◌⊎◌, inl, inr, Bool, true, false, List, [], ◌∷◌, ◌++◌, length, map, get_or, take, drop, Option, Some, None, refl, sym, ap, ap₂, ◌∙◌, subst, arith}
-use Rattle.std.specs.Prelude.{◌&&◌, AllPairs, Contains, flat_map, nat_eq, nat_le, nat_lt, option_map, unwrap_or, if◌then◌else◌}
+use Rattle.std.specs.Prelude.{AllPairs, Contains, flat_map, nat_eq, nat_le, nat_lt, option_map, unwrap_or, if◌then◌else◌}
 use Rattle.std.specs.List.{AllByRecursion, IsDistinct, list_all, list_any, range_with_len}
-use Rattle.std.proofs.lemmas.Bool.{cases_lt, leb-true, ltb-true, ne_eqb}
+use Rattle.std.proofs.lemmas.Bool.{cases_lt, leb-true, ltb-true, ne_eqb, and_parts}
 use Rattle.std.proofs.lemmas.Bool.Decides.{eqb_tells}
 use Rattle.std.proofs.lemmas.List.{take-append-drop}
 use Rattle.std.proofs.lemmas.List.FromFn.{length-range_with_len, get_or-range_with_len}
 use Rattle.walrus_base.specs.Arena.{item_at}
 use Rattle.walrus_base.specs.Types.{ValType, I32, I64, F32, F64, V128, Ref}
-use Rattle.walrus_types.specs.Operators.{Arg, Index, Label, Local, Number, Count, Byte, S32, S64, Bits32, Bits64, Value, Heap, Block, Access, Op, arg_locals, op_locals, locals_of}
-use Rattle.walrus_types.specs.Shape.{place_in}
+use Rattle.walrus_base.specs.Operators.{Arg, Index, Label, Local, Number, Count, Byte, S32, S64, Bits32, Bits64, Value, Heap, Block, Access, Op, arg_locals, op_locals, locals_of}
+use Rattle.walrus_base.specs.Shape.{place_in}
 use Rattle.walrus_bodies.specs.Blocks.{are_nested}
-use Rattle.walrus_text.specs.Classes.{is_plain}
-use Rattle.walrus_text.specs.Locals.{AreMarked}
-use Rattle.walrus_text.specs.Plain.{are_plain, is_plain_arg, is_plain_op}
+use Rattle.walrus_bodies.specs.Classes.{is_plain}
+use Rattle.walrus_bodies.specs.Locals.{AreMarked}
+use Rattle.walrus_bodies.specs.Plain.{are_plain, is_plain_arg, is_plain_op}
 use Rattle.walrus_functions.specs.DeclaredLocals.{rank, AreDeclared, GoesBefore, IsDeclared, TypeGoesBefore}
 use Rattle.walrus_functions.specs.Kept.{KeepsIndices, rank_at}
 use Rattle.walrus_functions.proofs.AmongLemmas.{among, tested}
+use Rattle.walrus_base.proofs.RangeBounds.{range_has as contains_at, range_in as bounds_of}
+use Rattle.walrus_base.proofs.Indexed.{less_or_same as one_of}
 
 -- ---- one more local
-
-one_of : (i j : ℕ) → i < j + 1 → (i < j) ⊎ (i ≡ j)
-one_of i j low = elim (cases_lt i j) as (λ _. (i < j) ⊎ (i ≡ j)) [
-  | inl h ↦ inl h
-  | inr h ↦ inr (omega (arith, low, h))
-]
 
 module _ (slots : List (Option (ValType ℕ))) (flags : List Bool) (first params : ℕ) where
   pub kept_none : KeepsIndices slots flags first params params
@@ -61,20 +57,6 @@ highest_more slots first params count r here highest i from low = elim (one_of i
 
 -- ---- ranges
 
-contains_of : (a n k : ℕ) → k < n → Contains (range_with_len a n) (a + k)
-contains_of a n k low = (k, omega (arith, low, length-range_with_len a n), get_or-range_with_len a n k (a + k) low)
-
-bounds_of : (a n x : ℕ) → Contains (range_with_len a n) x → (a ≤ x) × (x < a + n)
-bounds_of a n x (k, low, is) =
-    let at : get_or (range_with_len a n) k x ≡ a + k = get_or-range_with_len a n k x (omega (arith, low, length-range_with_len a n)) in
-    let same : get_or (range_with_len a n) k x ≡ x = is in
-    (omega (arith, at, same), omega (arith, at, same, low, length-range_with_len a n))
-
-contains_at : (a n x : ℕ) → a ≤ x → x < a + n → Contains (range_with_len a n) x
-contains_at a n x low high =
-    let back : a + (x - a) ≡ x = omega (arith, low) in
-    subst (λ (y : ℕ). Contains (range_with_len a n) y) back (contains_of a n (x - a) (omega (arith, low, high)))
-
 self_eq : (n : ℕ) → nat_eq n n ≡ true
 self_eq n = elim (eqb_tells n n) as (λ _. nat_eq n n ≡ true) [
   | inl h ↦ h.0
@@ -92,7 +74,7 @@ place_range a (suc n) (suc k) m e low =
     ap (λ (b : Bool). if b then Some 0 else option_map suc (place_in (range_with_len (a + 1) n) m)) differs
     ∙ ap (option_map suc) (place_range (a + 1) n k m (omega (arith, e)) (omega (arith, low)))
 
-none_lower : (a b n : ℕ) → a < b → AllByRecursion (λ y. nat_eq a y ≡ false) (range_with_len b n)
+pub none_lower : (a b n : ℕ) → a < b → AllByRecursion (λ y. nat_eq a y ≡ false) (range_with_len b n)
 none_lower a b zero low = tt
 none_lower a b (suc n) low = (ne_eqb a b (λ h. omega (arith, low, h)), none_lower a (b + 1) n (omega (arith, low)))
 
@@ -249,12 +231,6 @@ module _ (flags : List Bool) (used : List ℕ) (first : ℕ) (marked : AreMarked
     }
 
 -- ---- no locals
-
-and_parts : (a b : Bool) → (a && b) ≡ true → (a ≡ true) × (b ≡ true)
-and_parts true true e = (refl, refl)
-and_parts true false e = absurd cc
-and_parts false true e = absurd cc
-and_parts false false e = absurd cc
 
 no_local : (first : ℕ) (a : Arg) → is_plain_arg first 0 a ≡ true → arg_locals a ≡ []
 no_local first (Index x) plain = refl

@@ -5,11 +5,11 @@ use Rattle.std.specs.List.{IsDistinct, list_any, range_with_len}
 use Rattle.std.proofs.lemmas.List.{drop-map, length-map, take-map}
 use Rattle.std.proofs.lemmas.List.FromFn.{length-range_with_len}
 use Rattle.wasm_forms.specs.declared.types.RawVal.{RawVal}
-use Rattle.walrus_types.specs.Operators.{locals_of}
-use Rattle.walrus_types.specs.Shape.{place_in}
+use Rattle.walrus_base.specs.Operators.{locals_of}
+use Rattle.walrus_base.specs.Shape.{place_in}
 use Rattle.walrus_code.specs.declared.error.IrError.{IrError}
 use Rattle.walrus_bodies.specs.Blocks.{blocks_hold}
-use Rattle.walrus_text.specs.Locals.{AreMarked}
+use Rattle.walrus_bodies.specs.Locals.{AreMarked}
 use Rattle.walrus_functions.specs.DeclaredLocals.{AreDeclared}
 use Rattle.walrus_functions.specs.EmittedBody.{FitsType, Source, EmitsBody, Declares, index_in}
 use Rattle.walrus_functions.specs.Kept.{KeepsIndices}

@@ -1,5 +1,5 @@
 -- What is known of the types of legacy exception handlers.
-use Rattle.std.proofs.Common.{◌≡◌, ℕ, zero, suc, ◌+◌, ◌<◌, ◌≤◌, Bool, true, false, cond, List, [], ◌∷◌, ◌++◌, ◌&&◌, length, Option, Some, None, option_map, option_and_then, refl, ap, ◌∙◌, sym, subst, arith, eqb-true, ◌⊎◌, ⊎_elim, inl, inr}
+use Rattle.std.proofs.Common.{◌≡◌, ℕ, zero, suc, ◌+◌, ◌<◌, ◌≤◌, Bool, true, false, cond, List, [], ◌∷◌, ◌++◌, length, Option, Some, None, option_map, option_and_then, refl, ap, ◌∙◌, sym, subst, arith, eqb-true, ◌⊎◌, ⊎_elim, inl, inr}
 use Rattle.std.specs.Prelude.{◌==◌, nat_lt, if◌then◌else◌}
 use Rattle.std.proofs.lemmas.List.{length-append}
 use Rattle.std.specs.BTreeMap.{is_at}
@@ -10,13 +10,13 @@ use Rattle.walrus_base.specs.Id.{place}
 use Rattle.walrus_base.specs.Types.{ValType}
 use Rattle.walrus_base.specs.declared.id.Id.{Id}
 use Rattle.walrus_base.specs.declared.keys.TypeKey.{TypeKey}
-use Rattle.walrus_types.specs.Alone.{FoundOrAdded, Found, Added, StandsFirst, alone}
-use Rattle.walrus_types.specs.Composite.{FunctionType}
-use Rattle.walrus_types.specs.Operators.{BlockType, NoResult, OneResult, OfType, Op}
-use Rattle.walrus_types.specs.TypeDef.{TypeDef}
-use Rattle.walrus_types.proofs.FunctionSame.{val_same}
-use Rattle.walrus_types.proofs.ShapesKept.{item_at-front}
-use Rattle.walrus_types.proofs.SlotLemmas.{item_at-append}
+use Rattle.walrus_base.specs.Alone.{FoundOrAdded, Found, Added, StandsFirst, alone}
+use Rattle.walrus_base.specs.Composite.{FunctionType}
+use Rattle.walrus_base.specs.Operators.{BlockType, NoResult, OneResult, OfType, Op}
+use Rattle.walrus_base.specs.TypeDef.{TypeDef}
+use Rattle.walrus_base.proofs.FunctionSame.{val_same}
+use Rattle.walrus_base.proofs.ShapesKept.{item_at-front}
+use Rattle.walrus_base.proofs.SlotLemmas.{item_at-append}
 use Rattle.walrus_functions.specs.Handlers.{block_results, caught_params, catch_all_type, catch_type, params_of, results_of, tag_params}
 use Rattle.walrus_functions.specs.Known.{AreKnown, IsFirst, IsKnown, IsNoted, Known, NotesOnly, are_below, block_is_below, id_at, is_below}
 use Rattle.walrus_functions.specs.ReadFunction.{Slots, AddsTypes, StaysInFront}
@@ -29,9 +29,9 @@ use Rattle.walrus_functions.specs.contracts.tag_and_try.TagAndTryOrd.TheImpl.Law
 use Rattle.walrus_functions.specs.contracts.tag_and_try.TagAndTryPartialEq.TheImpl as equality
 use Rattle.walrus_functions.specs.contracts.tag_and_try.TryTypePartialEq.TheImpl as try_equality
 use Rattle.walrus_functions.proofs.HandlerLemmas.{adds_one, caught_is}
-
-some_same : {T : Type 0} (x y : T) → Some x ≡ Some y → x ≡ y
-some_same x y h = cc
+use Rattle.wasm_forms.proofs.Bind.{some_same}
+use Rattle.std.proofs.lemmas.Bool.{and_parts, and_from as both_true}
+use Rattle.walrus_base.proofs.Indexed.{beyond as there_below}
 
 -- ---- what an operator needs is what its tag's type and its try need
 
@@ -60,10 +60,6 @@ handler_is types tags (Some b) o = by_tests (option_and_then tags (first_place o
     by_tests tag caught false false = refl
 
 -- ---- handlers that are equal to the program
-
-and_parts : (a b : Bool) → (a && b) ≡ true → (a ≡ true) × (b ≡ true)
-and_parts true b h = (refl, h)
-and_parts false b h = absurd cc
 
 tag_equal : (a b : Option (Id TypeKey)) → option_eq (λ (x y : Id TypeKey). place x == place y) a b ≡ true → option_map place a ≡ option_map place b
 tag_equal None None h = refl
@@ -129,11 +125,6 @@ noted_first bound f old new old_names new_names p next one at handler known know
 
 -- ---- what is known
 
-there_below : {T : Type 0} (slots : List (Option T)) (p : ℕ) (x : T) → item_at slots p ≡ Some x → p < length slots
-there_below [] p x h = absurd cc
-there_below (s ∷ slots) zero x h = omega arith
-there_below (s ∷ slots) (suc p) x h = let below : p < length slots = there_below slots p x h in omega (arith, below)
-
 -- the first type of a kind stays the first where types come behind
 stands_still : (f : FunctionType) (old new : List (Option TypeDef)) (p : ℕ) → StaysInFront old new → StandsFirst f old p → StandsFirst f new p
 stands_still f old new p stays first =
@@ -173,7 +164,7 @@ known_adds types s pair p first = subst (λ (fs : List FunctionType). AddsTypes 
 
 -- ---- from one body to the next: what stands below a bound is the same where types come behind
 
-same_in_front : {T : Type 0} (slots more : List (Option T)) (p : ℕ) → p < length slots → item_at (slots ++ more) p ≡ item_at slots p
+pub same_in_front : {T : Type 0} (slots more : List (Option T)) (p : ℕ) → p < length slots → item_at (slots ++ more) p ≡ item_at slots p
 same_in_front [] more p below = absurd (omega (arith, below))
 same_in_front (s ∷ slots) more zero below = refl
 same_in_front (s ∷ slots) more (suc p) below = same_in_front slots more p (let left : suc p < suc (length slots) = below in omega (arith, left))
@@ -207,9 +198,6 @@ block_below_later : (m n : ℕ) (b : BlockType) → m ≤ n → block_is_below m
 block_below_later m n NoResult le below = refl
 block_below_later m n (OneResult v) le below = refl
 block_below_later m n (OfType p) le below = lower p m n le below
-
-both_true : (a b : Bool) → a ≡ true → b ≡ true → (a && b) ≡ true
-both_true a b p q = cc
 
 below_later : (m n : ℕ) (pair : Option ℕ × BlockType) → m ≤ n → are_below m pair ≡ true → are_below n pair ≡ true
 below_later m n pair le below =

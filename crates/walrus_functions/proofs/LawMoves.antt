@@ -4,7 +4,7 @@ use Rattle.std.specs.Prelude.{◌&&◌, if◌then◌else◌}
 use Rattle.std.specs.List.{range_with_len, list_all}
 use Rattle.std.proofs.lemmas.Option.{slice_get-map}
 use Rattle.wasm_forms.specs.Reading.{◌>>=◌}
-use Rattle.walrus_types.specs.Operators.{Memories, NoResult, OneResult, OfType, Arg, Index, Local, Value, Heap, Block, Access, Op}
+use Rattle.walrus_base.specs.Operators.{Memories, NoResult, OneResult, OfType, Arg, Index, Local, Value, Heap, Block, Access, Op}
 use Rattle.walrus_code.specs.Names.{Lookup, named_heap, named_val, named_block, named_arg, named_args, named_op, named_ops}
 use Rattle.walrus_code.specs.FromRaw.{ops_of}
 use Rattle.walrus_bodies.specs.declared.blocks.Opened.{Opened}
@@ -18,7 +18,7 @@ use Rattle.walrus_functions.specs.Laws.{moved_arg, moved_op, LocalsMove, LocalsM
 
 -- ---- places from a first one on
 
-range_moved : (by first count : ℕ) → range_with_len (by + first) count ≡ map (λ (n : ℕ). by + n) (range_with_len first count)
+pub range_moved : (by first count : ℕ) → range_with_len (by + first) count ≡ map (λ (n : ℕ). by + n) (range_with_len first count)
 range_moved by first zero = refl
 range_moved by first (suc count) =
     let next : by + first + 1 ≡ by + (first + 1) = omega arith in
@@ -33,15 +33,15 @@ from_first first count index =
 
 -- ---- what the look-ups find
 
-stays : {A B : Type 0} (g : B → B) (o : Option A) (f : A → B) → ((x : A) → g (f x) ≡ f x) → (o >>= λ x. Some (f x)) ≡ option_map g (o >>= λ x. Some (f x))
+pub stays : {A B : Type 0} (g : B → B) (o : Option A) (f : A → B) → ((x : A) → g (f x) ≡ f x) → (o >>= λ x. Some (f x)) ≡ option_map g (o >>= λ x. Some (f x))
 stays g None f same = refl
 stays g (Some x) f same = ap Some (sym (same x))
 
-goes : {A B : Type 0} (h : A → A) (g : B → B) (o : Option A) (f : A → B) → ((x : A) → g (f x) ≡ f (h x)) → (option_map h o >>= λ x. Some (f x)) ≡ option_map g (o >>= λ x. Some (f x))
+pub goes : {A B : Type 0} (h : A → A) (g : B → B) (o : Option A) (f : A → B) → ((x : A) → g (f x) ≡ f (h x)) → (option_map h o >>= λ x. Some (f x)) ≡ option_map g (o >>= λ x. Some (f x))
 goes h g None f same = refl
 goes h g (Some x) f same = ap Some (sym (same x))
 
-each_goes : {A : Type 0} (g : A → A) (o : Option A) (rest : Option (List A)) → (option_map g o >>= λ x. option_map (map g) rest >>= λ xs. Some (x ∷ xs)) ≡ option_map (map g) (o >>= λ x. rest >>= λ xs. Some (x ∷ xs))
+pub each_goes : {A : Type 0} (g : A → A) (o : Option A) (rest : Option (List A)) → (option_map g o >>= λ x. option_map (map g) rest >>= λ xs. Some (x ∷ xs)) ≡ option_map (map g) (o >>= λ x. rest >>= λ xs. Some (x ∷ xs))
 each_goes g None rest = refl
 each_goes g (Some x) None = refl
 each_goes g (Some x) (Some xs) = refl

@@ -9,7 +9,7 @@ use Rattle.wasm_forms.specs.Reading.{◌>>=◌}
 use Rattle.wasm_forms.proofs.Bind.{bind_some, some_same}
 use Rattle.walrus_base.specs.Arena.{item_at}
 use Rattle.walrus_base.specs.Types.{ValType}
-use Rattle.walrus_types.specs.Operators.{locals_of}
+use Rattle.walrus_base.specs.Operators.{locals_of}
 use Rattle.walrus_code.specs.FromRaw.{val_of, ops_of}
 use Rattle.walrus_code.specs.Names.{Lookup, named_val}
 use Rattle.walrus_code.specs.Results.{val_is_exact}
@@ -18,7 +18,7 @@ use Rattle.walrus_bodies.specs.Emitting.{IsNotWritable}
 use Rattle.walrus_functions.specs.DeclaredLocals.{IsDeclared}
 use Rattle.walrus_functions.specs.EmittedBody.{Source, index_in}
 use Rattle.walrus_functions.specs.Laws.{SourceIsWellFormed, UnwritableIsIllFormed}
-use Rattle.walrus_functions.proofs.LawNamed.{via, plain, each_append, NoExact, val_inexact, HasIndex, ops_found, ReadOp, each_read, no_unspelled}
+use Rattle.walrus_bodies.proofs.LawNamed.{via, plain, each_append, NoExact, val_inexact, HasIndex, ops_found, ReadOp, each_read, no_unspelled}
 
 -- ---- the types that are declared
 

@@ -1,9 +1,7 @@
 mod AmongLemmas
 mod GivenLemmas
-mod HandlerLemmas
-mod KnownLemmas
-mod LawSpelled
-mod LawTags
+pub mod HandlerLemmas
+pub mod KnownLemmas
 mod ParameterLemmas
 mod PlainLemmas
 pub mod ApartLemmas
@@ -11,18 +9,15 @@ pub mod AppendLemmas
 pub mod BareWritten
 pub mod CountLemmas
 pub mod DeclarationLemmas
-pub mod DistinctLemmas
 pub mod FitLemmas
 pub mod KeptLemmas
 pub mod KeptWritten
 pub mod LawMoves
-pub mod LawNamed
 pub mod LawOnce
 pub mod LawOrder
 pub mod LawWritable
 pub mod LowestLemmas
 pub mod MarkLemmas
-pub mod NestLemmas
 pub mod NumberedLemmas
 pub mod OnceLemmas
 pub mod OrderLemmas
@@ -32,3 +27,11 @@ pub mod StrictLemmas
 pub mod TypedLemmas
 pub mod ValueLemmas
 pub mod WrittenLemmas
+pub mod SpaceList
+pub mod Pigeon
+pub mod SortedPairs
+pub mod BodyTypes
+pub use Rattle.walrus_bodies.proofs.LawNamed
+pub use Rattle.walrus_code.proofs.Named
+pub use Rattle.walrus_code.proofs.Somes
+pub use Rattle.walrus_code.proofs.OneText

@@ -4,20 +4,18 @@ use Rattle.std.proofs.lemmas.Bool.{ltb-false}
 use Rattle.std.specs.Prelude.{Contains}
 use Rattle.std.proofs.lemmas.List.Elements.{All-push, All-weaker, Contains-append_left, Contains-push}
 use Rattle.walrus_base.specs.Types.{ValType}
-use Rattle.walrus_types.specs.Value.{val_type}
-use Rattle.walrus_types.specs.declared.value.ValType.{ValType as DeclaredValType}
-use Rattle.walrus_types.specs.contracts.value.ValTypePartialEq.TheImpl as equality
+use Rattle.walrus_base.specs.Value.{val_type}
+use Rattle.walrus_base.specs.declared.value.ValType.{ValType as DeclaredValType}
+use Rattle.walrus_base.specs.contracts.value.ValTypePartialEq.TheImpl as equality
 use Rattle.walrus_functions.specs.Declaring.{AreLowest, typed, lower}
-use Rattle.walrus_code.proofs.Turns.{map_snoc}
-use Rattle.walrus_types.proofs.FunctionSame.{val_same}
+use Rattle.walrus_base.proofs.Turns.{map_snoc}
+use Rattle.walrus_base.proofs.FunctionSame.{val_same}
 use Rattle.walrus_functions.proofs.ValueLemmas.{equal_itself}
+use Rattle.wasm_forms.proofs.Bind.{some_same}
 
 lower-le : (x : ℕ) (o : Option ℕ) → lower x o ≤ x
 lower-le x None = omega arith
 lower-le x (Some y) = omega arith
-
-some_same : {T : Type 0} (x y : T) → Some x ≡ Some y → x ≡ y
-some_same x y h = cc
 
 abbrev entry : ℕ → ValType ℕ → ℕ × ValType ℕ
 entry x v = (x, v)

@@ -11,15 +11,12 @@ use Rattle.std.proofs.lemmas.Bool.Decides.{eqb_tells}
 use Rattle.std.proofs.lemmas.Grind.{flat_map-append, get_or-set_at}
 use Rattle.std.proofs.lemmas.List.{get_or-set_other, take_all}
 use Rattle.std.proofs.lemmas.List.Elements.{Contains-append_cases, Contains-append_left, Contains-append_right}
-use Rattle.walrus_code.proofs.Turns.{map_more}
+use Rattle.walrus_base.proofs.Turns.{map_more}
 use Rattle.walrus_functions.specs.Declaring.{AreOnce}
 use Rattle.walrus_functions.specs.Marked.{AreMarked, Marks, marked}
+use Rattle.walrus_bodies.proofs.FlagLemmas.{only}
 
 -- ---- what is marked
-
-only : (p x : ℕ) → Contains (p ∷ []) x → x ≡ p
-only p x (zero, low, is) = sym is
-only p x (suc k, low, is) = absurd (omega (arith, low))
 
 first-of : (p x : ℕ) (ps : List ℕ) → x ≡ p → Contains (p ∷ ps) x
 first-of p x ps is = (0, omega arith, sym is)

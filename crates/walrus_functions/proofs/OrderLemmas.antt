@@ -15,19 +15,17 @@ use Rattle.std.proofs.lemmas.Map.Views.{Contains-from_any, list_any-from_Contain
 use Rattle.std.proofs.lemmas.Bool.{eqb-true}
 use Rattle.walrus_base.specs.Arena.{item_at}
 use Rattle.walrus_base.specs.Types.{ValType}
-use Rattle.walrus_types.specs.Value.{val_type}
-use Rattle.walrus_types.specs.declared.value.ValType.{ValType as DeclaredValType}
+use Rattle.walrus_base.specs.Value.{val_type}
+use Rattle.walrus_base.specs.declared.value.ValType.{ValType as DeclaredValType}
 use Rattle.walrus_functions.specs.DeclaredLocals.{rank, IsDeclared, TypeGoesBefore, GoesBefore, AreDeclared}
 use Rattle.walrus_functions.specs.Declaring.{AreTyped, AreInOrder, typed, key_of, by_key}
+use Rattle.wasm_forms.proofs.Bind.{some_same}
 
 abbrev Key : Type 0
 Key = ℕ × ℕ × ℕ
 
 pub by_key_total : IsTotalOrder by_key
 by_key_total = then_total (then_total (on_total (λ (k : Key). k.0) nat_cmp_total) (on_total (λ (k : Key). k.1) nat_cmp_total)) (on_total (λ (k : Key). k.2) nat_cmp_total)
-
-some_same : {T : Type 0} (x y : T) → Some x ≡ Some y → x ≡ y
-some_same x y h = cc
 
 -- ---- what stands in a list that is seen through a function
 

@@ -8,17 +8,18 @@ use Rattle.walrus_base.specs.Arena.{item_at}
 use Rattle.walrus_base.specs.Id.{place}
 use Rattle.walrus_base.specs.declared.id.Id.{Id}
 use Rattle.walrus_base.specs.declared.keys.LocalKey.{LocalKey}
-use Rattle.walrus_types.specs.Locals.{new_local}
-use Rattle.walrus_types.specs.Value.{val_type}
-use Rattle.walrus_types.specs.declared.locals.Local.{Local}
-use Rattle.walrus_types.specs.declared.value.ValType.{ValType as DeclaredValType}
+use Rattle.walrus_base.specs.Locals.{new_local}
+use Rattle.walrus_base.specs.Value.{val_type}
+use Rattle.walrus_base.specs.declared.locals.Local.{Local}
+use Rattle.walrus_base.specs.declared.value.ValType.{ValType as DeclaredValType}
 use Rattle.walrus_code.specs.declared.error.IrError.{IrError}
 use Rattle.walrus_code.specs.declared.error.IrError.TheVariants.{Malformed, Memory, NoIndex, NotWritable, TooLarge}
-use Rattle.walrus_text.specs.declared.function.LocalFunction.{LocalFunction}
+use Rattle.walrus_bodies.specs.declared.function.LocalFunction.{LocalFunction}
 use Rattle.walrus_bodies.specs.Body.{Context, BodyReads}
 use Rattle.walrus_bodies.specs.BodyRead.{body_locals, new_locals, AddsLocals, ReadsBody}
 use Rattle.walrus_functions.specs.Handlers.{params_of}
 use Rattle.walrus_functions.specs.ReadFunction.{Slots, locals_from, ReadsFunction, StaysInFront}
+use Rattle.walrus_bodies.proofs.BodyLemmas.{length-new_locals}
 
 range-both : (first n m : ℕ) → range_with_len first n ++ range_with_len (first + n) m ≡ range_with_len first (n + m)
 range-both first zero m =
@@ -37,15 +38,6 @@ new_locals-both (i ∷ ids) jds [] us same = absurd (omega (arith, same))
 new_locals-both (i ∷ ids) jds (t ∷ ts) us same =
     let shorter : length ids ≡ length ts = omega (arith, same) in
     ap (λ (xs : List (Option Local)). Some (new_local i t) ∷ xs) (new_locals-both ids jds ts us shorter)
-
-length-new_locals : (ids : List (Id LocalKey)) (ts : List DeclaredValType) → length ids ≡ length ts → length (new_locals ids ts) ≡ length ts
-length-new_locals [] [] same = refl
-length-new_locals [] (t ∷ ts) same = absurd (omega (arith, same))
-length-new_locals (i ∷ ids) [] same = absurd (omega (arith, same))
-length-new_locals (i ∷ ids) (t ∷ ts) same =
-    let shorter : length ids ≡ length ts = omega (arith, same) in
-    let rest = length-new_locals ids ts shorter in
-    omega (arith, rest)
 
 module _ (old new : List (Option Local)) (ids : List (Id LocalKey)) (types : List DeclaredValType) (adds : AddsLocals old new ids types) where
   as_many : length ids ≡ length types
@@ -74,12 +66,6 @@ module _ (old new : List (Option Local)) (ids : List (Id LocalKey)) (types : Lis
 
 pub adds_nothing : (old : List (Option Local)) → AddsLocals old old [] []
 adds_nothing old = record { places = refl; added = sym (append-nil old) }
-
--- one more local
-pub adds_one_more : (old middle new : List (Option Local)) (ids ids_after : List (Id LocalKey)) (types : List DeclaredValType) (id : Id LocalKey) (ty : DeclaredValType) → AddsLocals old middle ids types → place id ≡ length middle → new ≡ middle ++ Some (new_local id ty) ∷ [] → ids_after ≡ ids ++ id ∷ [] → AddsLocals old new ids_after (types ++ ty ∷ [])
-adds_one_more old middle new ids ids_after types id ty adds at is grown =
-    let one : AddsLocals middle new (id ∷ []) (ty ∷ []) = record { places = ap (λ (n : ℕ). n ∷ []) at; added = is } in
-    subst (λ (js : List (Id LocalKey)). AddsLocals old new js (types ++ ty ∷ [])) (sym grown) (adds_others old middle ids types adds new (id ∷ []) (ty ∷ []) one)
 
 pub take_next : (xs : List DeclaredValType) (i : ℕ) (d : DeclaredValType) → i < length xs → take i xs ++ get_or xs i d ∷ [] ≡ take (i + 1) xs
 take_next xs i d below = sym (ap (λ (n : ℕ). take n xs) (add-one i) ∙ take-suc xs i d below)

@@ -10,31 +10,33 @@ use Rattle.wasm_forms.specs.declared.types.RawVal.{RawVal}
 use Rattle.wasm_forms.specs.Grammar.{Is}
 use Rattle.wasm_forms.proofs.Bind.{bind_some, some_same}
 use Rattle.wasm_forms.proofs.Exact.{one_reading}
-use Rattle.walrus_text.specs.Classes.{is_plain}
-use Rattle.walrus_text.specs.Limits.{Limits}
+use Rattle.walrus_bodies.specs.Classes.{is_plain}
+use Rattle.walrus_bodies.specs.Limits.{Limits}
 use Rattle.walrus_base.specs.Types.{ValType}
 use Rattle.walrus_base.specs.declared.id.Id.{Id}
 use Rattle.walrus_base.specs.declared.keys.LocalKey.{LocalKey}
-use Rattle.walrus_types.specs.Operators.{Space, Types, Functions, Tables, Memories, Tags, Globals, Elements, DataSegments, Op}
-use Rattle.walrus_types.specs.TypeDef.{TypeDef}
-use Rattle.walrus_types.specs.declared.locals.Local.{Local}
+use Rattle.walrus_base.specs.Operators.{Space, Types, Functions, Tables, Memories, Tags, Globals, Elements, DataSegments, Op}
+use Rattle.walrus_base.specs.TypeDef.{TypeDef}
+use Rattle.walrus_base.specs.declared.locals.Local.{Local}
 use Rattle.walrus_code.specs.FromRaw.{val_of}
 use Rattle.walrus_code.specs.Names.{Lookup, named_val}
 use Rattle.walrus_code.specs.declared.error.IrError.{IrError}
 use Rattle.walrus_code.specs.declared.error.IrError.TheVariants.{Malformed, Memory, NoIndex, NotWritable, TooLarge}
-use Rattle.walrus_text.specs.declared.function.LocalFunction.{LocalFunction}
+use Rattle.walrus_bodies.specs.declared.function.LocalFunction.{LocalFunction}
 use Rattle.walrus_bodies.specs.Blocks.{are_nested, blocks_hold}
 use Rattle.walrus_bodies.specs.Body.{Context, BodyReads, declarations, declared_types}
 use Rattle.walrus_bodies.specs.BodyRead.{BodyLocated, Declares}
 use Rattle.walrus_bodies.specs.Declarations.{declarations_of}
-use Rattle.walrus_text.specs.Plain.{are_plain, is_plain_arg, is_plain_op}
-use Rattle.walrus_text.specs.Scanned.{AreInPlace, IsPlace, IsScanned, LieFrom, count_in}
-use Rattle.walrus_text.specs.Text.{locations_in, ops_in}
+use Rattle.walrus_bodies.specs.Plain.{are_plain, is_plain_arg, is_plain_op}
+use Rattle.walrus_bodies.specs.Scanned.{AreInPlace, IsPlace, IsScanned, LieFrom, count_in}
+use Rattle.walrus_bodies.specs.Text.{locations_in, ops_in}
 use Rattle.walrus_functions.specs.Handlers.{OpenBlock, Try, OtherBlock, blocks_after, handler_at, handlers_from, handlers_of}
 use Rattle.walrus_functions.specs.Plain.{IsPlainRead, total}
 use Rattle.walrus_functions.specs.ReadFunction.{ReadsFunction, Slots, locals_from}
 use Rattle.walrus_functions.specs.declared.plain.PlainBody.{PlainBody}
-use Rattle.walrus_functions.proofs.GivenLemmas.{same_places}
+use Rattle.std.proofs.lemmas.Bool.{false≢true as untrue}
+use Rattle.walrus_bodies.proofs.BodyLemmas.{same_places}
+use Rattle.walrus_bodies.proofs.LocatedLemmas.{and_left as first_true, and_right as second_true}
 
 -- ---- what is found
 
@@ -129,9 +131,6 @@ plain_located limits holds first params start bytes plain known =
 
 -- ---- it has no handlers
 
-untrue : false ≡ true → ⊥
-untrue e = cc
-
 no_catch : (op : ℕ) → is_plain op ≡ true → (nat_eq op CATCH ≡ false) × (nat_eq op CATCH_ALL ≡ false)
 no_catch op plain = by_tests (nat_eq op TRY) (nat_eq op CATCH) (nat_eq op RETHROW) (nat_eq op DELEGATE) (nat_eq op CATCH_ALL) (nat_eq op REF_FUNC) _ plain
   where
@@ -142,14 +141,6 @@ no_catch op plain = by_tests (nat_eq op TRY) (nat_eq op CATCH) (nat_eq op RETHRO
     by_tests false false false true is_catch_all is_ref others plain = absurd (untrue plain)
     by_tests false false false false true is_ref others plain = absurd (untrue plain)
     by_tests false false false false false is_ref others plain = (refl, refl)
-
-first_true : (a b : Bool) → (a && b) ≡ true → a ≡ true
-first_true true b e = refl
-first_true false b e = e
-
-second_true : (a b : Bool) → (a && b) ≡ true → b ≡ true
-second_true true b e = e
-second_true false b e = absurd (untrue e)
 
 module _ (types : ℕ → Option TypeDef) (tags : ℕ → Option ℕ) where
   none_at : (blocks : List OpenBlock) (o : Op) → is_plain o.op ≡ true → handler_at types tags blocks o ≡ []

@@ -1,23 +1,15 @@
 -- The types of locals, and the locals that are declared.
-use Rattle.std.proofs.Common.{◌≡◌, ℕ, zero, suc, ◌<◌, ◌⊎◌, ⊎_elim, inl, inr, Bool, true, false, List, [], ◌∷◌, ◌++◌, length, map, Option, Some, None, refl, sym, ap, ap₂, ◌∙◌, subst, arith}
-use Rattle.std.specs.Prelude.{slice_index_or, option_map, All, Contains}
+use Rattle.std.proofs.Common.{◌≡◌, ℕ, zero, suc, ◌<◌, ◌⊎◌, ⊎_elim, inl, inr, Bool, true, false, List, [], ◌∷◌, ◌++◌, length, map, Option, Some, None, sym, ap, ap₂, ◌∙◌, subst, arith}
+use Rattle.std.specs.Prelude.{slice_index_or, All, Contains}
 use Rattle.std.proofs.lemmas.List.Elements.{All-push, All-weaker, Contains-append_left, Contains-push, Contains-push_cases}
 use Rattle.walrus_base.specs.Arena.{item_at}
 use Rattle.walrus_base.specs.Types.{ValType}
 use Rattle.walrus_functions.specs.Declaring.{AreTyped}
-
--- what is seen of a slot
-pub item_at-map : {A B : Type 0} (f : A → B) (slots : List (Option A)) (i : ℕ) → item_at (map (option_map f) slots) i ≡ option_map f (item_at slots i)
-item_at-map f [] i = refl
-item_at-map f (x ∷ xs) zero = refl
-item_at-map f (x ∷ xs) (suc i) = item_at-map f xs i
+use Rattle.walrus_base.proofs.FunctionSame.{cons_tail as tail_same}
 
 none_next : {B : Type 0} (o : Option B) (rest : List (Option B)) (ys : List B) → o ≡ None → o ∷ rest ≡ map Some ys → ⊥
 none_next o rest [] none h = absurd cc
 none_next o rest (y ∷ ys) none h = let there : o ≡ Some y = cc in absurd cc
-
-tail_same : {B : Type 0} (x y : B) (xs ys : List B) → x ∷ xs ≡ y ∷ ys → xs ≡ ys
-tail_same x y xs ys h = cc
 
 -- where one isn't there, not all are
 pub not_there : {A C B : Type 0} (h : A → C) (f : C → Option B) (xs : List A) (i : ℕ) (d : A) → i < length xs → f (h (slice_index_or xs i d)) ≡ None → (ys : List B) → map f (map h xs) ≡ map Some ys → ⊥

@@ -3,11 +3,11 @@ use Rattle.std.proofs.Common.{◌≡◌, ℕ, Bool, true, false, Option, refl, s
 use Rattle.std.proofs.Math.Path.{fun_ext}
 use Rattle.std.specs.HashMap.{HashMap, get_by}
 use Rattle.walrus_base.specs.Types.{ValType, I32, I64, F32, F64, V128, Ref}
-use Rattle.walrus_types.specs.Value.{val_type}
-use Rattle.walrus_types.specs.declared.value.ValType.{ValType as DeclaredValType}
-use Rattle.walrus_types.specs.declared.value.ValType.TheVariants as declared_value
-use Rattle.walrus_types.specs.contracts.value.ValTypePartialEq.TheImpl as equality
-use Rattle.walrus_types.proofs.FunctionSame.{val_same}
+use Rattle.walrus_base.specs.Value.{val_type}
+use Rattle.walrus_base.specs.declared.value.ValType.{ValType as DeclaredValType}
+use Rattle.walrus_base.specs.declared.value.ValType.TheVariants as declared_value
+use Rattle.walrus_base.specs.contracts.value.ValTypePartialEq.TheImpl as equality
+use Rattle.walrus_base.proofs.FunctionSame.{val_same}
 use Rattle.walrus_functions.specs.Declaring.{number_at, lowest_of}
 use Rattle.walrus_functions.specs.declared.lowest.Lowest.{Lowest}
 

@@ -13,7 +13,7 @@ use Rattle.wasm_forms.specs.declared.types.RawVal.{RawVal}
 use Rattle.wasm_operators.specs.Spelling.{op_bytes}
 use Rattle.walrus_base.specs.Arena.{item_at}
 use Rattle.walrus_base.specs.Types.{ValType}
-use Rattle.walrus_types.specs.Operators.{locals_of}
+use Rattle.walrus_base.specs.Operators.{locals_of}
 use Rattle.walrus_code.specs.FromRaw.{ops_of}
 use Rattle.walrus_code.specs.Names.{LocalsLeadBack, named_ops}
 use Rattle.walrus_code.specs.declared.error.IrError.{IrError}
@@ -29,7 +29,7 @@ use Rattle.walrus_functions.specs.Writing.{HasSignature, FindsDeclared, LocalsDe
 use Rattle.walrus_functions.proofs.ApartLemmas.{grouped, locals_differ}
 use Rattle.walrus_functions.proofs.CountLemmas.{how_many, how_many_are, as_many, declarations_stand, read_back}
 use Rattle.walrus_functions.proofs.FitLemmas.{all_same}
-use Rattle.walrus_functions.proofs.NestLemmas.{nested_same, allowed_same}
+use Rattle.walrus_bodies.proofs.NestLemmas.{nested_same, allowed_same}
 use Rattle.walrus_functions.proofs.RunLemmas.{as_few}
 
 -- ---- places that differ
@@ -42,7 +42,7 @@ both : (P : ℕ → Type 0) (xs ys : List ℕ) → AllByRecursion P xs → AllBy
 both P [] ys h k = k
 both P (x ∷ xs) ys h k = (h.0, both P xs ys h.1 k)
 
-distinct-append : (xs ys : List ℕ) → IsDistinct nat_eq xs → IsDistinct nat_eq ys → ((x : ℕ) → Contains xs x → Contains ys x → ⊥) → IsDistinct nat_eq (xs ++ ys)
+pub distinct-append : (xs ys : List ℕ) → IsDistinct nat_eq xs → IsDistinct nat_eq ys → ((x : ℕ) → Contains xs x → Contains ys x → ⊥) → IsDistinct nat_eq (xs ++ ys)
 unfolding IsDistinct
 distinct-append [] ys h k apart = k
 distinct-append (x ∷ xs) ys h k apart =

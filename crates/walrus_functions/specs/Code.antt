@@ -1,11 +1,11 @@
 -- The operators of a body that is written, as they are held.
 use Rattle.std.specs.Prelude.{◌≡◌, Bool, true, false, List, length}
-use Rattle.walrus_types.specs.Operators.{Op, locals_of}
+use Rattle.walrus_base.specs.Operators.{Op, locals_of}
 use Rattle.walrus_code.specs.declared.location.InstrLocId.{InstrLocId}
-use Rattle.walrus_text.specs.Locals.{AreMarked}
-use Rattle.walrus_text.specs.Text.{first_local_of, local_count_of, locations_in, ops_in}
-use Rattle.walrus_text.specs.Function.{listed_in, located_in}
-use Rattle.walrus_text.specs.declared.text.Text.{Text}
+use Rattle.walrus_bodies.specs.Locals.{AreMarked}
+use Rattle.walrus_bodies.specs.Text.{first_local_of, local_count_of, locations_in, ops_in}
+use Rattle.walrus_bodies.specs.Function.{listed_in, located_in}
+use Rattle.walrus_bodies.specs.declared.text.Text.{Text}
 use Rattle.walrus_functions.specs.declared.code.Code.{Code}
 use Rattle.walrus_functions.specs.declared.code.Code.TheVariants as codes
 

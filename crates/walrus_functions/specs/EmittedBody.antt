@@ -10,21 +10,21 @@ use Rattle.wasm_operators.specs.Spelling.{op_bytes}
 use Rattle.walrus_base.specs.Arena.{item_at}
 use Rattle.walrus_base.specs.Id.{place}
 use Rattle.walrus_base.specs.Types.{ValType, CompType, Func, Struct, Array}
-use Rattle.walrus_types.specs.Locals.{local_type, locals}
-use Rattle.walrus_types.specs.ModuleTypes.{type_slots}
-use Rattle.walrus_types.specs.Operators.{Op, locals_of}
-use Rattle.walrus_types.specs.Shape.{place_in}
-use Rattle.walrus_types.specs.TypeDef.{TypeDef}
-use Rattle.walrus_types.specs.Value.{val_type}
-use Rattle.walrus_types.specs.declared.locals.Local.{Local}
-use Rattle.walrus_types.specs.declared.locals.ModuleLocals.{ModuleLocals}
-use Rattle.walrus_types.specs.declared.module_types.ModuleTypes.{ModuleTypes}
+use Rattle.walrus_base.specs.Locals.{local_type, locals}
+use Rattle.walrus_base.specs.ModuleTypes.{type_slots}
+use Rattle.walrus_base.specs.Operators.{Op, locals_of}
+use Rattle.walrus_base.specs.Shape.{place_in}
+use Rattle.walrus_base.specs.TypeDef.{TypeDef}
+use Rattle.walrus_base.specs.Value.{val_type}
+use Rattle.walrus_base.specs.declared.locals.Local.{Local}
+use Rattle.walrus_base.specs.declared.locals.ModuleLocals.{ModuleLocals}
+use Rattle.walrus_base.specs.declared.module_types.ModuleTypes.{ModuleTypes}
 use Rattle.walrus_code.specs.FromRaw.{val_of, ops_of}
-use Rattle.walrus_text.specs.Function.{function_type, body_of, args_of}
+use Rattle.walrus_bodies.specs.Function.{function_type, body_of, args_of}
 use Rattle.walrus_code.specs.Indices.{index_of}
 use Rattle.walrus_code.specs.Names.{Lookup, LeadsBack, LocalsLeadBack, named_val, named_ops}
 use Rattle.walrus_code.specs.Results.{val_is_exact}
-use Rattle.walrus_text.specs.declared.function.LocalFunction.{LocalFunction}
+use Rattle.walrus_bodies.specs.declared.function.LocalFunction.{LocalFunction}
 use Rattle.walrus_code.specs.declared.numbering.IdsToIndices.{IdsToIndices}
 use Rattle.walrus_code.specs.declared.error.IrError.{IrError}
 use Rattle.walrus_code.specs.declared.error.IrError.TheVariants.{Malformed, Memory, NoIndex, NotWritable, TooLarge}

@@ -5,10 +5,10 @@ use Rattle.walrus_base.specs.Arena.{item_at}
 use Rattle.walrus_base.specs.Id.{place}
 use Rattle.walrus_base.specs.declared.id.Id.{Id}
 use Rattle.walrus_base.specs.declared.keys.TypeKey.{TypeKey}
-use Rattle.walrus_types.specs.Alone.{StandsFirst}
-use Rattle.walrus_types.specs.Composite.{FunctionType}
-use Rattle.walrus_types.specs.Operators.{BlockType, NoResult, OneResult, OfType}
-use Rattle.walrus_types.specs.TypeDef.{TypeDef}
+use Rattle.walrus_base.specs.Alone.{StandsFirst}
+use Rattle.walrus_base.specs.Composite.{FunctionType}
+use Rattle.walrus_base.specs.Operators.{BlockType, NoResult, OneResult, OfType}
+use Rattle.walrus_base.specs.TypeDef.{TypeDef}
 use Rattle.walrus_functions.specs.ReadFunction.{Slots, AddsTypes}
 use Rattle.walrus_functions.specs.Signatures.{pair_of, pair_type}
 use Rattle.walrus_functions.specs.declared.handlers.HandlerTypes.{HandlerTypes}

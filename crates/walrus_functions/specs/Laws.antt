@@ -2,8 +2,8 @@
 use Rattle.std.specs.Prelude.{◌≡◌, ℕ, List, ◌++◌, map, Option, Some, slice_get}
 use Rattle.walrus_base.specs.Arena.{item_at}
 use Rattle.walrus_base.specs.Types.{ValType}
-use Rattle.walrus_types.specs.Operators.{Op}
-pub use Rattle.walrus_text.specs.Placed.{moved_arg, moved_op}
+use Rattle.walrus_base.specs.Operators.{Op}
+pub use Rattle.walrus_bodies.specs.Placed.{moved_arg, moved_op}
 use Rattle.walrus_code.specs.Names.{Lookup}
 use Rattle.walrus_bodies.specs.Body.{Context, context, BodyReads}
 use Rattle.walrus_functions.specs.EmittedBody.{Source, FitsType, CantBeWritten}

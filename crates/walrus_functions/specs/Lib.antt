@@ -19,11 +19,13 @@ pub use Rattle.walrus_code.specs.FromRaw
 pub use Rattle.walrus_code.specs.Names
 pub use Rattle.walrus_code.specs.Transform
 pub use Rattle.walrus_bodies.specs.Blocks
-pub use Rattle.walrus_text.specs.Classes
-pub use Rattle.walrus_text.specs.Function
-pub use Rattle.walrus_text.specs.Plain as PlainBodies
-pub use Rattle.walrus_text.specs.PlainCode
-pub use Rattle.walrus_text.specs.Scanned
-pub use Rattle.walrus_text.specs.Text
-pub use Rattle.walrus_text.specs.contracts.function.LocalFunction as FunctionRow
-pub use Rattle.walrus_text.specs.declared.function.LocalFunction
+pub use Rattle.walrus_bodies.specs.Classes
+pub use Rattle.walrus_bodies.specs.Function
+pub use Rattle.walrus_bodies.specs.Plain as PlainBodies
+pub use Rattle.walrus_bodies.specs.PlainCode
+pub use Rattle.walrus_bodies.specs.Scanned
+pub use Rattle.walrus_bodies.specs.Text
+pub use Rattle.walrus_bodies.specs.contracts.function.LocalFunction as FunctionRow
+pub use Rattle.walrus_bodies.specs.declared.function.LocalFunction
+pub use Rattle.walrus_bodies.specs.declared.blocks.Opened
+pub use Rattle.walrus_bodies.specs.Features as AllowedFeatures

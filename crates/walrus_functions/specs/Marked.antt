@@ -1,6 +1,6 @@
 -- Places that are marked in a window, which begins at one of them.
 use Rattle.std.specs.Prelude.{◌++◌, ℕ, suc, Bool, true, false, List, [], ◌∷◌}
-pub use Rattle.walrus_text.specs.Locals.{AreMarked}
+pub use Rattle.walrus_bodies.specs.Locals.{AreMarked}
 
 -- these places are marked beside those that were
 abbrev pub Marks : ℕ → List Bool → List Bool → List ℕ → Type 0

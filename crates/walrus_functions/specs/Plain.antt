@@ -2,12 +2,12 @@
 use Rattle.std.specs.Prelude.{◌≡◌, ℕ, ◌+◌, ◌-◌, ◌^◌, Bool, true, List, [], ◌∷◌, ◌++◌, length, min, Option, Some}
 use Rattle.wasm_forms.specs.Grammar.{Is}
 use Rattle.wasm_forms.specs.declared.types.RawVal.{RawVal}
-use Rattle.walrus_text.specs.Limits.{Limits}
+use Rattle.walrus_bodies.specs.Limits.{Limits}
 use Rattle.walrus_bodies.specs.Blocks.{blocks_hold}
 use Rattle.walrus_bodies.specs.Body.{declarations}
 use Rattle.walrus_bodies.specs.Declarations.{declarations_of}
-use Rattle.walrus_text.specs.Scanned.{IsScanned}
-use Rattle.walrus_text.specs.Text.{ops_in}
+use Rattle.walrus_bodies.specs.Scanned.{IsScanned}
+use Rattle.walrus_bodies.specs.Text.{ops_in}
 use Rattle.walrus_functions.specs.declared.plain.PlainBody.{PlainBody}
 
 -- how many locals are declared

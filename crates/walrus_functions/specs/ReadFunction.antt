@@ -7,19 +7,19 @@ use Rattle.walrus_base.specs.Id.{place}
 use Rattle.walrus_base.specs.Types.{ValType}
 use Rattle.walrus_base.specs.declared.id.Id.{Id}
 use Rattle.walrus_base.specs.declared.keys.LocalKey.{LocalKey}
-use Rattle.walrus_types.specs.Alone.{FoundOrAdded}
-use Rattle.walrus_types.specs.Composite.{FunctionType}
-use Rattle.walrus_types.specs.Operators.{Op}
-use Rattle.walrus_types.specs.TypeDef.{TypeDef}
-use Rattle.walrus_types.specs.Value.{val_type}
-use Rattle.walrus_types.specs.declared.locals.Local.{Local}
-use Rattle.walrus_types.specs.declared.value.ValType.{ValType as DeclaredValType}
-use Rattle.walrus_text.specs.Function.{function_type, name_of, body_of, args_of, handlers_in}
+use Rattle.walrus_base.specs.Alone.{FoundOrAdded}
+use Rattle.walrus_base.specs.Composite.{FunctionType}
+use Rattle.walrus_base.specs.Operators.{Op}
+use Rattle.walrus_base.specs.TypeDef.{TypeDef}
+use Rattle.walrus_base.specs.Value.{val_type}
+use Rattle.walrus_base.specs.declared.locals.Local.{Local}
+use Rattle.walrus_base.specs.declared.value.ValType.{ValType as DeclaredValType}
+use Rattle.walrus_bodies.specs.Function.{function_type, name_of, body_of, args_of, handlers_in}
 use Rattle.walrus_code.specs.declared.location.InstrLocId.{InstrLocId}
-use Rattle.walrus_text.specs.Scanned.{IsPlace}
+use Rattle.walrus_bodies.specs.Scanned.{IsPlace}
 use Rattle.walrus_code.specs.declared.error.IrError.{IrError}
 use Rattle.walrus_code.specs.declared.error.IrError.TheVariants.{Malformed, Memory, NoIndex, NotWritable, TooLarge}
-use Rattle.walrus_text.specs.declared.function.LocalFunction.{LocalFunction}
+use Rattle.walrus_bodies.specs.declared.function.LocalFunction.{LocalFunction}
 use Rattle.walrus_bodies.specs.Body.{Context, BodyReads}
 use Rattle.walrus_bodies.specs.BodyRead.{AddsLocals}
 use Rattle.walrus_functions.specs.Handlers.{params_of, handlers_of}

@@ -4,8 +4,8 @@ use Rattle.std.specs.List.{IsDistinct}
 use Rattle.wasm_forms.specs.declared.types.RawVal.{RawVal}
 use Rattle.walrus_base.specs.Arena.{item_at}
 use Rattle.walrus_base.specs.Types.{ValType}
-use Rattle.walrus_types.specs.Operators.{Op}
-use Rattle.walrus_types.specs.TypeDef.{TypeDef}
+use Rattle.walrus_base.specs.Operators.{Op}
+use Rattle.walrus_base.specs.TypeDef.{TypeDef}
 use Rattle.walrus_code.specs.Names.{Lookup, named_val, named_ops}
 use Rattle.walrus_code.specs.Results.{val_is_exact}
 use Rattle.walrus_code.specs.declared.error.IrError.{IrError}

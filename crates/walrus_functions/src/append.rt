@@ -2,12 +2,12 @@
 ghost use Rattle.std.specs.Prelude.{◌≡◌, ◌<◌, ◌+◌, ◌++◌, ◌^◌, ◌↔◌, [], ℕ, List, Option, Some, length, map, IfOk, IsTrue};
 ghost use Rattle.walrus_base.specs.Arena.{item_at};
 ghost use Rattle.walrus_base.specs.Id.{place};
-ghost use Rattle.walrus_types.specs.Operators.{locals_of};
-ghost use Rattle.walrus_types.specs.Locals.{locals};
-ghost use Rattle.walrus_types.specs.ModuleTypes.{type_slots};
-ghost use Rattle.walrus_text.specs.Function.{as_text, arg_count_of, body_of, locations_of};
-ghost use Rattle.walrus_text.specs.Locals.{AreMarked};
-ghost use Rattle.walrus_text.specs.Text.{first_local_of, local_count_of, locations_in, ops_in};
+ghost use Rattle.walrus_base.specs.Operators.{locals_of};
+ghost use Rattle.walrus_base.specs.Locals.{locals};
+ghost use Rattle.walrus_base.specs.ModuleTypes.{type_slots};
+ghost use Rattle.walrus_bodies.specs.Function.{as_text, arg_count_of, body_of, locations_of};
+ghost use Rattle.walrus_bodies.specs.Locals.{AreMarked};
+ghost use Rattle.walrus_bodies.specs.Text.{first_local_of, local_count_of, locations_in, ops_in};
 ghost use Rattle.walrus_code.specs.Indices.{index_of};
 ghost use Rattle.walrus_bodies.specs.Declarations.{declarations_of};
 ghost use Rattle.walrus_bodies.specs.declared.features.Features.{Features as Proposals};
@@ -20,11 +20,9 @@ use crate::code::{Code, code_of};
 use crate::emit::{append_all, declare, parameters_fit};
 use crate::kept::keeps_indices;
 use std::alloc::Global;
-use walrus_base::{LocalId, TypeId};
-use walrus_bodies::{Declaration, Features};
+use walrus_base::{LocalId, ModuleLocals, ModuleTypes, TypeId};
+use walrus_bodies::{Declaration, Features, LocalFunction, Text};
 use walrus_code::{IdsToIndices, IrError};
-use walrus_text::{LocalFunction, Text};
-use walrus_types::{ModuleLocals, ModuleTypes};
 use wasm_forms::write_vector;
 
 /// What is known of a body that was appended.

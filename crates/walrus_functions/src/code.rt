@@ -1,25 +1,23 @@
 //! The operators of a body that is written, as they are held (Binary Format > Instructions).
 ghost use Rattle.std.specs.Prelude.{◌≡◌, ◌++◌, ℕ, List, true, map, IfOk};
 ghost use Rattle.walrus_base.specs.Id.{place};
-ghost use Rattle.walrus_types.specs.Operators.{locals_of};
-ghost use Rattle.walrus_text.specs.Function.{body_of, locations_of};
+ghost use Rattle.walrus_base.specs.Operators.{locals_of};
+ghost use Rattle.walrus_bodies.specs.Function.{body_of, locations_of};
 ghost use Rattle.walrus_code.specs.Indices.{index_of, local_index};
 ghost use Rattle.walrus_bodies.specs.Blocks.{blocks_hold};
 ghost use Rattle.walrus_bodies.specs.Emitting.{EmitsOperators};
 ghost use Rattle.walrus_bodies.specs.FunctionTypes.{is_function_at};
 ghost use Rattle.walrus_bodies.specs.Results.{kept_if};
-ghost use Rattle.walrus_text.specs.Text.{ops_in};
+ghost use Rattle.walrus_bodies.specs.Text.{ops_in};
 ghost use Rattle.walrus_functions.specs.Code.{AreFlags, IsFlagged, is_listed, locations_of_code, ops_of_code};
 ghost use Rattle.walrus_functions.specs.Declaring.{AreOnce};
 
 use crate::declared::named_once;
 use crate::marks::marked_locals;
 use std::alloc::{AllocError, Global};
-use walrus_base::LocalId;
-use walrus_bodies::{Features, append_operators, blocks_hold};
+use walrus_base::{LocalId, ModuleTypes};
+use walrus_bodies::{Features, LocalFunction, Operators, Text, append_operators, blocks_hold};
 use walrus_code::{IdsToIndices, InstrLocId, IrError, LocalNumbers};
-use walrus_text::{LocalFunction, Operators, Text};
-use walrus_types::ModuleTypes;
 
 // The operators of a body.
 #[derive(Drop)]

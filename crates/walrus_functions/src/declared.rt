@@ -1,14 +1,13 @@
 //! The locals that a body declares when it is written, in their order (Binary Format > Modules > Code Section).
-ghost use Rattle.std.specs.Prelude.{◌≡◌, ℕ, List, map, option_map, IfOk, MatchOption};
+ghost use Rattle.std.specs.Prelude.{◌≡◌, ℕ, List, map, option_map, IfOk, MatchOption, nat_eq};
 ghost use Rattle.std.specs.List.{IsDistinct, list_any};
 ghost use Rattle.std.specs.List.Sorted.{IsStrictlySortedBy};
 ghost use Rattle.std.specs.Ordering.{nat_cmp};
-ghost use Rattle.std.specs.Prelude.{nat_eq};
 ghost use Rattle.walrus_base.specs.Arena.{item_at};
 ghost use Rattle.walrus_base.specs.Id.{place};
-ghost use Rattle.walrus_types.specs.Locals.{locals};
-ghost use Rattle.walrus_types.specs.Operators.{locals_of};
-ghost use Rattle.walrus_types.specs.Value.{val_type};
+ghost use Rattle.walrus_base.specs.Locals.{locals};
+ghost use Rattle.walrus_base.specs.Operators.{locals_of};
+ghost use Rattle.walrus_base.specs.Value.{val_type};
 ghost use Rattle.walrus_code.specs.Code.{ops_of};
 ghost use Rattle.walrus_functions.specs.DeclaredLocals.{rank, AreDeclared};
 ghost use Rattle.walrus_functions.specs.Declaring.{HasPlaces, is_taken, AreOnce, AreTyped, same_local, typed, AreLowest, lowest_of, key_of, AreTypes, AreInOrder};
@@ -18,9 +17,8 @@ use crate::lowest::Lowest;
 use crate::marks::{mark_named, marked_locals, named_window, no_marks};
 use crate::taken::TakenPlaces;
 use std::alloc::{AllocError, Global};
-use walrus_base::LocalId;
+use walrus_base::{LocalId, ModuleLocals, ValType};
 use walrus_code::{Operator, push_locals};
-use walrus_types::{ModuleLocals, ValType};
 
 // The places of locals; none where one stands among them twice.
 pub(crate) fn distinct_places(

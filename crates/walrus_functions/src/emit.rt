@@ -2,10 +2,10 @@
 ghost use Rattle.std.specs.Prelude.{◌≡◌, ◌<◌, ◌++◌, ◌↔◌, ◌^◌, [], ℕ, List, Option, true, length, map, All, IfOk, IsSome, IsTrue};
 ghost use Rattle.walrus_base.specs.Arena.{item_at};
 ghost use Rattle.walrus_base.specs.Id.{place};
-ghost use Rattle.walrus_types.specs.Operators.{locals_of};
-ghost use Rattle.walrus_types.specs.Locals.{locals};
-ghost use Rattle.walrus_types.specs.ModuleTypes.{type_slots};
-ghost use Rattle.walrus_text.specs.Function.{function_type, body_of, locations_of, args_of};
+ghost use Rattle.walrus_base.specs.Operators.{locals_of};
+ghost use Rattle.walrus_base.specs.Locals.{locals};
+ghost use Rattle.walrus_base.specs.ModuleTypes.{type_slots};
+ghost use Rattle.walrus_bodies.specs.Function.{function_type, body_of, locations_of, args_of};
 ghost use Rattle.walrus_code.specs.Indices.{index_of, local_index};
 ghost use Rattle.walrus_bodies.specs.Declarations.{declarations_of};
 ghost use Rattle.walrus_bodies.specs.Results.{kept_if};
@@ -18,11 +18,9 @@ use crate::code::{Code, append_code, code_holds, code_locals, code_of, likely_le
 use crate::declared::{distinct_places, order_declared, types_at, which_named};
 use crate::groups::{declarations, number_locals, runs};
 use std::alloc::{AllocError, Global};
-use walrus_base::LocalId;
-use walrus_bodies::{Declaration, Features};
+use walrus_base::{LocalId, ModuleLocals, ModuleTypes};
+use walrus_bodies::{Declaration, Features, LocalFunction};
 use walrus_code::{IdsToIndices, InstrLocId, IrError, LocalNumbers};
-use walrus_text::LocalFunction;
-use walrus_types::{ModuleLocals, ModuleTypes};
 use wasm_forms::write_vector;
 
 /// The body of a function as it is written.

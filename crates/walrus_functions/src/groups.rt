@@ -1,19 +1,17 @@
 //! The declarations of a body's locals (Binary Format > Modules > Code Section): one for each type.
-ghost use Rattle.std.specs.Prelude.{◌≡◌, ◌≤◌, ◌<◌, ◌-◌, ◌^◌, ◌∷◌, ℕ, length, map, IfOk};
-ghost use Rattle.std.specs.Prelude.{nat_eq};
+ghost use Rattle.std.specs.Prelude.{◌≡◌, ◌≤◌, ◌<◌, ◌-◌, ◌^◌, ◌∷◌, ℕ, length, map, IfOk, nat_eq};
 ghost use Rattle.std.specs.List.{IsDistinct};
 ghost use Rattle.walrus_base.specs.Id.{place};
-ghost use Rattle.walrus_types.specs.Shape.{place_in};
-ghost use Rattle.walrus_types.specs.Value.{val_type};
+ghost use Rattle.walrus_base.specs.Shape.{place_in};
+ghost use Rattle.walrus_base.specs.Value.{val_type};
 ghost use Rattle.walrus_code.specs.Indices.{index_of, local_index};
 ghost use Rattle.walrus_bodies.specs.Declarations.{declarations_of};
 ghost use Rattle.walrus_functions.specs.Declaring.{group_of, AreRuns, Declares};
 
 use std::alloc::{AllocError, Global};
-use walrus_base::LocalId;
+use walrus_base::{LocalId, ValType};
 use walrus_bodies::Declaration;
 use walrus_code::{IdsToIndices, IrError, LocalNumbers, index_value};
-use walrus_types::ValType;
 
 // The types, each with how often it stands there before another one comes.
 pub(crate) fn runs(alloc: Global, types: &[ValType]) -> Result<Vec<(u32, ValType)>, AllocError>

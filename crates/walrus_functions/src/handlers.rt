@@ -3,11 +3,11 @@ ghost use Rattle.std.specs.Prelude.{◌≡◌, ◌<◌, ◌∷◌, [], List, Opt
 ghost use Rattle.std.specs.List.{list_any};
 ghost use Rattle.walrus_base.specs.Arena.{item_at};
 ghost use Rattle.walrus_base.specs.Id.{place};
-ghost use Rattle.walrus_types.specs.Alone.{StandsFirst};
-ghost use Rattle.walrus_types.specs.Composite.{function_type};
-ghost use Rattle.walrus_types.specs.ModuleTypes.{type_slots};
-ghost use Rattle.walrus_types.specs.TypeDef.{TypeDef};
-ghost use Rattle.walrus_types.specs.Value.{val_type};
+ghost use Rattle.walrus_base.specs.Alone.{StandsFirst};
+ghost use Rattle.walrus_base.specs.Composite.{function_type};
+ghost use Rattle.walrus_base.specs.ModuleTypes.{type_slots};
+ghost use Rattle.walrus_base.specs.TypeDef.{TypeDef};
+ghost use Rattle.walrus_base.specs.Value.{val_type};
 ghost use Rattle.walrus_code.specs.Code.{arg_of, block_of, op_of, ops_of};
 ghost use Rattle.walrus_functions.specs.Handlers.{begins_handler, params_of, results_of, catch_type, handlers_of};
 ghost use Rattle.walrus_functions.specs.Known.{AddsIds, AreKnown, IsOfTypes, NotesOnly, are_below};
@@ -19,9 +19,8 @@ use crate::tag_and_try::{TagAndTry, TryType};
 use std::alloc::{AllocError, Global};
 use std::collections::BTreeMap;
 use std::slice;
-use walrus_base::TypeId;
+use walrus_base::{FunctionType, ModuleTypes, TypeId, ValType};
 use walrus_code::{Arg, BlockType, Operator};
-use walrus_types::{FunctionType, ModuleTypes, ValType};
 use wasm_opcodes::one_byte::{CATCH, CATCH_ALL};
 
 /// The types of legacy exception handlers that were found: their ids, by the types of their tags and of their tries.

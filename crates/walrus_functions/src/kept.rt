@@ -1,13 +1,12 @@
 //! Whether the locals of a body keep their indices when it is written (Binary Format > Modules > Code Section).
 ghost use Rattle.std.specs.Prelude.{◌≡◌, ◌≤◌, ◌<◌, ◌+◌, ◌^◌, length, true, IfSome, IsTrue};
 ghost use Rattle.walrus_base.specs.Id.{place};
-ghost use Rattle.walrus_types.specs.Locals.{locals};
+ghost use Rattle.walrus_base.specs.Locals.{locals};
 ghost use Rattle.walrus_functions.specs.EmittedBody.{types_of};
 ghost use Rattle.walrus_functions.specs.Kept.{KeepsIndices, rank_at};
 
 use crate::declared::{rank, type_at};
-use walrus_base::LocalId;
-use walrus_types::ModuleLocals;
+use walrus_base::{LocalId, ModuleLocals};
 
 // The rank of a local's type, if the local is used, isn't of a reference type, and its rank isn't below `least`.
 fn next_rank(module_locals: &ModuleLocals, id: LocalId, is_used: bool, least: u8) -> Option<u8>

@@ -25,9 +25,3 @@ pub use handlers::HandlerTypes;
 pub use law::{bodies_read_once, declared_in_one_order, locals_move, unwritable_is_ill_formed};
 pub use plain::scan_body;
 pub use read::{add_locals, read_body, read_body_with};
-pub use walrus_bodies::Features;
-pub use walrus_code::{
-    Arg, Args, BlockType, IdsToIndices, IndexSpace, IndicesToIds, InstrLocId, IrError, ItemId,
-    LocalNumbers, Numbering, Operator,
-};
-pub use walrus_text::{Limits, LocalFunction, Operators, PlainCode, ScanRoom, limits_of};

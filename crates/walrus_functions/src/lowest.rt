@@ -1,11 +1,11 @@
 //! The lowest local of each type.
 ghost use Rattle.std.specs.Prelude.{◌≡◌, IfOk, None, Some, if◌then◌else◌};
-ghost use Rattle.walrus_types.specs.contracts.value.ValTypePartialEq.TheImpl as equality;
+ghost use Rattle.walrus_base.specs.contracts.value.ValTypePartialEq.TheImpl as equality;
 ghost use Rattle.walrus_functions.specs.Declaring.{lower, lowest_of, number_at};
 
 use std::alloc::{AllocError, Global};
 use std::collections::HashMap;
-use walrus_types::ValType;
+use walrus_base::ValType;
 
 // The lowest local of each type. The number types and the vector type are found without a hash.
 #[derive(Drop)]

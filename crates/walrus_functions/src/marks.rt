@@ -1,7 +1,7 @@
 //! The locals that operators name, by marks in a window over their places.
 ghost use Rattle.std.specs.Prelude.{◌≡◌, ◌≤◌, ◌<◌, ◌+◌, ◌*◌, ◌^◌, ◌++◌, ◌∷◌, [], ℕ, flat_map, length, map, option_to_list, IfOk, IsTrue};
 ghost use Rattle.walrus_base.specs.Id.{place};
-ghost use Rattle.walrus_types.specs.Operators.{arg_locals, locals_of};
+ghost use Rattle.walrus_base.specs.Operators.{arg_locals, locals_of};
 ghost use Rattle.walrus_code.specs.Code.{arg_of, ops_of};
 ghost use Rattle.walrus_functions.specs.Marked.{AreMarked, Marks, marked};
 

@@ -2,18 +2,18 @@
 ghost use Rattle.std.specs.Prelude.{◌≡◌, ◌+◌, ℕ, List, Option, true, IfOk, IfSome, length};
 ghost use Rattle.walrus_base.specs.Arena.{item_at};
 ghost use Rattle.walrus_base.specs.Id.{place};
-ghost use Rattle.walrus_types.specs.Locals.{locals};
-ghost use Rattle.walrus_types.specs.ModuleTypes.{type_slots};
+ghost use Rattle.walrus_base.specs.Locals.{locals};
+ghost use Rattle.walrus_base.specs.ModuleTypes.{type_slots};
 ghost use Rattle.walrus_code.specs.Indices.{ids_at};
-ghost use Rattle.walrus_text.specs.Function.{locations_of};
+ghost use Rattle.walrus_bodies.specs.Function.{locations_of};
 ghost use Rattle.walrus_bodies.specs.Body.{context};
 ghost use Rattle.walrus_bodies.specs.BodyRead.{BodyLocated};
 ghost use Rattle.walrus_bodies.specs.Declarations.{declarations_of};
 ghost use Rattle.walrus_bodies.specs.FunctionTypes.{is_function_at};
 ghost use Rattle.walrus_bodies.specs.declared.features.Features.{Features as Proposals};
-ghost use Rattle.walrus_text.specs.Limits.{Limits as Limited};
-ghost use Rattle.walrus_text.specs.PlainCode.{limits_in};
-ghost use Rattle.walrus_text.specs.Scanned.{AreInPlace, IsPlace};
+ghost use Rattle.walrus_bodies.specs.Limits.{Limits as Limited};
+ghost use Rattle.walrus_bodies.specs.PlainCode.{limits_in};
+ghost use Rattle.walrus_bodies.specs.Scanned.{AreInPlace, IsPlace};
 ghost use Rattle.walrus_functions.specs.Handlers.{params_of};
 ghost use Rattle.walrus_functions.specs.Plain.{IfPlain, IsPlainRead, total};
 ghost use Rattle.walrus_functions.specs.ReadFunction.{ReadsFunction, StaysInFront};
@@ -22,11 +22,11 @@ ghost use Rattle.walrus_functions.specs.Signatures.{slots_of};
 use crate::read::add_locals;
 use std::alloc::{AllocError, Global};
 use std::rc::Rc;
-use walrus_base::TypeId;
-use walrus_bodies::{Declaration, declare, read_declarations};
+use walrus_base::{ModuleLocals, ModuleTypes, TypeId};
+use walrus_bodies::{
+    Declaration, LocalFunction, PlainCode, ScanRoom, Text, declare, read_declarations,
+};
 use walrus_code::{IndicesToIds, IrError};
-use walrus_text::{LocalFunction, PlainCode, ScanRoom, Text};
-use walrus_types::{ModuleLocals, ModuleTypes};
 
 // A body that is kept as it stands: how many parameters its function has, the locals that it declares, and its operators.
 #[derive(Drop)]

@@ -2,15 +2,15 @@
 ghost use Rattle.std.specs.Prelude.{◌≡◌, true, IfOk, IfSome, OnOk};
 ghost use Rattle.std.specs.Fn.{FnReturnsAt};
 ghost use Rattle.walrus_base.specs.Id.{place};
-ghost use Rattle.walrus_types.specs.Locals.{locals};
-ghost use Rattle.walrus_types.specs.ModuleTypes.{type_slots};
+ghost use Rattle.walrus_base.specs.Locals.{locals};
+ghost use Rattle.walrus_base.specs.ModuleTypes.{type_slots};
 ghost use Rattle.walrus_code.specs.Indices.{ids_at};
-ghost use Rattle.walrus_text.specs.Function.{locations_of};
+ghost use Rattle.walrus_bodies.specs.Function.{locations_of};
 ghost use Rattle.walrus_bodies.specs.Body.{context};
 ghost use Rattle.walrus_bodies.specs.BodyRead.{AddsLocals, BodyLocated};
 ghost use Rattle.walrus_bodies.specs.FunctionTypes.{is_function_at};
-ghost use Rattle.walrus_text.specs.PlainCode.{limits_in};
-ghost use Rattle.walrus_text.specs.Scanned.{AreInPlace};
+ghost use Rattle.walrus_bodies.specs.PlainCode.{limits_in};
+ghost use Rattle.walrus_bodies.specs.Scanned.{AreInPlace};
 ghost use Rattle.walrus_functions.specs.Known.{IsOfTypes};
 ghost use Rattle.walrus_functions.specs.ReadFunction.{Given, ReadsFunction, StaysInFront};
 ghost use Rattle.walrus_functions.specs.Signatures.{slots_of, tag_places};
@@ -19,11 +19,9 @@ use crate::handlers::{HandlerTypes, add_handler_types};
 use crate::plain::{find_plain, take_plain};
 use std::alloc::{AllocError, Global};
 use std::rc::Rc;
-use walrus_base::{LocalId, TypeId};
-use walrus_bodies::{Features, read_body_over};
+use walrus_base::{LocalId, ModuleLocals, ModuleTypes, TypeId, ValType};
+use walrus_bodies::{Features, LocalFunction, PlainCode, read_body_over};
 use walrus_code::{IndicesToIds, InstrLocId, IrError};
-use walrus_text::{LocalFunction, PlainCode};
-use walrus_types::{ModuleLocals, ModuleTypes, ValType};
 
 /// Reads the body of a function of a type from its bytes, which begin at `start` of the input. Its parameters and then its declared locals
 /// are added to `module_locals`. The types of its legacy exception handlers are found among the types, or added to them: for a `catch` of a tag

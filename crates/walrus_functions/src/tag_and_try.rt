@@ -3,9 +3,8 @@ ghost use Rattle.std.specs.Prelude.{◌≡◌, option_map};
 ghost use Rattle.walrus_base.specs.Id.{place};
 ghost use Rattle.walrus_functions.specs.Known.{is_below};
 
-use walrus_base::TypeId;
+use walrus_base::{TypeId, ValType};
 use walrus_code::BlockType;
-use walrus_types::ValType;
 
 /// The type of a legacy `try`, which is that of a block.
 #[derive(Clone, Copy, PartialEq, Eq, PartialOrd, Ord)]

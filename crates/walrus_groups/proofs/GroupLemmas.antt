@@ -11,11 +11,11 @@ use Rattle.walrus_base.specs.Id.{place}
 use Rattle.walrus_base.specs.Types.{SubType}
 use Rattle.walrus_base.specs.declared.id.Id.{Id}
 use Rattle.walrus_base.specs.declared.keys.TypeKey.{TypeKey}
-use Rattle.walrus_types.specs.Composite.{new_sub}
-use Rattle.walrus_types.specs.Operators.{Types}
-use Rattle.walrus_types.specs.TypeDef.{TypeDef}
-use Rattle.walrus_types.specs.TypeSlots.{new_group}
-use Rattle.walrus_types.specs.declared.composite.NewType.{NewType}
+use Rattle.walrus_base.specs.Composite.{new_sub}
+use Rattle.walrus_base.specs.Operators.{Types}
+use Rattle.walrus_base.specs.TypeDef.{TypeDef}
+use Rattle.walrus_base.specs.TypeSlots.{new_group}
+use Rattle.walrus_base.specs.declared.composite.NewType.{NewType}
 use Rattle.walrus_code.specs.Indices.{places_in, ids_at}
 use Rattle.walrus_code.specs.Results.{Finds}
 use Rattle.walrus_code.specs.declared.error.IrError.{IrError}
@@ -25,6 +25,7 @@ use Rattle.walrus_groups.specs.Groups.{sub_of, members_of, types_from, NamesBelo
 use Rattle.walrus_groups.specs.Named.{each}
 use Rattle.walrus_groups.specs.Reading.{read_sub, RefusedAsTooMany}
 use Rattle.walrus_groups.proofs.Kept.{kept-subs, range-here, range-none}
+use Rattle.wasm_forms.proofs.Bind.{some_same as some_inside}
 
 -- ---- where the ids of a group lie
 
@@ -65,9 +66,6 @@ members_stood first g = at first (length g) (length (map sub_of g)) (sym (length
     at : (first n m : ℕ) → n ≡ m → (g : Group) → map {B = Option TypeDef} (λ x. Some x) (map (λ s. record { group = range_with_len first n; sub = sub_of s }) g) ≡ map {B = Option TypeDef} (λ s. Some (record { group = range_with_len first m; sub = s })) (map sub_of g)
     at first n m h [] = refl
     at first n m h (s ∷ g) = ap₂ (λ x xs. x ∷ xs) (ap (λ (k : ℕ). Some (record { group = range_with_len first k; sub = sub_of s })) h) (at first n m h g)
-
-some_inside : {X : Type 0} (x y : X) → Some x ≡ Some y → x ≡ y
-some_inside x y h = cc
 
 -- the members that were found are those of the group
 same_subs : (indices : IndicesToIds) (end : ℕ) (g : Group) (members : List NewType) → places_in indices Types ≡ range_with_len 0 end → each (read_sub (ids_at indices)) (map sub_of g) ≡ Some (map new_sub members) → All (λ s. NamesBelow end (sub_of s)) g × (map new_sub members ≡ map sub_of g)

@@ -11,7 +11,7 @@ use Rattle.std.proofs.lemmas.Option.{slice_get-get_or, slice_get_past}
 use Rattle.wasm_forms.specs.Reading.{◌>>=◌}
 use Rattle.wasm_entries.specs.Record.{Sub}
 use Rattle.walrus_base.specs.Types.{HeapType, OfHeap, Concrete, Exact, ValType, I32, I64, F32, F64, V128, Ref, StorageType, Unpacked, I8, I16, FieldType, CompType, Func, Struct, Array, SubType, val_heaps, storage_heaps, field_heaps, heap_names, comp_names}
-use Rattle.walrus_types.specs.Operators.{Types}
+use Rattle.walrus_base.specs.Operators.{Types}
 use Rattle.walrus_code.specs.Names.{Lookup, named_heap, named_val}
 use Rattle.walrus_groups.specs.Groups.{sub_of, NamesBelow}
 use Rattle.walrus_groups.specs.Named.{each, named_vals, named_storage, named_field, named_fields, named_comp}
@@ -22,11 +22,11 @@ pub record Kept {X : Type 0} (P : Type 0) (found : Option X) (x : X) : Type 0 wh
   pub stays : P → found ≡ Some x
   pub holds : (y : X) → found ≡ Some y → P
 
-All-front : {Z : Type 0} (P : Z → Type 0) (xs ys : List Z) → All P (xs ++ ys) → All P xs
+pub All-front : {Z : Type 0} (P : Z → Type 0) (xs ys : List Z) → All P (xs ++ ys) → All P xs
 All-front P [] ys h = All-nil P
 All-front P (x ∷ xs) ys h = All-cons P x xs (All-head P x (xs ++ ys) h) (All-front P xs ys (All-tail P x (xs ++ ys) h))
 
-All-back : {Z : Type 0} (P : Z → Type 0) (xs ys : List Z) → All P (xs ++ ys) → All P ys
+pub All-back : {Z : Type 0} (P : Z → Type 0) (xs ys : List Z) → All P (xs ++ ys) → All P ys
 All-back P [] ys h = h
 All-back P (x ∷ xs) ys h = All-back P xs ys (All-tail P x (xs ++ ys) h)
 

@@ -1,11 +1,14 @@
 mod Each
-mod Kept
+pub mod Kept
 mod GroupLemmas
-mod OrderWhole
+pub mod OrderWhole
 mod WrittenEach
-mod WrittenLists
-mod WrittenCauses
+pub mod WrittenCauses
 mod WrittenWalk
 mod WrittenTurns
 mod WrittenWhole
 mod Unnamed
+pub mod TypeLists
+pub mod OneGroup
+pub mod OneList
+pub mod Loops

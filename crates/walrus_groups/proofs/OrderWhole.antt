@@ -3,22 +3,22 @@ use Rattle.std.proofs.Common.{◌≡◌, ℕ, zero, suc, ◌+◌, ◌-◌, ◌<�
 use Rattle.std.specs.Prelude.{Contains, ◌↔◌, nat_le, nat_lt}
 use Rattle.std.specs.List.{list_all, range_with_len}
 use Rattle.std.specs.Bool.{OnFalse}
-use Rattle.std.proofs.lemmas.Bool.{false≢true, ltb-true, lt-ltb, leb-true, le-leb, ltb-false, OnFalse_from}
+use Rattle.std.proofs.lemmas.Bool.{false≢true, ltb-true, lt-ltb, leb-true, le-leb, ltb-false, OnFalse_from, and_parts as both, and_from as and_true, and_cases as one_of_two}
 use Rattle.std.proofs.lemmas.List.Folds.{list_all-append}
-use Rattle.std.proofs.lemmas.List.FromFn.{length-range_with_len, get_or-range_with_len}
 use Rattle.walrus_base.specs.Arena.{item_at, entries}
 use Rattle.walrus_base.specs.Types.{HeapType, OfHeap, Concrete, Exact, ValType, I32, I64, F32, F64, V128, Ref, StorageType, Unpacked, I8, I16, CompType, Func, Struct, Array, heap_names, val_heaps, storage_heaps, field_heaps, comp_heaps, comp_names}
 use Rattle.walrus_base.proofs.Entries.{AllThere, entries_there}
-use Rattle.walrus_types.specs.PlaceList.{has}
-use Rattle.walrus_types.specs.TypeDef.{TypeDef}
-use Rattle.walrus_types.specs.TypeSlots.{defs, last_of}
-use Rattle.walrus_types.specs.Whole.{AreWhole}
-use Rattle.walrus_types.specs.declared.types.Type.{«Type»}
-use Rattle.walrus_types.proofs.Lists.{Contains-head, Contains-tail}
-use Rattle.walrus_types.proofs.WholeLemmas.{last_row}
+use Rattle.walrus_base.specs.PlaceList.{has}
+use Rattle.walrus_base.specs.TypeDef.{TypeDef}
+use Rattle.walrus_base.specs.TypeSlots.{defs, last_of}
+use Rattle.walrus_base.specs.Whole.{AreWhole}
+use Rattle.walrus_base.specs.declared.types.Type.{«Type»}
+use Rattle.walrus_base.proofs.Lists.{Contains-head, Contains-tail}
+use Rattle.walrus_base.proofs.WholeLemmas.{last_row}
 use Rattle.walrus_groups.specs.Indexed.{AreInOrder, IsOutOfOrder, LaterSupertype, LaterType}
 use Rattle.walrus_groups.specs.Ordered.{heap_within, val_within, vals_within, storage_within, field_within, comp_within, all_below, is_ordered}
-use Rattle.walrus_groups.proofs.WrittenLists.{IsRow, group-row, has-row, entry_contained}
+use Rattle.walrus_base.proofs.WrittenLists.{IsRow, group-row, has-row, entry_contained}
+use Rattle.walrus_base.proofs.RangeBounds.{range_has as row_contains, range_in as contains_row}
 
 -- ---- tests of lists
 
@@ -30,19 +30,11 @@ all_same : {X : Type 0} (p q : X → Bool) (xs : List X) → ((x : X) → p x �
 all_same p q [] h = refl
 all_same p q (x ∷ xs) h = ap₂ ◌&&◌ (h x) (all_same p q xs h)
 
-both : (a b : Bool) → (a && b) ≡ true → (a ≡ true) × (b ≡ true)
-both true b h = (refl, h)
-both false b h = absurd cc
-
-and_true : (a b : Bool) → a ≡ true → b ≡ true → (a && b) ≡ true
-and_true true b h g = g
-and_true false b h g = absurd cc
-
 with_true : (a : Bool) → a ≡ (a && true)
 with_true true = refl
 with_true false = refl
 
-each_passes : {X : Type 0} (p : X → Bool) (xs : List X) (x : X) → list_all p xs ≡ true → Contains xs x → p x ≡ true
+pub each_passes : {X : Type 0} (p : X → Bool) (xs : List X) (x : X) → list_all p xs ≡ true → Contains xs x → p x ≡ true
 each_passes p [] x h (k, lt, e) = absurd (let l : k < 0 = lt in omega (arith, l))
 each_passes {X} p (z ∷ xs) x h (zero, lt, e) = subst (λ (w : X). p w ≡ true) e (both (p z) (list_all p xs) h).0
 each_passes p (z ∷ xs) x h (suc k, lt, e) = each_passes p xs x (both (p z) (list_all p xs) h).1 (k, (let l : suc k < suc (length xs) = lt in omega (arith, l)), e)
@@ -50,10 +42,6 @@ each_passes p (z ∷ xs) x h (suc k, lt, e) = each_passes p xs x (both (p z) (li
 all_pass : {X : Type 0} (p : X → Bool) (xs : List X) → ((x : X) → Contains xs x → p x ≡ true) → list_all p xs ≡ true
 all_pass p [] h = refl
 all_pass p (x ∷ xs) h = and_true (p x) (list_all p xs) (h x (Contains-head x xs)) (all_pass p xs (λ y at. h y (Contains-tail x y xs at)))
-
-one_of_two : (a b : Bool) → (a && b) ≡ false → (a ≡ false) ⊎ (b ≡ false)
-one_of_two true b h = inr h
-one_of_two false b h = inl refl
 
 -- where not all pass, one fails
 one_fails : {X : Type 0} (p : X → Bool) (xs : List X) → list_all p xs ≡ false → (x : X) × (Contains xs x × (p x ≡ false))
@@ -97,17 +85,6 @@ module _ (last : ℕ) where
 
   comp_names_within : (c : CompType ℕ) → comp_within last c ≡ list_all within (comp_names c)
   comp_names_within c = names_comp c ∙ all_same (heap_within last) (λ h. list_all within (heap_names h)) (comp_heaps c) names_heap ∙ all_flat within heap_names (comp_heaps c)
-
--- ---- rows of places
-
-row_contains : (a n u : ℕ) → a ≤ u → u < a + n → Contains (range_with_len a n) u
-row_contains a n u low high = (u - a, (let l : length (range_with_len a n) ≡ n = length-range_with_len a n in omega (arith, l, low, high)), get_or-range_with_len a n (u - a) u (omega (arith, low, high)) ∙ (let e : a + (u - a) ≡ u = omega (arith, low) in e))
-
-contains_row : (a n u : ℕ) → Contains (range_with_len a n) u → (a ≤ u) × (u < a + n)
-contains_row a n u (k, lt, e) =
-    let small : k < n = (let l : length (range_with_len a n) ≡ n = length-range_with_len a n in omega (arith, l, lt)) in
-    let is : a + k ≡ u = sym (get_or-range_with_len a n k u small) ∙ e in
-    (omega (arith, is), omega (arith, is, small))
 
 -- ---- the types
 

@@ -3,8 +3,8 @@ use Rattle.std.proofs.Common.{ℕ, List, [], ◌∷◌, ◌++◌, Option, Some, 
 use Rattle.std.proofs.lemmas.List.{append_assoc}
 use Rattle.std.proofs.lemmas.List.Elements.{All-append, All-cons, All-nil}
 use Rattle.std.specs.List.{All}
-use Rattle.walrus_types.specs.TypeSlots.{no_names}
-use Rattle.walrus_types.specs.declared.composite.NewType.{NewType}
+use Rattle.walrus_base.specs.TypeSlots.{no_names}
+use Rattle.walrus_base.specs.declared.composite.NewType.{NewType}
 use Rattle.walrus_groups.specs.Reading.{AddsUnnamed}
 
 abbrev IsUnnamed : Option (Option (List ℕ)) → Type 0

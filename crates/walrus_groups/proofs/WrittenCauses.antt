@@ -10,9 +10,9 @@ use Rattle.wasm_entries.specs.TypeSpelling.{SubStands}
 use Rattle.wasm_entries.specs.declared.record.RawSub.{RawSub}
 use Rattle.walrus_base.specs.Arena.{item_at, items}
 use Rattle.walrus_base.specs.Types.{HeapType, OfHeap, Concrete, Exact, IsNotExact, ValType, I32, I64, F32, F64, V128, Ref, StorageType, Unpacked, I8, I16, FieldType, CompType, Func, Struct, Array, SubType, heap_names, val_heaps, storage_heaps, field_heaps, comp_heaps, comp_names, sub_names}
-use Rattle.walrus_types.specs.Operators.{Types}
-use Rattle.walrus_types.specs.TypeDef.{TypeDef}
-use Rattle.walrus_types.proofs.Lists.{Contains-head, Contains-tail}
+use Rattle.walrus_base.specs.Operators.{Types}
+use Rattle.walrus_base.specs.TypeDef.{TypeDef}
+use Rattle.walrus_base.proofs.Lists.{Contains-head, Contains-tail}
 use Rattle.walrus_code.specs.Names.{Lookup, named_heap, named_val}
 use Rattle.walrus_code.specs.Results.{heap_is_exact, val_is_exact, IndexesIn}
 use Rattle.walrus_code.specs.declared.error.IrError.{IrError}
@@ -21,7 +21,8 @@ use Rattle.walrus_groups.specs.Groups.{sub_of}
 use Rattle.walrus_groups.specs.Indexed.{HasExact}
 use Rattle.walrus_groups.specs.Named.{each, named_vals, named_storage, named_field, named_fields, named_comp, named_types, named_sub}
 use Rattle.walrus_groups.specs.Written.{vals_are_exact, storage_is_exact, field_is_exact, comp_is_exact, sub_is_exact, StandsFor, UnlessRefused}
-use Rattle.walrus_groups.proofs.WrittenLists.{item_contained}
+use Rattle.walrus_base.proofs.WrittenLists.{item_contained}
+use Rattle.std.proofs.lemmas.Bool.{or_parts as or_none}
 
 -- ---- lists
 
@@ -38,17 +39,13 @@ any_same : {X : Type 0} (p q : X → Bool) (xs : List X) → ((x : X) → p x �
 any_same p q [] h = refl
 any_same p q (x ∷ xs) h = ap₂ ◌||◌ (h x) (any_same p q xs h)
 
-any_found : {X : Type 0} (p : X → Bool) (xs : List X) → list_any p xs ≡ true → (x : X) × (Contains xs x × (p x ≡ true))
+pub any_found : {X : Type 0} (p : X → Bool) (xs : List X) → list_any p xs ≡ true → (x : X) × (Contains xs x × (p x ≡ true))
 any_found p [] h = absurd cc
 any_found {X} p (x ∷ xs) h = by_test (p x) refl h (λ g. any_found p xs g)
   where
     by_test : (t : Bool) → p x ≡ t → (t || list_any p xs) ≡ true → (list_any p xs ≡ true → (y : X) × (Contains xs y × (p y ≡ true))) → (y : X) × (Contains (x ∷ xs) y × (p y ≡ true))
     by_test true e h later = (x, (Contains-head x xs, e))
     by_test false e h later = let r = later h in (r.0, (Contains-tail x r.0 xs r.1.0, r.1.1))
-
-or_none : (a b : Bool) → (a || b) ≡ false → (a ≡ false) × (b ≡ false)
-or_none true b h = absurd cc
-or_none false b h = (refl, h)
 
 any_none : {X : Type 0} (p : X → Bool) (xs : List X) (x : X) → list_any p xs ≡ false → Contains xs x → p x ≡ false
 any_none p [] x h (k, lt, e) = absurd (let l : k < 0 = lt in omega (arith, l))

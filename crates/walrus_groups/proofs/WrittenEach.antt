@@ -1,17 +1,15 @@
 -- What the loops keep that look up one by one, and write what they find.
-use Rattle.std.proofs.Common.{Bool, false, ◌||◌, ◌≡◌, ◌∙◌, ℕ, ◌+◌, ◌<◌, suc, List, [], ◌∷◌, ◌++◌, Option, Some, None, map, length, drop, drop-cons, get_or, refl, sym, ap, append_assoc, arith, All}
+use Rattle.std.proofs.Common.{Bool, false, ◌||◌, ◌≡◌, ◌∙◌, ℕ, ◌+◌, ◌<◌, List, [], ◌∷◌, ◌++◌, Option, Some, None, map, length, drop, get_or, refl, sym, ap, append_assoc, All}
 use Rattle.std.proofs.lemmas.List.{map-append}
 use Rattle.std.proofs.lemmas.List.Elements.{All-push}
 use Rattle.std.specs.List.{list_any}
 use Rattle.wasm_forms.specs.Reading.{◌>>=◌}
 use Rattle.walrus_groups.specs.Named.{each}
+use Rattle.walrus_code.proofs.Arguments.{cut}
 
 -- what was found so far, and what is left to find
 abbrev pub behind : {Y : Type 0} → List Y → Option (List Y) → Option (List Y)
 behind done rest = rest >>= λ more. Some (done ++ more)
-
-cut : {A : Type 0} (xs : List A) (i : ℕ) (d : A) → i < length xs → drop i xs ≡ get_or xs i d ∷ drop (i + 1) xs
-cut xs i d h = let e : suc i ≡ i + 1 = omega arith in drop-cons xs i d h ∙ ap (λ k. get_or xs i d ∷ drop k xs) e
 
 one_more : {Y : Type 0} (done : List Y) (y : Y) (rest : Option (List Y)) → behind (done ++ y ∷ []) rest ≡ behind done (rest >>= λ others. Some (y ∷ others))
 one_more done y None = refl

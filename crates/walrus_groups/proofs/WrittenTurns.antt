@@ -4,12 +4,12 @@ use Rattle.std.specs.Prelude.{IsSome, is_some, if◌then◌else◌, ◌==◌}
 use Rattle.std.specs.List.{AllZip}
 use Rattle.std.proofs.lemmas.List.{map-append}
 use Rattle.walrus_base.specs.Arena.{item_at, IsLive}
-use Rattle.walrus_types.specs.PlaceList.{has}
-use Rattle.walrus_types.specs.TypeDef.{TypeDef}
-use Rattle.walrus_types.specs.TypeSlots.{group_at, group_of}
-use Rattle.walrus_types.specs.Whole.{AreWhole}
-use Rattle.walrus_types.proofs.Noted.{or_left, or_right}
+use Rattle.walrus_base.specs.PlaceList.{has}
+use Rattle.walrus_base.specs.TypeDef.{TypeDef}
+use Rattle.walrus_base.specs.TypeSlots.{group_at, group_of}
+use Rattle.walrus_base.specs.Whole.{AreWhole}
 use Rattle.walrus_groups.specs.Written.{starts_at, firsts}
+use Rattle.std.proofs.lemmas.Bool.{or_left, or_right}
 
 -- what is made of those that are left completes what is made of all
 abbrev pub Completes : {A B C : Type 0} → (A → C → Type 0) → (all left : List A) → (B → C) → List B → Type 0

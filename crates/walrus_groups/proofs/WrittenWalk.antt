@@ -8,17 +8,18 @@ use Rattle.std.specs.Prelude.{if◌then◌else◌, nat_lt}
 use Rattle.wasm_forms.specs.Reading.{◌>>=◌}
 use Rattle.wasm_entries.specs.Record.{Sub, Group}
 use Rattle.walrus_base.specs.Arena.{item_at, entries_from, entries, items}
-use Rattle.walrus_types.specs.Operators.{Types}
-use Rattle.walrus_types.specs.PlaceList.{has}
-use Rattle.walrus_types.specs.Shape.{place_in}
-use Rattle.walrus_types.specs.TypeDef.{TypeDef}
-use Rattle.walrus_types.specs.Whole.{AreWhole}
+use Rattle.walrus_base.specs.Operators.{Types}
+use Rattle.walrus_base.specs.PlaceList.{has}
+use Rattle.walrus_base.specs.Shape.{place_in}
+use Rattle.walrus_base.specs.TypeDef.{TypeDef}
+use Rattle.walrus_base.specs.Whole.{AreWhole}
 use Rattle.walrus_code.specs.Names.{Lookup}
 use Rattle.walrus_groups.specs.Groups.{sub_of, types_from}
 use Rattle.walrus_groups.specs.Indexed.{NumbersTypes}
 use Rattle.walrus_groups.specs.Named.{named_types, named_sub, named_def}
 use Rattle.walrus_groups.specs.Written.{IsWritten, StandsFor, GroupStandsFor, starts_at, firsts, sub_is_exact}
-use Rattle.walrus_groups.proofs.WrittenLists.{some_inside, none_some, not_equal, IsRow, row-has, has-row}
+use Rattle.walrus_base.proofs.WrittenLists.{some_inside, not_equal, IsRow, row-has, has-row}
+use Rattle.walrus_base.proofs.WholeLemmas.{none_some}
 
 -- the type with each number looked up, and no exact heap type in it
 abbrev pub IsNamed : Lookup → TypeDef → TypeDef → Type 0

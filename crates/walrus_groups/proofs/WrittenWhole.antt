@@ -6,17 +6,17 @@ use Rattle.std.proofs.lemmas.List.Elements.{All-nil, All-cons}
 use Rattle.wasm_entries.specs.Record.{Sub, Group}
 use Rattle.wasm_entries.specs.TypeSpelling.{SubStands, GroupStands}
 use Rattle.walrus_base.specs.Arena.{entries, items}
-use Rattle.walrus_types.specs.TypeDef.{TypeDef}
-use Rattle.walrus_types.specs.TypeSlots.{defs}
-use Rattle.walrus_types.specs.Whole.{AreWhole}
-use Rattle.walrus_types.specs.declared.types.Type.{«Type»}
+use Rattle.walrus_base.specs.TypeDef.{TypeDef}
+use Rattle.walrus_base.specs.TypeSlots.{defs}
+use Rattle.walrus_base.specs.Whole.{AreWhole}
+use Rattle.walrus_base.specs.declared.types.Type.{«Type»}
 use Rattle.walrus_code.specs.Names.{Lookup}
 use Rattle.walrus_groups.specs.Groups.{types_from}
 use Rattle.walrus_groups.specs.Indexed.{NumbersTypes, AreIndexed, HasExact}
 use Rattle.walrus_groups.specs.Named.{named_def}
 use Rattle.walrus_groups.specs.Written.{StandsFor, GroupStandsFor, starts_at, firsts, sub_is_exact}
 use Rattle.walrus_groups.proofs.WrittenCauses.{none_exact}
-use Rattle.walrus_groups.proofs.WrittenLists.{group-row}
+use Rattle.walrus_base.proofs.WrittenLists.{group-row}
 use Rattle.walrus_groups.proofs.WrittenTurns.{firsts_yes, firsts_no}
 use Rattle.walrus_groups.proofs.WrittenWalk.{IsNamed, walked}
 

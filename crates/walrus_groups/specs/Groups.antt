@@ -8,7 +8,7 @@ use Rattle.wasm_entries.specs.declared.record.RawFieldType.{RawFieldType}
 use Rattle.wasm_entries.specs.Record.{Comp, Function, Struct, Array, Sub, Group}
 use Rattle.walrus_base.specs.Types.{StorageType, Unpacked, I8, I16, FieldType, CompType, SubType, sub_names}
 use Rattle.walrus_base.specs.Types as types
-use Rattle.walrus_types.specs.TypeDef.{TypeDef}
+use Rattle.walrus_base.specs.TypeDef.{TypeDef}
 use Rattle.walrus_code.specs.FromRaw.{val_of}
 use Rattle.walrus_code.specs.declared.error.IrError.{IrError}
 use Rattle.walrus_code.specs.declared.error.IrError.TheVariants.{Malformed, Memory, NoIndex, NotWritable, TooLarge}

@@ -4,9 +4,9 @@ use Rattle.wasm_entries.specs.Record.{Group}
 use Rattle.wasm_entries.specs.TypeSpelling.{GroupStands}
 use Rattle.walrus_base.specs.Arena.{item_at, entries}
 use Rattle.walrus_base.specs.Types.{HeapType, IsNotExact, comp_heaps, comp_names, sub_names}
-use Rattle.walrus_types.specs.Operators.{Types}
-use Rattle.walrus_types.specs.Shape.{place_in}
-use Rattle.walrus_types.specs.TypeDef.{TypeDef}
+use Rattle.walrus_base.specs.Operators.{Types}
+use Rattle.walrus_base.specs.Shape.{place_in}
+use Rattle.walrus_base.specs.TypeDef.{TypeDef}
 use Rattle.walrus_code.specs.Names.{Lookup}
 use Rattle.walrus_code.specs.declared.error.IrError.{IrError}
 use Rattle.walrus_code.specs.declared.error.IrError.TheVariants.{Malformed, Memory, NoIndex, NotWritable, TooLarge}

@@ -5,7 +5,7 @@ use Rattle.wasm_entries.specs.Record.{Sub, Group}
 use Rattle.wasm_entries.specs.TypeSpelling.{SubStands}
 use Rattle.walrus_base.specs.Arena.{item_at}
 use Rattle.walrus_base.specs.Types.{ValType, StorageType, Unpacked, I8, I16, FieldType, CompType, Func, Struct, Array, SubType}
-use Rattle.walrus_types.specs.TypeDef.{TypeDef}
+use Rattle.walrus_base.specs.TypeDef.{TypeDef}
 use Rattle.walrus_code.specs.Names.{Lookup}
 use Rattle.walrus_code.specs.Results.{val_is_exact}
 use Rattle.walrus_code.specs.declared.error.IrError.{IrError}

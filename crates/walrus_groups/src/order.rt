@@ -4,17 +4,18 @@ ghost use Rattle.std.specs.Prelude.{◌≡◌, ◌↔◌, IsTrue, Some, map};
 ghost use Rattle.std.specs.Bool.{OnFalse};
 ghost use Rattle.walrus_base.specs.Arena.{item_at, IsLive};
 ghost use Rattle.walrus_base.specs.Id.{place};
-ghost use Rattle.walrus_types.specs.Composite.{storage_type, field_type, comp_type, supertypes};
-ghost use Rattle.walrus_types.specs.ModuleTypes.{type_slots};
-ghost use Rattle.walrus_types.specs.TypeDef.{type_def, type_place};
-ghost use Rattle.walrus_types.specs.TypeSlots.{group_at, last_of};
-ghost use Rattle.walrus_types.specs.TypesLeft.{place_and_def};
-ghost use Rattle.walrus_types.specs.Value.{heap_type, val_type};
+ghost use Rattle.walrus_base.specs.Composite.{storage_type, field_type, comp_type, supertypes};
+ghost use Rattle.walrus_base.specs.ModuleTypes.{type_slots};
+ghost use Rattle.walrus_base.specs.TypeDef.{type_def, type_place};
+ghost use Rattle.walrus_base.specs.TypeSlots.{group_at, last_of};
+ghost use Rattle.walrus_base.specs.TypesLeft.{place_and_def};
+ghost use Rattle.walrus_base.specs.Value.{heap_type, val_type};
 ghost use Rattle.walrus_groups.specs.Indexed.{AreInOrder, IsOutOfOrder};
 ghost use Rattle.walrus_groups.specs.Ordered.{heap_within, val_within, vals_within, storage_within, field_within, fields_within, comp_within, all_below, is_ordered};
 
-use walrus_base::TypeId;
-use walrus_types::{CompositeType, FieldType, HeapType, ModuleTypes, StorageType, Type, ValType};
+use walrus_base::{
+    CompositeType, FieldType, HeapType, ModuleTypes, StorageType, Type, TypeId, ValType,
+};
 
 /// Whether the types, written in the order of their ids, name only such as they may: a supertype comes before its subtype, and
 /// every other type that is named is of an earlier group or of the own one (Validation > Types > Recursive Types). Where it

@@ -4,10 +4,10 @@ ghost use Rattle.std.specs.Prelude.{◌≡◌, ◌+◌, ◌<◌, ◌^◌, ◌∷
 ghost use Rattle.std.specs.List.{range_with_len};
 ghost use Rattle.wasm_entries.specs.Record.{comp, sub, group};
 ghost use Rattle.walrus_base.specs.Id.{place};
-ghost use Rattle.walrus_types.specs.Operators.{Types};
-ghost use Rattle.walrus_types.specs.Value.{val_type};
-ghost use Rattle.walrus_types.specs.Composite.{storage_type, field_type, comp_type, function_comp, function_type, supertypes, new_sub};
-ghost use Rattle.walrus_types.specs.ModuleTypes.{type_names, type_slots};
+ghost use Rattle.walrus_base.specs.Operators.{Types};
+ghost use Rattle.walrus_base.specs.Value.{val_type};
+ghost use Rattle.walrus_base.specs.Composite.{storage_type, field_type, comp_type, function_comp, function_type, supertypes, new_sub};
+ghost use Rattle.walrus_base.specs.ModuleTypes.{type_names, type_slots};
 ghost use Rattle.walrus_code.specs.FromRaw.{val_of};
 ghost use Rattle.walrus_code.specs.Indices.{places_in, ids_at};
 ghost use Rattle.walrus_code.specs.Results.{Finds};
@@ -16,13 +16,13 @@ ghost use Rattle.walrus_groups.specs.Named.{each, named_vals, named_storage, nam
 ghost use Rattle.walrus_groups.specs.Reading.{AddsUnnamed, one_supertype, read_sub, TypesInPlace, OnlyTypesChange, RefusedAsTooMany};
 
 use std::alloc::Global;
-use walrus_base::TypeId;
-use walrus_code::{IndicesToIds, IrError, name_value};
-use walrus_types::{
+use walrus_base::{
     ArrayType, CompositeType, FieldType, FunctionType, ModuleTypes, NewType, StorageType,
-    StructType, ValType,
+    StructType, TypeId, ValType,
 };
-use wasm_entries::{RawComp, RawFieldType, RawFuncType, RawGroup, RawStorage, RawSub, RawVal};
+use walrus_code::{IndicesToIds, IrError, name_value};
+use wasm_entries::{RawComp, RawFieldType, RawFuncType, RawGroup, RawStorage, RawSub};
+use wasm_forms::RawVal;
 
 /// Reads the types of a type section (Binary Format > Modules > Type Section): adds them behind those that are there, a group at a
 /// time (Structure > Types > Recursive Types), and gives each the next index. None has a name.

@@ -6,11 +6,11 @@ ghost use Rattle.wasm_entries.specs.Record.{group, sub, comp, func_type, Functio
 ghost use Rattle.wasm_entries.specs.TypeSpelling.{StorageStands, FieldStands, CompStands, SubStands};
 ghost use Rattle.walrus_base.specs.Arena.{item_at, IsLive, items};
 ghost use Rattle.walrus_base.specs.Id.{place};
-ghost use Rattle.walrus_types.specs.Composite.{storage_type, field_type, comp_type, function_comp, function_type, supertypes};
-ghost use Rattle.walrus_types.specs.ModuleTypes.{type_slots};
-ghost use Rattle.walrus_types.specs.TypeDef.{type_def, type_place};
-ghost use Rattle.walrus_types.specs.TypeSlots.{group_at};
-ghost use Rattle.walrus_types.specs.Value.{val_type};
+ghost use Rattle.walrus_base.specs.Composite.{storage_type, field_type, comp_type, function_comp, function_type, supertypes};
+ghost use Rattle.walrus_base.specs.ModuleTypes.{type_slots};
+ghost use Rattle.walrus_base.specs.TypeDef.{type_def, type_place};
+ghost use Rattle.walrus_base.specs.TypeSlots.{group_at};
+ghost use Rattle.walrus_base.specs.Value.{val_type};
 ghost use Rattle.std.specs.List.{AllZip};
 ghost use Rattle.walrus_code.specs.FromRaw.{val_of};
 ghost use Rattle.walrus_code.specs.Indices.{index_of};
@@ -21,11 +21,10 @@ ghost use Rattle.walrus_groups.specs.Named.{named_vals, named_storage, named_fie
 ghost use Rattle.walrus_groups.specs.Written.{vals_are_exact, storage_is_exact, field_is_exact, fields_are_exact, comp_is_exact, sub_is_exact, StandsFor, UnlessRefused, starts_at};
 
 use std::alloc::Global;
-use walrus_base::TypeId;
-use walrus_code::{IdsToIndices, IrError, index_value};
-use walrus_types::{
-    CompositeType, FieldType, FunctionType, ModuleTypes, StorageType, Type, ValType,
+use walrus_base::{
+    CompositeType, FieldType, FunctionType, ModuleTypes, StorageType, Type, TypeId, ValType,
 };
+use walrus_code::{IdsToIndices, IrError, index_value};
 use wasm_entries::{RawComp, RawFieldType, RawFuncType, RawGroup, RawStorage, RawSub};
 use wasm_forms::RawVal;
 

@@ -1,3 +1,7 @@
+pub mod Building
+pub mod Instructions
+pub mod LendsBody
+pub mod Sequence
 pub use Rattle.walrus_functions.specs.Function
 pub use Rattle.walrus_functions.specs.FunctionRow
 pub use Rattle.walrus_functions.specs.LocalFunction

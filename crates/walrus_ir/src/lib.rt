@@ -1,21 +1,24 @@
-//! Types, constant expressions, operators and bodies of functions, over ids: what the items of a module are made of. All of it comes
-//! from the crates below, which this one gathers under one name.
+//! Building functions (Structure > Modules > Functions). And one name for types, constant expressions, operators and bodies of functions,
+//! over ids: what the items of a module are made of.
 #![tactic(auto)]
 
+mod function;
+mod sequence;
+
+pub use function::FunctionBuilder;
+pub use sequence::InstrSeqBuilder;
 pub use walrus_base::{
-    ArenaIter, CustomSectionKey, DataId, DataKey, ElementId, ElementKey, ExportId, ExportKey,
-    FunctionId, FunctionKey, GlobalId, GlobalKey, Id, IdHashSet, IdHashSetIter, ImportId,
-    ImportKey, LocalId, LocalKey, Marks, MarksIter, MemoryId, MemoryKey, TableId, TableKey, TagId,
-    TagKey, TombstoneArena, TypeId, TypeKey, UntypedCustomSectionId,
+    AbstractHeapType, ArenaIter, ArrayType, CompositeType, ConstExpr, ConstOp, CustomSectionKey,
+    DataId, DataKey, ElementId, ElementKey, ExportId, ExportKey, FieldType, FunctionId,
+    FunctionKey, FunctionType, GlobalId, GlobalKey, GroupIds, HeapType, Id, IdHashSet,
+    IdHashSetIter, ImportId, ImportKey, Local, LocalId, LocalIter, LocalKey, Marks, MarksIter,
+    MemoryId, MemoryKey, ModuleLocals, ModuleTypes, NewType, RefType, StorageType, StructType,
+    TableId, TableKey, TagId, TagKey, TombstoneArena, Type, TypeId, TypeIter, TypeKey,
+    UntypedCustomSectionId, ValType, Value,
 };
-pub use walrus_builder::{FunctionBuilder, InstrSeqBuilder};
-pub use walrus_functions::{
-    Arg, Args, BlockType, EmittedBody, Features, IdsToIndices, IndexSpace, IndicesToIds,
-    InstrLocId, IrError, ItemId, Limits, LocalFunction, LocalNumbers, Numbering, Operator,
-    Operators, PlainCode, ScanRoom, add_locals, emit_body, limits_of, read_body, scan_body,
+pub use walrus_bodies::{Features, LocalFunction, Operators, PlainCode, ScanRoom, limits_of};
+pub use walrus_code::{
+    Arg, Args, BlockType, IdsToIndices, IndexSpace, IndicesToIds, InstrLocId, IrError, ItemId,
+    LocalNumbers, Numbering, Operator,
 };
-pub use walrus_types::{
-    AbstractHeapType, ArrayType, CompositeType, ConstExpr, ConstOp, FieldType, FunctionType,
-    GroupIds, HeapType, Local, LocalIter, ModuleLocals, ModuleTypes, NewType, RefType, StorageType,
-    StructType, Type, TypeIter, ValType, Value,
-};
+pub use walrus_functions::{EmittedBody, add_locals, emit_body, read_body, scan_body};

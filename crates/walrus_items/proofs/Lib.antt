@@ -1,3 +1,3 @@
-pub mod Found
 pub mod KeepingLemmas
 pub mod SeenLemmas
+pub mod ItemLemmas

@@ -8,8 +8,8 @@ use Rattle.walrus_items.specs.declared.items.Items.{Items}
 use Rattle.walrus_items.specs.declared.items.ItemIter.{ItemIter}
 use Rattle.walrus_items.specs.declared.items.ItemEntries.{ItemEntries}
 use Rattle.walrus_items.specs.declared.data.Data.{Data}
-use Rattle.walrus_parts.specs.declared.segments.DataKind.{DataKind}
-use Rattle.walrus_parts.specs.declared.segments.DataKind.TheVariants.{Active, Passive}
+use Rattle.walrus_items.specs.declared.segments.DataKind.{DataKind}
+use Rattle.walrus_items.specs.declared.segments.DataKind.TheVariants.{Active, Passive}
 
 -- the place of a segment's own id, how it is used, its bytes, and the bytes of its name
 pub record DataValue : Type 0 where

@@ -8,8 +8,8 @@ use Rattle.walrus_items.specs.declared.items.Items.{Items}
 use Rattle.walrus_items.specs.declared.items.ItemIter.{ItemIter}
 use Rattle.walrus_items.specs.declared.items.ItemEntries.{ItemEntries}
 use Rattle.walrus_items.specs.declared.elements.Element.{Element}
-use Rattle.walrus_parts.specs.declared.segments.ElementKind.{ElementKind}
-use Rattle.walrus_parts.specs.declared.segments.ElementItems.{ElementItems}
+use Rattle.walrus_items.specs.declared.segments.ElementKind.{ElementKind}
+use Rattle.walrus_items.specs.declared.segments.ElementItems.{ElementItems}
 
 -- the place of a segment's own id, how it is used, what it holds, and the bytes of its name
 pub record ElementValue : Type 0 where

@@ -5,17 +5,17 @@ use Rattle.walrus_base.specs.Id.{place}
 use Rattle.walrus_base.specs.declared.keys.ExportKey.{ExportKey}
 use Rattle.walrus_base.specs.declared.id.Id.{Id}
 use Rattle.walrus_base.specs.declared.keys.FunctionKey.{FunctionKey}
-use Rattle.walrus_types.specs.Operators.{Item}
-use Rattle.walrus_parts.specs.Items.{is_item}
-use Rattle.walrus_parts.specs.Kinds.{exported}
+use Rattle.walrus_base.specs.Operators.{Item}
+use Rattle.walrus_items.specs.Items.{is_item}
+use Rattle.walrus_items.specs.Kinds.{exported}
 use Rattle.walrus_items.specs.Searches.{first}
 use Rattle.walrus_items.specs.Held.{held, held_left, held_entries_left}
 use Rattle.walrus_items.specs.declared.items.Items.{Items}
 use Rattle.walrus_items.specs.declared.items.ItemIter.{ItemIter}
 use Rattle.walrus_items.specs.declared.items.ItemEntries.{ItemEntries}
 use Rattle.walrus_items.specs.declared.exports.Export.{Export}
-use Rattle.walrus_parts.specs.declared.kinds.ExportItem.{ExportItem}
-use Rattle.walrus_parts.specs.declared.kinds.ExportItem.TheVariants.{Function, Table, Memory, Global, Tag}
+use Rattle.walrus_items.specs.declared.kinds.ExportItem.{ExportItem}
+use Rattle.walrus_items.specs.declared.kinds.ExportItem.TheVariants.{Function, Table, Memory, Global, Tag}
 
 -- the place of an export's own id, its name, and what it exports
 pub record ExportValue : Type 0 where

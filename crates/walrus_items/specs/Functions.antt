@@ -4,15 +4,15 @@ use Rattle.std.specs.Option.{option_to_list}
 use Rattle.walrus_base.specs.Id.{place}
 use Rattle.walrus_base.specs.declared.keys.FunctionKey.{FunctionKey}
 use Rattle.walrus_base.specs.Arena.{entries_left}
-use Rattle.walrus_parts.specs.LocalFunction.{LocalFunction}
+use Rattle.walrus_ir.specs.LocalFunction.{LocalFunction}
 use Rattle.walrus_items.specs.Seen.{text_of, text_is}
 use Rattle.walrus_items.specs.Held.{held, held_left, held_entries_left}
 use Rattle.walrus_items.specs.declared.items.Items.{Items}
 use Rattle.walrus_items.specs.declared.items.ItemIter.{ItemIter}
 use Rattle.walrus_items.specs.declared.items.ItemEntries.{ItemEntries}
 use Rattle.walrus_items.specs.declared.functions.Function.{Function}
-use Rattle.walrus_parts.specs.declared.function_kind.FunctionKind.{FunctionKind}
-use Rattle.walrus_parts.specs.declared.function_kind.FunctionKind.TheVariants.{Import, Local, Uninitialized}
+use Rattle.walrus_items.specs.declared.function_kind.FunctionKind.{FunctionKind}
+use Rattle.walrus_items.specs.declared.function_kind.FunctionKind.TheVariants.{Import, Local, Uninitialized}
 use Rattle.walrus_items.specs.declared.functions.LocalFunctionIter.{LocalFunctionIter}
 
 -- the place of a function's own id, its kind, and the bytes of its name

@@ -3,16 +3,16 @@ use Rattle.std.specs.Prelude.{ℕ, Bool, List, Option, Some, None}
 use Rattle.walrus_base.specs.Id.{place}
 use Rattle.walrus_base.specs.declared.keys.GlobalKey.{GlobalKey}
 use Rattle.walrus_base.specs.Types.{ValType}
-use Rattle.walrus_types.specs.declared.const_expr.ConstExpr.{ConstExpr}
-use Rattle.walrus_types.specs.Value.{val_type}
+use Rattle.walrus_base.specs.declared.const_expr.ConstExpr.{ConstExpr}
+use Rattle.walrus_base.specs.Value.{val_type}
 use Rattle.walrus_items.specs.Seen.{text_of}
 use Rattle.walrus_items.specs.Held.{held, held_left, held_entries_left}
 use Rattle.walrus_items.specs.declared.items.Items.{Items}
 use Rattle.walrus_items.specs.declared.items.ItemIter.{ItemIter}
 use Rattle.walrus_items.specs.declared.items.ItemEntries.{ItemEntries}
 use Rattle.walrus_items.specs.declared.globals.Global.{Global}
-use Rattle.walrus_parts.specs.declared.kinds.GlobalKind.{GlobalKind}
-use Rattle.walrus_parts.specs.declared.kinds.GlobalKind.TheVariants.{Import, Local}
+use Rattle.walrus_items.specs.declared.kinds.GlobalKind.{GlobalKind}
+use Rattle.walrus_items.specs.declared.kinds.GlobalKind.TheVariants.{Import, Local}
 
 -- The place of a global's own id, its type and flags, the place of the import that brings it, its initialiser, and the bytes
 -- of its name.

@@ -5,19 +5,19 @@ use Rattle.walrus_base.specs.Id.{place}
 use Rattle.walrus_base.specs.declared.keys.ImportKey.{ImportKey}
 use Rattle.walrus_base.specs.declared.id.Id.{Id}
 use Rattle.walrus_base.specs.declared.keys.FunctionKey.{FunctionKey}
-use Rattle.walrus_types.specs.Operators.{Item}
-use Rattle.walrus_parts.specs.Items.{is_item}
-use Rattle.walrus_parts.specs.Kinds.{imported}
-use Rattle.walrus_parts.specs.Marks.{has_item}
+use Rattle.walrus_base.specs.Operators.{Item}
+use Rattle.walrus_items.specs.Items.{is_item}
+use Rattle.walrus_items.specs.Kinds.{imported}
+use Rattle.walrus_items.specs.Marks.{has_item}
 use Rattle.walrus_items.specs.Searches.{first}
 use Rattle.walrus_items.specs.Held.{held, held_left, held_entries_left}
 use Rattle.walrus_items.specs.declared.items.Items.{Items}
 use Rattle.walrus_items.specs.declared.items.ItemIter.{ItemIter}
 use Rattle.walrus_items.specs.declared.items.ItemEntries.{ItemEntries}
 use Rattle.walrus_items.specs.declared.imports.Import.{Import}
-use Rattle.walrus_parts.specs.declared.kinds.ImportKind.{ImportKind}
-use Rattle.walrus_parts.specs.declared.kinds.ImportKind.TheVariants.{Function, Table, Memory, Global, Tag}
-use Rattle.walrus_parts.specs.declared.marks.ItemMarks.{ItemMarks}
+use Rattle.walrus_items.specs.declared.kinds.ImportKind.{ImportKind}
+use Rattle.walrus_items.specs.declared.kinds.ImportKind.TheVariants.{Function, Table, Memory, Global, Tag}
+use Rattle.walrus_items.specs.declared.marks.ItemMarks.{ItemMarks}
 
 -- the place of an import's own id, its two names, and what it imports
 pub record ImportValue : Type 0 where

@@ -1,8 +1,8 @@
 -- Items that sit at their own ids. Parsing and `add` put each item there; a caller may exchange whole items through `get_mut`.
 use Rattle.std.specs.Prelude.{ℕ, ◌≡◌, List, Option, Some}
 use Rattle.walrus_base.specs.Arena.{item_at}
-use Rattle.walrus_types.specs.Locals.{locals, local_place}
-use Rattle.walrus_types.specs.declared.locals.ModuleLocals.{ModuleLocals}
+use Rattle.walrus_base.specs.Locals.{locals, local_place}
+use Rattle.walrus_base.specs.declared.locals.ModuleLocals.{ModuleLocals}
 use Rattle.walrus_items.specs.Exports.{ModuleExports, exports}
 use Rattle.walrus_items.specs.Functions.{ModuleFunctions, functions}
 

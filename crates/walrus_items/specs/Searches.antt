@@ -1,8 +1,8 @@
 -- Searches of a collection by the order of its ids.
 use Rattle.std.specs.Prelude.{◌≡◌, ℕ, Bool, List, Option, Some, None, Result, IsOk, IsErrOf, find, slice_set}
 use Rattle.walrus_base.specs.Arena.{entries}
-use Rattle.walrus_parts.specs.declared.error.Error.{Error}
-use Rattle.walrus_parts.specs.declared.error.Error.TheVariants.{NotFound}
+use Rattle.walrus_items.specs.declared.error.Error.{Error}
+use Rattle.walrus_items.specs.declared.error.Error.TheVariants.{NotFound}
 
 -- the first live item that passes, with its place
 abbrev pub first : {T : Type 0} → (T → Bool) → List (Option T) → Option (ℕ × T)

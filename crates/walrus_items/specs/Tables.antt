@@ -4,10 +4,10 @@ use Rattle.walrus_base.specs.Id.{place}
 use Rattle.walrus_base.specs.declared.keys.TableKey.{TableKey}
 use Rattle.walrus_base.specs.IdSet.{has_id}
 use Rattle.walrus_base.specs.Types.{RefType, HeapType, OfHeap, FuncHeap}
-use Rattle.walrus_types.specs.Value.{ref_type}
-use Rattle.walrus_types.specs.declared.const_expr.ConstExpr.{ConstExpr}
-use Rattle.walrus_parts.specs.declared.error.Error.{Error}
-use Rattle.walrus_parts.specs.declared.error.Error.TheVariants.{SeveralFunctionTables}
+use Rattle.walrus_base.specs.Value.{ref_type}
+use Rattle.walrus_base.specs.declared.const_expr.ConstExpr.{ConstExpr}
+use Rattle.walrus_items.specs.declared.error.Error.{Error}
+use Rattle.walrus_items.specs.declared.error.Error.TheVariants.{SeveralFunctionTables}
 use Rattle.walrus_items.specs.Seen.{text_of}
 use Rattle.walrus_items.specs.Held.{held, held_left, held_entries_left}
 use Rattle.walrus_items.specs.declared.items.Items.{Items}

@@ -8,8 +8,8 @@ use Rattle.walrus_items.specs.declared.items.Items.{Items}
 use Rattle.walrus_items.specs.declared.items.ItemIter.{ItemIter}
 use Rattle.walrus_items.specs.declared.items.ItemEntries.{ItemEntries}
 use Rattle.walrus_items.specs.declared.tags.Tag.{Tag}
-use Rattle.walrus_parts.specs.declared.kinds.TagKind.{TagKind}
-use Rattle.walrus_parts.specs.declared.kinds.TagKind.TheVariants.{Import, Local}
+use Rattle.walrus_items.specs.declared.kinds.TagKind.{TagKind}
+use Rattle.walrus_items.specs.declared.kinds.TagKind.TheVariants.{Import, Local}
 
 -- the places of a tag's own id, of its type, and of the import that brings it, and the bytes of its name
 pub record TagValue : Type 0 where

@@ -4,12 +4,13 @@ ghost use Rattle.std.specs.Borrow.{sem};
 ghost use Rattle.std.specs.Iterator.{YieldsFirstBy, item_count};
 ghost use Rattle.walrus_base.specs.Id.{place};
 ghost use Rattle.walrus_base.specs.Arena.{HasRoom, item_at, IsLive, items, entries, kept_by};
-ghost use Rattle.walrus_parts.specs.Errors.{out_of_memory};
+ghost use Rattle.walrus_items.specs.Errors.{out_of_memory};
 ghost use Rattle.walrus_items.specs.Added.{IsAdded};
 
+use crate::error::Result;
 use crate::items::{Fresh, Item, ItemEntries, ItemIter, Items, Marked};
+use crate::segments::DataKind;
 use walrus_base::{DataId, DataKey};
-use walrus_parts::{DataKind, Result};
 
 /// A data segment of a module.
 #[derive(Drop)]

@@ -4,12 +4,13 @@ ghost use Rattle.std.specs.Borrow.{sem};
 ghost use Rattle.std.specs.Iterator.{YieldsFirstBy, item_count};
 ghost use Rattle.walrus_base.specs.Id.{place};
 ghost use Rattle.walrus_base.specs.Arena.{HasRoom, item_at, IsLive, items, entries, kept_by};
-ghost use Rattle.walrus_parts.specs.Errors.{out_of_memory};
+ghost use Rattle.walrus_items.specs.Errors.{out_of_memory};
 ghost use Rattle.walrus_items.specs.Added.{IsAdded};
 
+use crate::error::Result;
 use crate::items::{Fresh, Item, ItemEntries, ItemIter, Items, Marked};
+use crate::segments::{ElementItems, ElementKind};
 use walrus_base::{ElementId, ElementKey};
-use walrus_parts::{ElementItems, ElementKind, Result};
 
 /// An element segment of a module.
 #[derive(Drop)]

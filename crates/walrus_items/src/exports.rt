@@ -5,14 +5,15 @@ ghost use Rattle.std.specs.Borrow.{sem};
 ghost use Rattle.std.specs.Iterator.{YieldsFirstBy, item_count};
 ghost use Rattle.walrus_base.specs.Id.{place};
 ghost use Rattle.walrus_base.specs.Arena.{HasRoom, item_at, IsLive, items, entries};
-ghost use Rattle.walrus_types.specs.Operators.{Tables, Memories, Globals, function_item};
-ghost use Rattle.walrus_parts.specs.Errors.{out_of_memory};
-ghost use Rattle.walrus_parts.specs.Kinds.{exported};
+ghost use Rattle.walrus_base.specs.Operators.{Tables, Memories, Globals, function_item};
+ghost use Rattle.walrus_items.specs.Errors.{out_of_memory};
+ghost use Rattle.walrus_items.specs.Kinds.{exported};
 ghost use Rattle.walrus_items.specs.Searches.{first, RemovesFound};
 
+use crate::error::{Error, Result};
 use crate::items::{Fresh, Item, ItemEntries, ItemIter, Items};
+use crate::kinds::ExportItem;
 use walrus_base::{ExportId, ExportKey, FunctionId, GlobalId, MemoryId, TableId};
-use walrus_parts::{Error, ExportItem, Result};
 
 /// An export of a module.
 #[derive(Debug, Drop)]

@@ -5,18 +5,19 @@ ghost use Rattle.std.specs.Iterator.{YieldsFirstBy, item_count};
 ghost use Rattle.std.specs.String.{string_bytes};
 ghost use Rattle.walrus_base.specs.Id.{place};
 ghost use Rattle.walrus_base.specs.Arena.{HasRoom, item_at, IsLive, items, entries, kept_by};
-ghost use Rattle.walrus_parts.specs.Errors.{out_of_memory};
-ghost use Rattle.walrus_parts.specs.Function.{name_of};
-ghost use Rattle.walrus_parts.specs.FunctionKinds.{kind_type};
+ghost use Rattle.walrus_items.specs.Errors.{out_of_memory};
+ghost use Rattle.walrus_ir.specs.Function.{name_of};
+ghost use Rattle.walrus_items.specs.FunctionKinds.{kind_type};
 ghost use Rattle.walrus_items.specs.Seen.{text_of, text_is};
 ghost use Rattle.walrus_items.specs.Searches.{first};
 
+use crate::error::Result;
+use crate::function_kind::{FunctionKind, ImportedFunction};
 use crate::items::{Item, ItemEntries, ItemIter, Items, Marked};
 use std::alloc::{AllocError, Global};
 use std::result;
-use walrus_base::{ArenaIter, FunctionId, FunctionKey, ImportId, TombstoneArena, TypeId};
+use walrus_base::{ArenaIter, FunctionId, FunctionKey, ImportId, TombstoneArena, TypeId, ValType};
 use walrus_ir::LocalFunction;
-use walrus_parts::{FunctionKind, ImportedFunction, Result, ValType};
 
 /// The types of a function's parameters, in order.
 pub type FuncParams = Vec<ValType>;

@@ -4,14 +4,14 @@ ghost use Rattle.std.specs.Borrow.{sem};
 ghost use Rattle.std.specs.Iterator.{YieldsFirstBy, item_count};
 ghost use Rattle.walrus_base.specs.Id.{place};
 ghost use Rattle.walrus_base.specs.Arena.{HasRoom, item_at, IsLive, items, entries, kept_by};
-ghost use Rattle.walrus_parts.specs.Errors.{out_of_memory};
+ghost use Rattle.walrus_items.specs.Errors.{out_of_memory};
 ghost use Rattle.walrus_items.specs.Added.{IsAdded};
-ghost use Rattle.walrus_types.specs.Value.{val_type};
+ghost use Rattle.walrus_base.specs.Value.{val_type};
 
+use crate::error::Result;
 use crate::items::{Fresh, Item, ItemEntries, ItemIter, Items, Marked};
-use walrus_base::{GlobalId, GlobalKey, ImportId};
-use walrus_ir::{ConstExpr, ValType};
-use walrus_parts::{GlobalKind, Result};
+use crate::kinds::GlobalKind;
+use walrus_base::{ConstExpr, GlobalId, GlobalKey, ImportId, ValType};
 
 /// A global of a module.
 #[derive(Drop)]

@@ -5,15 +5,17 @@ ghost use Rattle.std.specs.Iterator.{YieldsFirstBy, item_count};
 ghost use Rattle.std.specs.Option.{ok_or};
 ghost use Rattle.walrus_base.specs.Id.{place};
 ghost use Rattle.walrus_base.specs.Arena.{HasRoom, item_at, IsLive, items, entries};
-ghost use Rattle.walrus_types.specs.Operators.{function_item};
-ghost use Rattle.walrus_parts.specs.Errors.{out_of_memory};
-ghost use Rattle.walrus_parts.specs.Kinds.{imported};
+ghost use Rattle.walrus_base.specs.Operators.{function_item};
+ghost use Rattle.walrus_items.specs.Errors.{out_of_memory};
+ghost use Rattle.walrus_items.specs.Kinds.{imported};
 ghost use Rattle.walrus_items.specs.Keeping.{kept_slot, kept_where};
 ghost use Rattle.walrus_items.specs.Searches.{first, RemovesFound};
 
+use crate::error::{Error, Result};
 use crate::items::{Fresh, Item, ItemEntries, ItemIter, Items};
+use crate::kinds::ImportKind;
+use crate::marks::ItemMarks;
 use walrus_base::{FunctionId, ImportId, ImportKey};
-use walrus_parts::{Error, ImportKind, ItemMarks, Result};
 
 /// An import of a module.
 #[derive(Debug, Drop, PartialEq, Eq, Hash)]

@@ -5,12 +5,12 @@ ghost use Rattle.std.specs.Iterator.{YieldsFirstBy, item_count};
 ghost use Rattle.walrus_base.specs.Arena.{HasRoom, IsLive, entries, item_at, items, kept_by, live_places};
 ghost use Rattle.walrus_base.specs.Id.{place};
 ghost use Rattle.walrus_base.specs.Marks.{is_marked};
-ghost use Rattle.walrus_parts.specs.Errors.{out_of_memory};
+ghost use Rattle.walrus_items.specs.Errors.{out_of_memory};
 ghost use Rattle.walrus_items.specs.Held.{held, held_left, held_entries_left};
 
+use crate::error::Result;
 use std::alloc::Global;
 use walrus_base::{ArenaIter, Id, Marks, TombstoneArena};
-use walrus_parts::Result;
 
 /// What a collection holds. Contracts see of an item its `value`, a `Seen`.
 pub trait Item {

@@ -1,22 +1,40 @@
-//! The items of a module, and the collections that hold them by their ids.
+//! The items of a module, and the collections that hold them by their ids; and what every part of a module is built with: errors, roots, the
+//! places of written code, and custom sections.
 #![tactic(auto)]
 
+mod custom;
 mod data;
 mod elements;
+pub mod equal_imports;
+mod equality;
+mod error;
 mod exports;
+mod function_kind;
 mod functions;
 mod globals;
 mod imports;
 mod items;
-pub mod law;
+mod kinds;
+mod marks;
 mod memories;
+mod raw_section;
+mod roots;
+mod segments;
 mod sets;
 mod tables;
 mod tags;
+mod transform;
 
+pub use custom::CustomSection;
 pub use data::{Data, DataEntries, DataIter, ModuleData};
 pub use elements::{Element, ElementEntries, ElementIter, ModuleElements};
+pub use equality::{
+    items_are_told_apart, kinds_are_equal_as_items, raw_sections_are_equal_by_parts,
+    section_ids_are_equal_by_place,
+};
+pub use error::{Error, ErrorKind, Result};
 pub use exports::{Export, ExportEntries, ExportIter, ModuleExports};
+pub use function_kind::{FunctionKind, ImportedFunction};
 pub use functions::{
     FuncParams, FuncResults, Function, FunctionEntries, FunctionIter, LocalFunctionIter,
     ModuleFunctions,
@@ -24,11 +42,12 @@ pub use functions::{
 pub use globals::{Global, GlobalEntries, GlobalIter, ModuleGlobals};
 pub use imports::{Import, ImportEntries, ImportIter, ModuleImports};
 pub use items::{Fresh, Item, ItemEntries, ItemIter, Items, Marked};
+pub use kinds::{ExportItem, GlobalKind, ImportKind, TagKind};
+pub use marks::ItemMarks;
 pub use memories::{Memory, MemoryEntries, MemoryIter, ModuleMemories};
+pub use raw_section::RawCustomSection;
+pub use roots::Roots;
+pub use segments::{DataKind, ElementItems, ElementKind};
 pub use tables::{ModuleTables, Table, TableEntries, TableIter};
 pub use tags::{ModuleTags, Tag, TagEntries, TagIter};
-pub use walrus_parts::{
-    Arg, DataKind, ElementItems, ElementKind, Error, ExportItem, FunctionKey, FunctionKind,
-    GlobalKind, HeapType, IdHashSet, ImportKind, ImportedFunction, ItemId, ItemMarks,
-    LocalFunction, LocalId, ModuleLocals, ModuleTypes, Operator, Result, TagKind, TypeId, ValType,
-};
+pub use transform::CodeTransform;

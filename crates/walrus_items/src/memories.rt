@@ -4,13 +4,13 @@ ghost use Rattle.std.specs.Borrow.{sem};
 ghost use Rattle.std.specs.Iterator.{YieldsFirstBy, item_count};
 ghost use Rattle.walrus_base.specs.Id.{place};
 ghost use Rattle.walrus_base.specs.Arena.{HasRoom, item_at, IsLive, items, entries, kept_by};
-ghost use Rattle.walrus_parts.specs.Errors.{out_of_memory};
+ghost use Rattle.walrus_items.specs.Errors.{out_of_memory};
 ghost use Rattle.walrus_items.specs.Added.{IsAdded, no_segments};
 
+use crate::error::Result;
 use crate::items::{Fresh, Item, ItemEntries, ItemIter, Items, Marked};
 use crate::sets::no_ids;
 use walrus_base::{DataKey, IdHashSet, ImportId, MemoryId, MemoryKey};
-use walrus_parts::Result;
 
 /// A memory of a module.
 #[derive(Drop)]

@@ -4,17 +4,19 @@ ghost use Rattle.std.specs.Borrow.{sem};
 ghost use Rattle.std.specs.Iterator.{YieldsFirstBy, item_count};
 ghost use Rattle.walrus_base.specs.Id.{place};
 ghost use Rattle.walrus_base.specs.Arena.{HasRoom, item_at, IsLive, items, entries, kept_by};
-ghost use Rattle.walrus_parts.specs.Errors.{out_of_memory};
+ghost use Rattle.walrus_items.specs.Errors.{out_of_memory};
 ghost use Rattle.walrus_items.specs.Added.{IsAdded, no_segments};
 ghost use Rattle.std.specs.Result.{result_map_both};
-ghost use Rattle.walrus_types.specs.Value.{ref_type};
+ghost use Rattle.walrus_base.specs.Value.{ref_type};
 ghost use Rattle.walrus_items.specs.Tables.{is_function_reference};
 
+use crate::error::{Error, Result};
 use crate::items::{Fresh, Item, ItemEntries, ItemIter, Items, Marked};
 use crate::sets::no_ids;
-use walrus_base::{ElementKey, IdHashSet, ImportId, TableId, TableKey};
-use walrus_ir::{AbstractHeapType, ConstExpr, HeapType, RefType};
-use walrus_parts::{Error, Result};
+use walrus_base::{
+    AbstractHeapType, ConstExpr, ElementKey, HeapType, IdHashSet, ImportId, RefType, TableId,
+    TableKey,
+};
 
 /// A table of a module.
 #[derive(Drop)]

@@ -4,13 +4,14 @@ ghost use Rattle.std.specs.Borrow.{sem};
 ghost use Rattle.std.specs.Iterator.{YieldsFirstBy, item_count};
 ghost use Rattle.walrus_base.specs.Id.{place};
 ghost use Rattle.walrus_base.specs.Arena.{HasRoom, item_at, IsLive, items, entries, kept_by};
-ghost use Rattle.walrus_parts.specs.Errors.{out_of_memory};
+ghost use Rattle.walrus_items.specs.Errors.{out_of_memory};
 ghost use Rattle.walrus_items.specs.Added.{IsAdded};
 
+use crate::error::Result;
 use crate::items::{Item, ItemEntries, ItemIter, Items, Marked};
+use crate::kinds::TagKind;
 use std::alloc::Global;
 use walrus_base::{ImportId, TagId, TagKey, TombstoneArena, TypeId};
-use walrus_parts::{Result, TagKind};
 
 /// A tag of a module: a kind of exceptions.
 #[derive(Drop)]

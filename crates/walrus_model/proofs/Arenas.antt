@@ -1,16 +1,13 @@
 -- The places of an arena's items, as an order of what is seen of them.
-use Rattle.std.proofs.Common.{ℕ, ◌+◌, ◌<◌, List, [], ◌∷◌, map, refl, arith}
-use Rattle.std.specs.Prelude.{Option, Some, None, IsSome, AllPairs, option_map}
+use Rattle.std.proofs.Common.{ℕ, ◌+◌, ◌<◌, List, [], ◌∷◌, map, arith}
+use Rattle.std.specs.Prelude.{Option, Some, None, AllPairs, option_map}
 use Rattle.std.specs.List.{IsDistinct}
 use Rattle.walrus_base.specs.Arena.{item_at, entries, entries_from}
 use Rattle.walrus_model.specs.Ordered.{Ordered}
-use Rattle.walrus_model.proofs.Lists.{Contains-none}
-use Rattle.walrus_model.proofs.Rising.{Above, Rises, pairs_of}
-use Rattle.walrus_model.proofs.Standing.{none_there, was_some}
-
-still_some : {A B : Type 0} (f : A → B) (o : Option A) → IsSome o → IsSome (option_map f o)
-still_some f (Some a) h = refl
-still_some f None h = absurd (none_there h)
+use Rattle.walrus_base.proofs.Lists.{Contains-none}
+use Rattle.walrus_base.proofs.Rising.{Above, Rises, pairs_of}
+use Rattle.walrus_base.proofs.Standing.{none_there, was_some}
+use Rattle.walrus_base.proofs.Lookups.{still_some}
 
 pub ordered_seen : {X Y : Type 0} (seen : X → Y) (slots : List (Option X)) (order : List ℕ) → Ordered (item_at slots) order → Ordered (λ i. option_map seen (item_at slots i)) order
 ordered_seen seen slots order h = record {

@@ -1,14 +1,14 @@
 -- Two carried steps as one.
 use Rattle.std.proofs.Common.{◌≡◌, ℕ, map, refl, sym, ap, ◌∙◌, subst, inl, inr, ⊎_elim}
 use Rattle.std.specs.Prelude.{Option, Some, None, option_map, IsSome, ◌⊎◌}
-use Rattle.walrus_types.specs.Operators.{Space, Types, Functions, Tables, Memories, Tags, Globals, Elements, DataSegments, Item}
+use Rattle.walrus_base.specs.Operators.{Space, Types, Functions, Tables, Memories, Tags, Globals, Elements, DataSegments, Item}
 use Rattle.walrus_model.specs.Abstract.{Abstract}
 use Rattle.walrus_model.specs.Renaming.{Renaming, joined, renamed_import, renamed_export}
 use Rattle.walrus_model.specs.Same.{BothAnd}
 use Rattle.walrus_model.specs.Carried.{Carries, KeepsApart, Carried, In}
 use Rattle.walrus_model.specs.Kept.{IsImportOf}
 use Rattle.walrus_model.specs.Laws.{Joins}
-use Rattle.walrus_model.proofs.Lists.{map-map}
+use Rattle.walrus_base.proofs.Lists.{map-map}
 use Rattle.walrus_model.proofs.Joined.{type_joined, function_joined, tables_joined, memories_joined, tags_joined, globals_joined, elements_joined, datas_joined}
 
 both_joined : {X : Type 0} (S T U : X → X → Type 0) → ((x y z : X) → S x y → T y z → U x z) → (a b c : Option X) → BothAnd S a b → BothAnd T b c → BothAnd U a c

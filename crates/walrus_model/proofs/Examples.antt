@@ -2,8 +2,8 @@
 use Rattle.std.proofs.Common.{◌≡◌, ℕ, zero, suc, pred, ◌<◌, Bool, true, false, [], ◌∷◌, map, refl, sym, ap, ◌∙◌, subst, inl, inr, ⊎_elim, arith}
 use Rattle.std.specs.Prelude.{Some, None, IsTrue, IsSome, ◌⊎◌, Contains}
 use Rattle.walrus_base.specs.Types.{CompType, Func, I32, sub_names}
-use Rattle.walrus_types.specs.Composite.{function_comp}
-use Rattle.walrus_types.specs.Operators.{Space, Types, Functions, Tables, Memories, Tags, Globals, Elements, DataSegments, Item, Op}
+use Rattle.walrus_base.specs.Composite.{function_comp}
+use Rattle.walrus_base.specs.Operators.{Space, Types, Functions, Tables, Memories, Tags, Globals, Elements, DataSegments, Item, Op}
 use Rattle.walrus_functions.specs.Handlers.{handlers_of}
 use Rattle.walrus_model.specs.Abstract.{TypeDef, Body}
 use Rattle.walrus_model.specs.Roots.{exported, start, data_segment, element_segment, asked_for}
@@ -19,8 +19,8 @@ use Rattle.walrus_model.specs.Declared.{ref_func, IsUndeclared, Declares}
 use Rattle.walrus_model.specs.Handlers.{tag_type}
 use Rattle.walrus_model.specs.Sections.{export_of, body_with}
 use Rattle.walrus_model.specs.Examples.{two_functions, one_function, export_f, just_end, plain, SmallOnes, alone, function_type, struct_of, empty_struct, with_handler, structs, pair_shape}
-use Rattle.walrus_types.specs.Shape.{Own, Other, in_its_group, HasShape, OfGroup, NoShapes, AndShape, Filled}
-use Rattle.walrus_model.proofs.Lists.{Contains-head, Contains-uncons, Contains-none}
+use Rattle.walrus_base.specs.Shape.{Own, Other, in_its_group, HasShape, OfGroup, NoShapes, AndShape, Filled}
+use Rattle.walrus_base.proofs.Lists.{Contains-head, Contains-uncons, Contains-none}
 use Rattle.walrus_model.proofs.Least.{lies_within}
 
 -- ---- what is kept of the two functions

@@ -2,15 +2,15 @@
 use Rattle.std.proofs.Common.{◌≡◌, ℕ, List, ◌∷◌, map, refl, sym, ap, ap₂, ◌∙◌}
 use Rattle.std.specs.Prelude.{flat_map, Option, Some, None, option_map, Contains}
 use Rattle.walrus_base.specs.Types.{ValType, val_names, heap_names, map_val, map_heap, sub_names}
-use Rattle.walrus_types.specs.Operators.{Types, Functions, Tables, Memories, Tags, Globals, Elements, DataSegments, Item, type_item, function_item, names_of, locals_of}
+use Rattle.walrus_base.specs.Operators.{Types, Functions, Tables, Memories, Tags, Globals, Elements, DataSegments, Item, type_item, function_item, names_of, locals_of}
 use Rattle.walrus_model.specs.Abstract.{Abstract, TypeDef, Body, FunctionKind, ImportedFunction, LocalFunction, Uninitialised, Function, Table, Global, ElementKind, PassiveElements, DeclaredElements, ActiveElements, ElementItems, ListedFunctions, Expressions, Element, DataKind, PassiveData, ActiveData}
 use Rattle.walrus_model.specs.Refers.{named_by, used_locals, local_names, body_names, kind_names, type_names, function_names, table_names, memory_names, tag_names, global_names, element_kind_names, element_item_names, element_names, data_kind_names, data_names}
 use Rattle.walrus_model.specs.Renaming.{Renaming, renamed, renamed_table, renamed_global, renamed_const, renamed_element_kind, renamed_element_items, renamed_element, renamed_data_kind, renamed_data}
 use Rattle.walrus_model.specs.Same.{SameType, SameBody, SameKind, SameFunction, BothAnd}
 use Rattle.walrus_model.specs.Carried.{Carried}
 use Rattle.walrus_model.specs.Laws.{NamesFollow}
-use Rattle.walrus_model.proofs.Lists.{map-map, flat_map-follows, append-follows}
-use Rattle.walrus_model.proofs.TypeMaps.{sub-names}
+use Rattle.walrus_base.proofs.Lists.{map-map, flat_map-follows, append-follows}
+use Rattle.walrus_base.proofs.TypeMaps.{sub-names}
 use Rattle.walrus_model.proofs.OpsFollow.{type_items, heap_items, val_items, ops_follow, ops_locals_follow, const_follows, consts_follow, initialiser_follows}
 use Rattle.walrus_model.proofs.Seen.{same_sub}
 

@@ -4,7 +4,7 @@ use Rattle.std.specs.Prelude.{Some, Contains, ◌≢◌}
 use Rattle.std.proofs.lemmas.List.Elements.{All-nil}
 use Rattle.std.proofs.lemmas.List.Kept.{AllPairs-cons}
 use Rattle.walrus_base.specs.Types.{Func, comp_names}
-use Rattle.walrus_types.specs.Operators.{Types, Functions, Tables, Memories, Tags, Globals, Elements, DataSegments, Item, Block, OfType, Op}
+use Rattle.walrus_base.specs.Operators.{Types, Functions, Tables, Memories, Tags, Globals, Elements, DataSegments, Item, Block, OfType, Op}
 use Rattle.walrus_model.specs.Abstract.{TypeDef, Function, Body, Export}
 use Rattle.walrus_model.specs.Live.{IsLive}
 use Rattle.walrus_model.specs.Refers.{written_in, IsUsed}
@@ -12,7 +12,7 @@ use Rattle.walrus_model.specs.Names.{body_of}
 use Rattle.walrus_model.specs.Rules.{IsFunctionType, Holds}
 use Rattle.walrus_model.specs.Sections.{function_with, body_with, export_of}
 use Rattle.walrus_model.specs.Examples.{two_functions_sections, two_functions, just_end, export_f}
-use Rattle.walrus_model.proofs.Lists.{Contains-none}
+use Rattle.walrus_base.proofs.Lists.{Contains-none}
 use Rattle.walrus_model.proofs.Examples.{only_one}
 
 -- the type of functions with no parameters and no results, alone in its group

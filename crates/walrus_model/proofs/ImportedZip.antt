@@ -3,7 +3,7 @@ use Rattle.std.proofs.Common.{inl, inr, ◌≡◌, ◌⊎◌, ℕ, ◌+◌, Bool
 use Rattle.std.specs.Prelude.{◌≢◌, nat_eq, Option, Some, None, filter_map, slice_get, if◌then◌else◌, ◌++◌}
 use Rattle.std.specs.List.{AllZip}
 use Rattle.std.proofs.lemmas.Bool.Decides.{eqb_tells}
-use Rattle.walrus_types.specs.Operators.{Space, Types, Functions, Tables, Memories, Tags, Globals, Elements, DataSegments}
+use Rattle.walrus_base.specs.Operators.{Space, Types, Functions, Tables, Memories, Tags, Globals, Elements, DataSegments}
 use Rattle.walrus_model.specs.Abstract.{Abstract, Import}
 use Rattle.wasm_entries.specs.declared.record.RawDesc.{RawDesc}
 use Rattle.wasm_entries.specs.declared.record.RawDesc.TheVariants as descs
@@ -15,6 +15,7 @@ use Rattle.walrus_model.specs.Renaming.{Renaming}
 use Rattle.walrus_model.specs.Spaces.{Thing, look, SameThing}
 use Rattle.walrus_model.proofs.AlongRecords.{BothOrNone, zip_append, zip_chosen}
 use Rattle.walrus_model.specs.Plan.{Plan, IsWrittenAlong}
+use Rattle.walrus_base.proofs.WholeLemmas.{none_some as untrue}
 
 -- the space that a description brings something to
 abbrev space_of : RawDesc → Space
@@ -40,9 +41,6 @@ uncoded DataSegments = refl
 -- spaces of one number are one
 pub one_code : (s t : Space) → code s ≡ code t → s ≡ t
 one_code s t e = sym (uncoded s) ∙ ap uncode e ∙ uncoded t
-
-untrue : {A : Type 0} (o : Option A) (x : A) → o ≡ None → o ≡ Some x → ⊥
-untrue o x e h = cc
 
 brings_there : (s : Space) (k : ℕ) (d : RawDesc) (y : Thing s) → brought_by s k d ≡ Some y → s ≡ space_of d
 brings_there Functions k (descs.Function t) y e = refl

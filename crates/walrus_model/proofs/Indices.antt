@@ -2,16 +2,17 @@
 use Rattle.std.proofs.Common.{inl, inr, ◌≡◌, ◌⊎◌, ℕ, suc, ◌<◌, Bool, true, false, List, [], ◌∷◌, length, get_or, refl, sym, ap, ◌∙◌, subst, arith, zero}
 use Rattle.std.specs.Prelude.{◌≢◌, nat_eq, Option, Some, None, All, AllPairs, Contains, option_map, if◌then◌else◌, slice_get, unwrap_or}
 use Rattle.std.proofs.lemmas.Bool.Decides.{eqb_tells}
-use Rattle.walrus_types.specs.Operators.{Space}
-use Rattle.walrus_types.specs.Shape.{place_in}
+use Rattle.walrus_base.specs.Operators.{Space}
+use Rattle.walrus_base.specs.Shape.{place_in}
 use Rattle.walrus_model.specs.Abstract.{Abstract}
 use Rattle.walrus_model.specs.Customs.{AreIndices}
 use Rattle.walrus_model.specs.Live.{Has, IsLive}
 use Rattle.walrus_model.specs.Plan.{Plan, AreNumbered, numbers_by, IsPlan}
 use Rattle.walrus_model.specs.Renaming.{Renaming}
-use Rattle.walrus_model.proofs.Rising.{rising}
+use Rattle.walrus_base.proofs.Rising.{rising}
 use Rattle.walrus_model.proofs.Spaces.{live_to, live_from}
-use Rattle.walrus_model.proofs.Standing.{got_in, got_where, some_inj, stands_at}
+use Rattle.walrus_base.proofs.Standing.{got_in, got_where, some_inj, stands_at}
+use Rattle.walrus_base.proofs.WholeLemmas.{none_from as none_by}
 
 -- ---- what is found at a place stands there
 
@@ -30,10 +31,6 @@ found_here x xs t (inr q) h k e =
 pub found_at : (xs : List ℕ) (t k : ℕ) → place_in xs t ≡ Some k → slice_get xs k ≡ Some t
 found_at [] t k e = absurd (cc)
 found_at (x ∷ xs) t k e = found_here x xs t (eqb_tells x t) (found_at xs t) k e
-
-none_by : {A : Type 0} (o : Option A) → ((x : A) → o ≡ Some x → ⊥) → o ≡ None
-none_by (Some x) h = absurd (h x refl)
-none_by None h = refl
 
 -- ---- all spaces
 

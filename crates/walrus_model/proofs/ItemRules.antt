@@ -1,9 +1,8 @@
 -- The rules on what is named, on exports, limits and offsets are kept.
-use Rattle.std.proofs.Common.{◌≡◌, ◌≢◌, ℕ, ◌<◌, List, [], ◌∷◌, map, length, get_or, refl, sym, ap, ◌∙◌, subst, inl, inr, ⊎_elim, arith}
-use Rattle.std.specs.Prelude.{Option, Some, None, IsSome, Contains, AllPairs, option_map}
-use Rattle.std.proofs.lemmas.List.{length-map, get_or-map}
+use Rattle.std.proofs.Common.{◌≡◌, ◌≢◌, ℕ, List, map, refl, sym, ap, ◌∙◌, subst, inl, inr, ⊎_elim}
+use Rattle.std.specs.Prelude.{Option, Some, None, IsSome, Contains, AllPairs}
 use Rattle.walrus_base.specs.Types.{ValType, map_val, map_comp}
-use Rattle.walrus_types.specs.Operators.{Space, Types, Functions, Tables, Memories, Globals, Elements, Item, type_item, Op, names_of}
+use Rattle.walrus_base.specs.Operators.{Space, Types, Functions, Tables, Memories, Globals, Elements, Item, type_item, Op, names_of}
 use Rattle.walrus_model.specs.Abstract.{Abstract, Origin, ImportedBy, Defined, Table, Memory, Global, Export}
 use Rattle.walrus_model.specs.Live.{IsLive}
 use Rattle.walrus_model.specs.Refers.{used_locals, named_by, written_in}
@@ -16,15 +15,17 @@ use Rattle.walrus_model.specs.RulesCarried.{TakenOver}
 use Rattle.walrus_model.proofs.Spaces.{written_in_look}
 use Rattle.walrus_model.proofs.Follow.{names_follow_lem, used_follow}
 use Rattle.walrus_model.proofs.OpsFollow.{const_follows}
-use Rattle.walrus_model.proofs.Lists.{Contains-head, Contains-none, Contains-append_2}
+use Rattle.walrus_base.proofs.Lists.{Contains-head, Contains-none, Contains-append_2}
 use Rattle.walrus_model.proofs.Seen.{same_sub}
 use Rattle.walrus_model.proofs.TakingOver.{Came, came, came_or, was_at, went, names_chosen, live_after, Contains-map_back}
 use Rattle.walrus_model.proofs.TypeRules.{body_came, body_was}
+use Rattle.walrus_base.proofs.Lookups.{still_some as there_by, pairs_map}
+use Rattle.walrus_base.proofs.ShapesKept.{made_of as mapped}
 
-functions_no_types : Functions ≡ Types → ⊥
+pub functions_no_types : Functions ≡ Types → ⊥
 functions_no_types e = cc
 
-functions_no_elements : Functions ≡ Elements → ⊥
+pub functions_no_elements : Functions ≡ Elements → ⊥
 functions_no_elements e = cc
 
 tables_no_types : Tables ≡ Types → ⊥
@@ -45,25 +46,9 @@ globals_no_types e = cc
 globals_no_elements : Globals ≡ Elements → ⊥
 globals_no_elements e = cc
 
-there_by : {A B : Type 0} (f : A → B) (o : Option A) → IsSome o → IsSome (option_map f o)
-there_by f (Some x) h = refl
-there_by f None h = absurd (let h' : IsSome {T = ℕ} None = h in cc)
-
-mapped : {A B : Type 0} (f : A → B) (o : Option A) (y : B) → option_map f o ≡ Some y → (x : A) × (o ≡ Some x) × (f x ≡ y)
-mapped f (Some x) y e = (x, refl, cc)
-mapped f None y e = absurd (cc)
-
 imported_kept : (r : Renaming) (o : Origin) → IsImported o → IsImported (renamed_origin r o)
 imported_kept r (ImportedBy i) h = h
 imported_kept r Defined h = absurd h
-
-pairs_map : {A B : Type 0} (R : B → B → Type 0) (f : A → B) (xs : List A) → AllPairs (λ a b. R (f a) (f b)) xs → AllPairs R (map f xs)
-pairs_map R f [] h = λ i j d less within. let w : j < 0 = within in absurd (omega (arith, w))
-pairs_map R f (x ∷ xs) h = λ i j d less within.
-    let w : j < length (x ∷ xs) = omega (arith, within, length-map (x ∷ xs) f) in
-    let v : i < length (x ∷ xs) = omega (arith, w, less) in
-    let s : R (f (get_or (x ∷ xs) i x)) (f (get_or (x ∷ xs) j x)) = h i j x less w in
-    subst (λ z. R z (get_or (map f (x ∷ xs)) j d)) (sym (get_or-map f (x ∷ xs) i x d v)) (subst (λ z. R (f (get_or (x ∷ xs) i x)) z) (sym (get_or-map f (x ∷ xs) j x d w)) s)
 
 module _ {K Added : Item → Type 0} {Before After : Space → ℕ → ℕ → Type 0} {r : Renaming} {m n : Abstract} (c : TakenOver K Added Before After r m n) where
   -- ---- what is named is there

@@ -1,7 +1,7 @@
 -- What gc keeps follows a renaming.
 use Rattle.std.proofs.Common.{◌≡◌, ℕ, zero, suc, ◌<◌, refl, sym, ap, ◌∙◌, subst, inl, inr, ⊎_elim, arith}
 use Rattle.std.specs.Prelude.{Option, Some, None, IsSome, ◌⊎◌}
-use Rattle.walrus_types.specs.Operators.{Space, Memories, DataSegments, Item}
+use Rattle.walrus_base.specs.Operators.{Space, Memories, DataSegments, Item}
 use Rattle.walrus_model.specs.Abstract.{Abstract}
 use Rattle.walrus_model.specs.Live.{IsLive}
 use Rattle.walrus_model.specs.Reached.{Reached}
@@ -11,11 +11,11 @@ use Rattle.walrus_model.specs.Laws.{CarriesAll}
 use Rattle.walrus_model.specs.Follows.{ReachedFollows, MemoriesRise, KeptFollows}
 use Rattle.walrus_model.proofs.Steps.{live_under}
 
-none_unless : {X : Type 0} (o : Option X) → (IsSome o → ⊥) → o ≡ None
+pub none_unless : {X : Type 0} (o : Option X) → (IsSome o → ⊥) → o ≡ None
 none_unless None h = refl
 none_unless (Some x) h = absurd (h refl)
 
-not_none : {X : Type 0} (o : Option X) → IsSome o → o ≡ None → ⊥
+pub not_none : {X : Type 0} (o : Option X) → IsSome o → o ≡ None → ⊥
 not_none o there e = let no = subst IsSome e there in absurd (cc)
 
 compared : (i j : ℕ) → (i < j) ⊎ ((i ≡ j) ⊎ (j < i))

@@ -1,7 +1,7 @@
 -- A module in which nothing is dead: all that is named in it is there. The one says what the other does.
 use Rattle.std.proofs.Common.{◌≡◌, ℕ, true, false, refl}
 use Rattle.std.specs.Prelude.{Option, Some, None, IsSome, Contains}
-use Rattle.walrus_types.specs.Operators.{Types, Functions, Tables, Memories, Tags, Globals, Elements, DataSegments, Item}
+use Rattle.walrus_base.specs.Operators.{Types, Functions, Tables, Memories, Tags, Globals, Elements, DataSegments, Item}
 use Rattle.walrus_model.specs.Abstract.{Abstract, Body, Uninitialised, Function, Import, Export}
 use Rattle.walrus_model.specs.Dead.{HasDead, DeadName, DeadLocal, DeadExport, DeadStart, DeadImport, NoKind}
 use Rattle.walrus_model.specs.Live.{IsLive}
@@ -24,7 +24,7 @@ none_there : {X : Type 0} (o : Option X) → o ≡ None → IsSome o → ⊥
 none_there (Some x) e h = absurd (cc)
 none_there None e h = let no : false ≡ true = h in cc
 
-some_stays : {X : Type 0} (o : Option X) → ((IsSome o → ⊥) → ⊥) → IsSome o
+pub some_stays : {X : Type 0} (o : Option X) → ((IsSome o → ⊥) → ⊥) → IsSome o
 some_stays (Some x) h = refl
 some_stays None h = absurd (h (λ e. let no : false ≡ true = e in cc))
 

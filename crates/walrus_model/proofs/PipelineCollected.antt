@@ -1,7 +1,7 @@
 -- What gc leaves of a module is reached as before, is all kept, and is carried under the renaming that changes nothing.
 use Rattle.std.proofs.Common.{◌≡◌, ℕ, true, false, refl, sym, ap, ◌∙◌, subst, inl, inr, ⊎_elim}
 use Rattle.std.specs.Prelude.{Option, Some, None, IsSome, is_some}
-use Rattle.walrus_types.specs.Operators.{Space, Types, Functions, Tables, Memories, Tags, Globals, Elements, DataSegments, Item}
+use Rattle.walrus_base.specs.Operators.{Space, Types, Functions, Tables, Memories, Tags, Globals, Elements, DataSegments, Item}
 use Rattle.walrus_model.specs.Abstract.{Abstract, Memory, Function, Uninitialised, Import}
 use Rattle.walrus_model.specs.Live.{Has, IsLive}
 use Rattle.walrus_model.specs.Refers.{named_by, type_names, function_names, table_names, memory_names, tag_names, global_names, element_names, data_names, written_in}
@@ -14,11 +14,7 @@ use Rattle.walrus_model.specs.Carried.{Carries, Carried, In}
 use Rattle.walrus_model.specs.Pipeline.{KeepsOnly, Collected, StaysCollected, ReachedIsLive}
 use Rattle.walrus_model.proofs.PipelineSame.{table_stays, memory_stays, tag_stays, global_stays, element_stays, data_stays, import_stays, exports_stay, start_stays, type_itself, function_itself}
 use Rattle.walrus_model.proofs.PipelineAlike.{AgreesOn, agrees_back, RootsIn, refers_follows, root_follows, reached_through, spare_through}
-
--- what is there
-pub some_of : {X : Type 0} (o : Option X) → IsSome o → (x : X) × (o ≡ Some x)
-some_of (Some x) h = (x, refl)
-some_of None h = let no : false ≡ true = h in absurd (cc)
+use Rattle.walrus_base.proofs.Standing.{some_of}
 
 -- ---- what is reached and kept
 

@@ -1,8 +1,8 @@
 -- What is written along a plan carries all there is, and numbers rise: for all spaces at once.
 use Rattle.std.proofs.Common.{◌≡◌, ◌⊎◌, ℕ, ◌<◌, List, ◌++◌, refl, sym, ap, ◌∙◌, subst, arith, inl, inr, ⊎_elim}
 use Rattle.std.specs.Prelude.{Option, Some, None, IsSome, option_map, unwrap_or}
-use Rattle.walrus_types.specs.Operators.{Space, Types, Functions, Tables, Memories, Tags, Globals, Elements, DataSegments, Item}
-use Rattle.walrus_types.specs.Shape.{place_in}
+use Rattle.walrus_base.specs.Operators.{Space, Types, Functions, Tables, Memories, Tags, Globals, Elements, DataSegments, Item}
+use Rattle.walrus_base.specs.Shape.{place_in}
 use Rattle.walrus_model.specs.Abstract.{Abstract, Origin, ImportedBy, Defined, Body, FunctionKind, ImportedFunction, LocalFunction, Uninitialised, Function, Table, Memory, Tag, Global}
 use Rattle.walrus_model.specs.Carried.{Carries, KeepsApart, In}
 use Rattle.walrus_model.specs.Live.{IsLive}
@@ -14,7 +14,7 @@ use Rattle.walrus_model.specs.Spaces.{Thing, look, SameThing, origin_in}
 use Rattle.walrus_model.proofs.Spaces.{live_to, live_from}
 use Rattle.walrus_model.specs.Ordered.{ListsEach, Ordered}
 use Rattle.walrus_model.proofs.Orders.{carries_in_order, rises_in_order, apart_in_order, lists_both, is_some_by}
-use Rattle.walrus_model.proofs.Standing.{some_of, some_inj}
+use Rattle.walrus_base.proofs.Standing.{some_of, some_inj}
 use mathlib.Core.Path.{fun_ext}
 
 -- ---- what comes before by import goes one way
@@ -37,13 +37,13 @@ functions_one_way i j (LocalFunction a) (LocalFunction b) h g = larger_one_way i
 functions_one_way i j (LocalFunction a) Uninitialised h g = h
 functions_one_way i j Uninitialised b h g = h
 
-origins_one_way : (i j : ℕ) (a b : Origin) → OriginsInOrder i j a b → OriginsInOrder j i b a → ⊥
+pub origins_one_way : (i j : ℕ) (a b : Origin) → OriginsInOrder i j a b → OriginsInOrder j i b a → ⊥
 origins_one_way i j (ImportedBy p) (ImportedBy q) h g = less_one_way p q h g
 origins_one_way i j (ImportedBy p) Defined h g = g
 origins_one_way i j Defined (ImportedBy q) h g = h
 origins_one_way i j Defined Defined h g = less_one_way i j h g
 
-both_one_way : {X : Type 0} (S T : X → X → Type 0) → ((x y : X) → S x y → T y x → ⊥) → (a b : Option X) → BothAnd S a b → BothAnd T b a → ⊥
+pub both_one_way : {X : Type 0} (S T : X → X → Type 0) → ((x y : X) → S x y → T y x → ⊥) → (a b : Option X) → BothAnd S a b → BothAnd T b a → ⊥
 both_one_way S T law (Some x) (Some y) h g = law x y h g
 both_one_way S T law (Some x) None h g = h
 both_one_way S T law None b h g = h

@@ -1,7 +1,7 @@
 -- What is reached follows a renaming.
 use Rattle.std.proofs.Common.{◌≡◌, ℕ, List, [], ◌∷◌, map, refl, sym, ap, ◌∙◌, subst, inl, inr, ⊎_elim}
-use Rattle.std.specs.Prelude.{Option, Some, None, option_map, IsSome, Contains}
-use Rattle.walrus_types.specs.Operators.{Functions, Elements, DataSegments, Item}
+use Rattle.std.specs.Prelude.{Option, Some, None, option_map, Contains}
+use Rattle.walrus_base.specs.Operators.{Functions, Elements, DataSegments, Item}
 use Rattle.walrus_model.specs.Abstract.{Abstract, Export, ElementKind, PassiveElements, DeclaredElements, ActiveElements, Element, DataKind, PassiveData, ActiveData, DataSegment}
 use Rattle.walrus_model.specs.Refers.{written_in, Refers}
 use Rattle.walrus_model.specs.Roots.{IsRootElement, IsRootData, IsRoot, exported, start, data_segment, element_segment, asked_for}
@@ -10,9 +10,10 @@ use Rattle.walrus_model.specs.Renaming.{Renaming, renamed, renamed_element_kind,
 use Rattle.walrus_model.specs.Same.{BothAnd}
 use Rattle.walrus_model.specs.Carried.{Carried}
 use Rattle.walrus_model.specs.Follows.{SetsFollow, IsWide, ReachedFollows}
-use Rattle.walrus_model.proofs.Lists.{Contains-head, Contains-tail, Contains-uncons, Contains-none, Contains-map}
+use Rattle.walrus_base.proofs.Lists.{Contains-head, Contains-tail, Contains-uncons, Contains-none, Contains-map}
 use Rattle.walrus_model.proofs.Steps.{given}
 use Rattle.walrus_model.proofs.Follow.{names_follow_lem}
+use Rattle.walrus_model.proofs.Orders.{is_some_by as there_is}
 
 -- an item of a list that was put through f
 pub Contains-unmap : {A B : Type 0} (f : A → B) (xs : List A) (y : B) → Contains (map f xs) y → (x : A) × Contains xs x × (f x ≡ y)
@@ -31,9 +32,6 @@ taken S None b y s e = absurd s
 start_back : (f : ℕ → ℕ) (o : Option ℕ) (j : ℕ) → option_map f o ≡ Some j → (i : ℕ) × (o ≡ Some i) × (f i ≡ j)
 start_back f None j e = absurd (cc)
 start_back f (Some i) j e = (i, refl, cc)
-
-there_is : {X : Type 0} (o : Option X) (x : X) → o ≡ Some x → IsSome o
-there_is o x e = subst IsSome (sym e) refl
 
 module _ (r : Renaming) where
   element_forth : (k : ElementKind) → IsRootElement k → IsRootElement (renamed_element_kind r k)

@@ -9,7 +9,7 @@ use Rattle.wasm_frames.specs.Record as wire
 use Rattle.wasm_operators.specs.Operators as wire_ops
 use Rattle.wasm_operators.specs.Forms.{operator}
 use Rattle.walrus_base.specs.Types.{ValType}
-use Rattle.walrus_types.specs.Operators.{Op}
+use Rattle.walrus_base.specs.Operators.{Op}
 use Rattle.walrus_functions.specs.Names.{named_ops}
 use Rattle.walrus_functions.specs.FromRaw.{ops_of}
 use Rattle.walrus_functions.specs.Features.{Features}

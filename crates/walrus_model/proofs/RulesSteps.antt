@@ -1,7 +1,7 @@
 -- What was parsed and what gc left keep the rules.
 use Rattle.std.proofs.Common.{◌≡◌, ℕ, refl, sym, ap, ◌∙◌, subst, inl, ⊎_elim}
 use Rattle.std.specs.Prelude.{Option, Some, None, Contains, option_map}
-use Rattle.walrus_types.specs.Operators.{Functions, Item}
+use Rattle.walrus_base.specs.Operators.{Functions, Item}
 use Rattle.walrus_model.specs.Abstract.{Abstract, Function, Uninitialised, Global, Memory, Body}
 use Rattle.walrus_model.specs.Kept.{Kept, IsSpareMemory}
 use Rattle.walrus_model.specs.Names.{body_of, body_of_function}
@@ -14,7 +14,7 @@ use Rattle.walrus_model.specs.Roots.{exported, start}
 use Rattle.walrus_model.specs.Rules.{RulesHold}
 use Rattle.walrus_model.specs.RulesCarried.{TakenOver}
 use Rattle.walrus_model.specs.Same.{BothAnd}
-use Rattle.walrus_model.proofs.Lists.{Contains-none}
+use Rattle.walrus_base.proofs.Lists.{Contains-none}
 use Rattle.walrus_model.proofs.OffsetRules.{rules_carried}
 use Rattle.walrus_model.proofs.PipelineCollected.{carried_collected}
 
@@ -28,7 +28,7 @@ no_memory_names m i y None h = Contains-none y h
 no_memory_names m i y (Some x) h = Contains-none y h
 
 -- what gc keeps names only what it keeps
-kept_named : (v : Abstract) (x y : Item) → Kept v x → Contains (written_in v x) y → Kept v y
+pub kept_named : (v : Abstract) (x y : Item) → Kept v x → Contains (written_in v x) y → Kept v y
 kept_named v x y k at = ⊎_elim
     (λ (h : Reached v x). inl (step x y h (inl at)))
     (λ (s : IsSpareMemory v x). absurd (let at_memory = subst (λ (z : Item). Contains (written_in v z) y) s.is at in no_memory_names v s.memory y (v.memories s.memory) at_memory))

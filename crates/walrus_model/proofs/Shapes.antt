@@ -2,18 +2,19 @@
 use Rattle.std.proofs.Common.{◌≡◌, ℕ, List, [], ◌∷◌, ◌++◌, map, refl, sym, ap, ◌∙◌, subst, ⊎_elim}
 use Rattle.std.specs.Prelude.{Option, Some, None, option_map, Contains, flat_map, filter_map}
 use Rattle.walrus_base.specs.Types.{SubType, map_sub, sub_names}
-use Rattle.walrus_types.specs.Operators.{Types, Item, type_item}
+use Rattle.walrus_base.specs.Operators.{Types, Item, type_item}
 use Rattle.walrus_model.specs.Abstract.{Abstract, TypeDef}
-use Rattle.walrus_types.specs.Shape.{place_in, Seen, Own, Other, seen_at, seen_from, in_its_group, others_through, slot, other_type, Shape, OfGroup, Shapes, NoShapes, AndShape, AreMembers, HasShape, HaveShapes}
+use Rattle.walrus_base.specs.Shape.{place_in, Seen, Own, Other, seen_at, seen_from, in_its_group, others_through, slot, other_type, Shape, OfGroup, Shapes, NoShapes, AndShape, AreMembers, HasShape, HaveShapes}
 use Rattle.walrus_model.specs.Renaming.{Renaming}
 use Rattle.walrus_model.specs.Same.{SameType, BothAnd}
 use Rattle.walrus_model.specs.Carried.{Carried}
 use Rattle.walrus_model.specs.Closed.{HoldsItsTypes}
 use Rattle.walrus_model.specs.Laws.{KeepsShapes}
-use Rattle.walrus_model.proofs.Lists.{map-map, map-same, map-same_on, Contains-head, Contains-tail, Contains-map, Contains-append_1, Contains-append_2, Contains-uncons, Contains-none, flat_map-follows_all}
+use Rattle.walrus_base.proofs.Lists.{map-map, map-same, map-same_on, Contains-head, Contains-tail, Contains-map, Contains-append_1, Contains-append_2, Contains-uncons, Contains-none, flat_map-follows_all}
 use Rattle.std.proofs.lemmas.List.Elements as elements
 use Rattle.walrus_model.proofs.Steps.{given}
-use Rattle.walrus_model.proofs.TypeMaps.{sub-map, sub-same, sub-names}
+use Rattle.walrus_base.proofs.TypeMaps.{sub-map, sub-same, sub-names}
+use Rattle.walrus_base.proofs.ShapesKept.{made_of}
 
 -- a slot doesn't tell which other type it is
 slot_through : (f : ℕ → ℕ) (s : Seen) → slot (others_through f s) ≡ slot s
@@ -49,11 +50,6 @@ others_next group t ts v None h at = ⊎_elim
 pub others_named : (group names : List ℕ) (v : ℕ) → Contains (filter_map other_type (map (seen_from group) names)) v → Contains names v
 others_named group [] v at = at
 others_named group (t ∷ ts) v at = others_next group t ts v (place_in group t) (others_named group ts v) at
-
--- what stands where something was made of what stands there
-pub made_of : {X Y : Type 0} (f : X → Y) (o : Option X) (y : Y) → option_map f o ≡ Some y → (x : X) × (o ≡ Some x) × (f x ≡ y)
-made_of f None y e = absurd (cc)
-made_of f (Some x) y e = (x, refl, cc)
 
 module _ (K : Item → Type 0) (m : Abstract) (holds : HoldsItsTypes K m) where
   group_chosen : (t : ℕ) (x : TypeDef) → K (type_item t) → m.types t ≡ Some x → (u : ℕ) → Contains x.group u → K (type_item u)

@@ -1,7 +1,7 @@
 -- The items of a module, space by space, are those of its fields, and so is what a step does with them.
 use Rattle.std.proofs.Common.{◌≡◌, ℕ, refl, sym, subst}
 use Rattle.std.specs.Prelude.{IsSome, map, option_map}
-use Rattle.walrus_types.specs.Operators.{Space, Types, Functions, Tables, Memories, Tags, Globals, Elements, DataSegments, Item}
+use Rattle.walrus_base.specs.Operators.{Space, Types, Functions, Tables, Memories, Tags, Globals, Elements, DataSegments, Item}
 use Rattle.walrus_model.specs.Abstract.{Abstract}
 use Rattle.walrus_model.specs.Carried.{Carries, KeepsApart, Carried, In}
 use Rattle.walrus_model.specs.Kept.{Kept, IsImportOf}

@@ -1,7 +1,7 @@
 -- A step, and then a step that takes all that there is.
 use Rattle.std.proofs.Common.{◌≡◌, ℕ, refl, sym, ap, subst, inl, ⊎_elim}
 use Rattle.std.specs.Prelude.{Option, Some, None, Contains}
-use Rattle.walrus_types.specs.Operators.{Space, Types, Functions, Tables, Memories, Tags, Globals, Elements, DataSegments, Item, type_item}
+use Rattle.walrus_base.specs.Operators.{Space, Types, Functions, Tables, Memories, Tags, Globals, Elements, DataSegments, Item, type_item}
 use Rattle.walrus_model.specs.Abstract.{Abstract, Import}
 use Rattle.walrus_model.specs.Live.{IsLive}
 use Rattle.walrus_model.specs.Refers.{named_by, type_names}

@@ -1,7 +1,7 @@
 -- Where each thing of a module that was taken over comes from, and where each chosen one goes.
 use Rattle.std.proofs.Common.{◌≡◌, ℕ, Bool, true, List, [], ◌∷◌, map, refl, sym, ap, ◌∙◌, subst, inl, inr, ⊎_elim}
 use Rattle.std.specs.Prelude.{Option, Some, None, IsSome, Contains, ◌⊎◌}
-use Rattle.walrus_types.specs.Operators.{Space, Types, Elements, Item}
+use Rattle.walrus_base.specs.Operators.{Space, Types, Elements, Item}
 use Rattle.walrus_model.specs.Abstract.{Abstract}
 use Rattle.walrus_model.specs.Carried.{Carries}
 use Rattle.walrus_model.specs.Live.{IsLive}
@@ -12,7 +12,7 @@ use Rattle.walrus_model.specs.Spaces.{Thing, look, names_in_thing, SameThing}
 use Rattle.walrus_model.specs.RulesCarried.{TakenOver}
 use Rattle.walrus_model.proofs.Spaces.{written_in_look, carried_items}
 use Rattle.walrus_model.proofs.Steps.{live_under}
-use Rattle.walrus_model.proofs.Lists.{Contains-head, Contains-tail, Contains-uncons, Contains-none}
+use Rattle.walrus_base.proofs.Lists.{Contains-head, Contains-tail, Contains-uncons, Contains-none}
 
 pub Contains-map_back : {A B : Type 0} (f : A → B) (xs : List A) (y : B) → Contains (map f xs) y → (x : A) × Contains xs x × (f x ≡ y)
 Contains-map_back f [] y h = absurd (Contains-none y h)

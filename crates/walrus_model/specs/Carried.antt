@@ -1,6 +1,6 @@
 -- The chosen part of a module as another module.
 use Rattle.std.specs.Prelude.{ℕ, map, Option, IsSome, option_map, ◌≡◌, ◌⊎◌}
-use Rattle.walrus_types.specs.Operators.{Space, Types, Functions, Tables, Memories, Tags, Globals, Elements, DataSegments, Item}
+use Rattle.walrus_base.specs.Operators.{Space, Types, Functions, Tables, Memories, Tags, Globals, Elements, DataSegments, Item}
 use Rattle.walrus_model.specs.Abstract.{Abstract}
 use Rattle.walrus_model.specs.Kept.{IsImportOf}
 use Rattle.walrus_model.specs.Renaming.{Renaming, renamed_table, renamed_memory, renamed_tag, renamed_global, renamed_element, renamed_data, renamed_import, renamed_export}

@@ -1,6 +1,6 @@
 -- What is named in a module and isn't there.
 use Rattle.std.specs.Prelude.{ℕ, Some, None, Contains, ◌≡◌}
-use Rattle.walrus_types.specs.Operators.{Item}
+use Rattle.walrus_base.specs.Operators.{Item}
 use Rattle.walrus_model.specs.Abstract.{Abstract, Body, Uninitialised, Function, Import, Export}
 use Rattle.walrus_model.specs.Live.{IsLive}
 use Rattle.walrus_model.specs.Names.{body_of}

@@ -4,11 +4,11 @@ use Rattle.wasm_entries.specs.declared.record.RawExportKind.TheVariants as kinds
 use Rattle.wasm_entries.specs.Record as entries
 use Rattle.wasm_frames.specs.Record as wire
 use Rattle.walrus_base.specs.Types.{Func, Struct, ValType, I32, Ref, Concrete, SubType, Unpacked}
-use Rattle.walrus_types.specs.Operators.{Types, Tags, Functions, Index, Block, OneResult, S32, Op}
+use Rattle.walrus_base.specs.Operators.{Types, Tags, Functions, Index, Block, OneResult, S32, Op}
 use Rattle.walrus_model.specs.Abstract.{Abstract, TypeDef, Body, LocalFunction, Defined, AnItem, ALocal}
 use Rattle.walrus_model.specs.Config.{Config}
 use Rattle.walrus_model.specs.Kept.{Kept}
-use Rattle.walrus_types.specs.Shape.{HasShape, Shape, OfGroup, NoShapes, AndShape, InGroup, Filled}
+use Rattle.walrus_base.specs.Shape.{HasShape, Shape, OfGroup, NoShapes, AndShape, InGroup, Filled}
 use Rattle.walrus_model.specs.Same.{SameType}
 use Rattle.walrus_model.specs.Names.{name_of}
 use Rattle.walrus_model.specs.Producers.{produced}
@@ -56,7 +56,7 @@ abbrev pub plain : Config
 plain = record { writes_names = true; synthetic_names = false; writes_producers = false; legacy_exceptions = true; only_stable_features = false }
 
 -- The rules hold; gc keeps function 1 and its type, not function 0; the module of one function is what comes out. Which bytes read as
--- these modules stands in `walrus_rules`.
+-- these modules stands in `walrus_theorem`.
 pub record TwoFunctions : Type 0 where
   pub holds : Holds two_functions
   pub second_is_kept : Kept two_functions (Functions, 1)

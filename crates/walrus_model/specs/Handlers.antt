@@ -2,7 +2,7 @@
 -- handling proposal).
 use Rattle.std.specs.Prelude.{ℕ, List, map, Option, option_map}
 use Rattle.walrus_base.specs.Types.{CompType}
-use Rattle.walrus_types.specs.Composite.{function_comp}
+use Rattle.walrus_base.specs.Composite.{function_comp}
 use Rattle.walrus_functions.specs.Handlers as handlers
 use Rattle.walrus_model.specs.Abstract.{Abstract, Body}
 

@@ -1,6 +1,6 @@
 -- Which items a module has.
 use Rattle.std.specs.Prelude.{ℕ, IsSome}
-use Rattle.walrus_types.specs.Operators.{Space, Types, Functions, Tables, Memories, Tags, Globals, Elements, DataSegments, Item}
+use Rattle.walrus_base.specs.Operators.{Space, Types, Functions, Tables, Memories, Tags, Globals, Elements, DataSegments, Item}
 use Rattle.walrus_model.specs.Abstract.{Abstract}
 
 -- the index space has an item of this number

@@ -1,6 +1,6 @@
 -- What gc leaves of a module.
 use Rattle.std.specs.Prelude.{ℕ, Option, Some, IsSome, ◌≡◌, ◌↔◌}
-use Rattle.walrus_types.specs.Operators.{Types, Functions, Tables, Memories, Tags, Globals, Elements, DataSegments, Item}
+use Rattle.walrus_base.specs.Operators.{Types, Functions, Tables, Memories, Tags, Globals, Elements, DataSegments, Item}
 use Rattle.walrus_model.specs.Abstract.{Abstract, Subject, TheModule, AnItem, ALocal}
 use Rattle.walrus_model.specs.Live.{IsLive}
 use Rattle.walrus_model.specs.Reached.{Reached}

@@ -1,8 +1,8 @@
 -- In which order the items of each space are written, and what is written along it.
 use Rattle.std.specs.Prelude.{ℕ, List, Option, Some, IsSome, AllPairs, slice_get, unwrap_or, ◌≡◌}
 use Rattle.std.specs.List.{AllZip}
-use Rattle.walrus_types.specs.Operators.{Space}
-use Rattle.walrus_types.specs.Shape.{place_in}
+use Rattle.walrus_base.specs.Operators.{Space}
+use Rattle.walrus_base.specs.Shape.{place_in}
 use Rattle.walrus_model.specs.Abstract.{Abstract, ImportedBy}
 use Rattle.walrus_model.specs.Order.{ByImport}
 use Rattle.walrus_model.specs.Ordered.{Ordered, StandsFor}

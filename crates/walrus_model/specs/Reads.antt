@@ -1,7 +1,7 @@
 -- What the sections declare, and what the bytes of a body read as under that ("Binary Format > Modules").
 use Rattle.std.specs.Prelude.{ℕ, Bool, ◌+◌, length, Option, Some, None, unwrap_or, nat_lt, if◌then◌else◌}
 use Rattle.wasm_frames.specs.Record as wire
-use Rattle.walrus_types.specs.Operators.{Types, Functions, Tables, Memories, Tags, Globals, Elements, DataSegments}
+use Rattle.walrus_base.specs.Operators.{Types, Functions, Tables, Memories, Tags, Globals, Elements, DataSegments}
 use Rattle.walrus_functions.specs.Names.{Lookup}
 use Rattle.walrus_functions.specs.Features.{Features}
 use Rattle.walrus_functions.specs.Body.{Context, context, BodyReads}

@@ -1,10 +1,10 @@
 -- When two records say the same under a renaming.
 use Rattle.std.specs.Prelude.{ℕ, map, Option, Some, None, option_map, ◌≡◌}
 use Rattle.walrus_base.specs.Types.{map_val, map_sub}
-use Rattle.walrus_types.specs.Operators.{Types}
+use Rattle.walrus_base.specs.Operators.{Types}
 use Rattle.walrus_model.specs.Abstract.{TypeDef, Body, FunctionKind, ImportedFunction, LocalFunction, Uninitialised, Function}
 use Rattle.walrus_model.specs.Refers.{IsUsed}
-use Rattle.walrus_types.specs.Shape.{place_in, in_its_group, others_through}
+use Rattle.walrus_base.specs.Shape.{place_in, in_its_group, others_through}
 use Rattle.walrus_model.specs.Renaming.{Renaming, renamed_ops}
 
 -- Type i of one module is type r i of the other: the group put through r, the position in it, and the type as it stands

@@ -12,7 +12,7 @@ use Rattle.wasm_forms.specs.declared.types.RawRef.{RawRef}
 use Rattle.wasm_entries.specs.Record as entries
 use Rattle.wasm_frames.specs.Record as wire
 use Rattle.walrus_base.specs.Types.{RefType, ValType}
-use Rattle.walrus_types.specs.Operators.{Space, Functions, Tables, Memories, Tags, Globals, Item, Op}
+use Rattle.walrus_base.specs.Operators.{Space, Functions, Tables, Memories, Tags, Globals, Item, Op}
 use Rattle.walrus_functions.specs.FromRaw.{val_of, heap_of}
 use Rattle.walrus_groups.specs.Groups.{types_from}
 use Rattle.walrus_functions.specs.Handlers.{params_of}

@@ -1,6 +1,6 @@
 -- The items of a module, space by space: what is said once for all of them is said over these.
 use Rattle.std.specs.Prelude.{ℕ, List, Option, Some, None, ◌≡◌}
-use Rattle.walrus_types.specs.Operators.{Space, Types, Functions, Tables, Memories, Tags, Globals, Elements, DataSegments, Item}
+use Rattle.walrus_base.specs.Operators.{Space, Types, Functions, Tables, Memories, Tags, Globals, Elements, DataSegments, Item}
 use Rattle.walrus_model.specs.Abstract.{Abstract, TypeDef, Origin, ImportedBy, Defined, FunctionKind, ImportedFunction, LocalFunction, Uninitialised, Function, Table, Memory, Tag, Global, Element, DataSegment}
 use Rattle.walrus_model.specs.Refers.{type_names, function_names, table_names, memory_names, tag_names, global_names, element_names, data_names}
 use Rattle.walrus_model.specs.Renaming.{Renaming, renamed_table, renamed_memory, renamed_tag, renamed_global, renamed_element, renamed_data}

@@ -1,7 +1,7 @@
 -- What emission tells of the places in the bytes that it wrote.
 use Rattle.std.specs.Prelude.{ℕ, Bool, true, false, List, [], length, Some, IsSome, Contains, AllPairs, slice_get, ◌≡◌, ◌≢◌, ◌+◌, ◌<◌, ◌≤◌, ◌⊎◌, ◌↔◌}
 use Rattle.wasm_frames.specs.Record as wire
-use Rattle.walrus_types.specs.Operators.{Functions}
+use Rattle.walrus_base.specs.Operators.{Functions}
 use Rattle.walrus_functions.specs.Transform.{Transform}
 use Rattle.walrus_model.specs.Abstract.{Abstract}
 use Rattle.walrus_model.specs.Renaming.{Renaming}

@@ -1,7 +1,7 @@
 -- What a module in memory needs to be written: imports and items name each other, no exact heap type.
 use Rattle.std.specs.Prelude.{ℕ, List, [], ◌∷◌, ◌++◌, flat_map, Option, Some, None, Contains, ◌≡◌, ◌≢◌}
 use Rattle.walrus_base.specs.Types.{HeapType, val_heaps, comp_heaps, IsNotExact}
-use Rattle.walrus_types.specs.Operators.{Types, Functions, Tables, Memories, Tags, Globals, Elements, DataSegments, Item, BlockType, NoResult, OneResult, OfType, Arg, Value, Heap, Block, Op}
+use Rattle.walrus_base.specs.Operators.{Types, Functions, Tables, Memories, Tags, Globals, Elements, DataSegments, Item, BlockType, NoResult, OneResult, OfType, Arg, Value, Heap, Block, Op}
 use Rattle.walrus_model.specs.Abstract.{Abstract, Origin, ImportedBy, Defined, Body, FunctionKind, ImportedFunction, LocalFunction, Uninitialised, Function, ElementKind, PassiveElements, DeclaredElements, ActiveElements, ElementItems, ListedFunctions, Expressions, DataKind, PassiveData, ActiveData, Import}
 use Rattle.walrus_model.specs.Refers.{used_locals}
 

@@ -5,7 +5,7 @@ ghost use Rattle.std.specs.List.{AllZip};
 ghost use Rattle.std.specs.List.Sorted.{IsPermutation};
 ghost use Rattle.wasm_entries.specs.Record as wire;
 ghost use Rattle.walrus_base.specs.Arena.{entries, item_at};
-ghost use Rattle.walrus_types.specs.Operators.{Functions, Globals, Space, Tables};
+ghost use Rattle.walrus_base.specs.Operators.{Functions, Globals, Space, Tables};
 ghost use Rattle.walrus_model.specs.Abstract.{Abstract, Defined, Function, Global, ImportedBy, Table, Uninitialised};
 ghost use Rattle.walrus_model.specs.Carried.{Carries, In, KeepsApart};
 ghost use Rattle.walrus_model.specs.Imported.{IsBrought, brought, import_number, numbered_from};

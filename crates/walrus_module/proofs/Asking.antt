@@ -3,17 +3,17 @@ use Rattle.std.proofs.Common.{◌≡◌, ℕ, Bool, true, false, cond, not, ◌|
 use Rattle.std.proofs.lemmas.List.{map-append}
 use Rattle.std.proofs.lemmas.Slice.Eq.{bytes_eq-Decides}
 use Rattle.wasm_frames.specs.Record as wire
-use Rattle.walrus_types.specs.Operators.{Item}
+use Rattle.walrus_base.specs.Operators.{Item}
 use Rattle.walrus_code.specs.Names.{Lookup}
 use Rattle.walrus_model.specs.Abstract.{Custom}
 use Rattle.walrus_model.specs.Customs.{fixed, is_debug_name, is_dylink, no_indices, written_customs}
 use Rattle.walrus_model.specs.Sections as sections
-use Rattle.walrus_model.proofs.Lists.{Contains-head, Contains-tail}
-use Rattle.walrus_parts.specs.Roots.{RootLists, with_root, with_roots}
-use Rattle.walrus_parts.specs.Section.{IsSectionError}
-use Rattle.walrus_parts.specs.declared.custom.CustomSection.{Ghosts}
-use Rattle.walrus_parts.specs.declared.error.Error.{Error}
-use Rattle.walrus_parts.specs.declared.error.Error.TheVariants as errors
+use Rattle.walrus_base.proofs.Lists.{Contains-head, Contains-tail}
+use Rattle.walrus_items.specs.Roots.{RootLists, with_root, with_roots}
+use Rattle.walrus_items.specs.Section.{IsSectionError}
+use Rattle.walrus_items.specs.declared.custom.CustomSection.{Ghosts}
+use Rattle.walrus_items.specs.declared.error.Error.{Error}
+use Rattle.walrus_items.specs.declared.error.Error.TheVariants as errors
 use Rattle.walrus_module.specs.Asked.{IsRefusedBy, OneAskedMayRefuse, OneMayRefuse, in_turn, is_dylink_name, is_in_turn, section_under}
 use Rattle.walrus_module.specs.Meaning.{Meaning, meaning}
 use Rattle.walrus_module.specs.View.{custom_of}

@@ -3,22 +3,22 @@ use Rattle.std.proofs.Common.{◌≡◌, ℕ, ◌<◌, ◌≤◌, ◌^◌, true,
 use Rattle.std.specs.Prelude.{All, AllPairs, Contains, IsSome, Option, option_map, slice_index_or}
 use Rattle.std.proofs.lemmas.List.Elements.{All-contains, Contains-append_right}
 use Rattle.walrus_base.specs.Arena.{entries, item_at, items}
-use Rattle.walrus_types.specs.Composite.{supertypes}
-use Rattle.walrus_types.specs.Operators.{Space, Tables, Globals, Op, names_of, type_item}
-use Rattle.walrus_types.specs.TypeDef.{TypeDef, type_def}
-use Rattle.walrus_types.proofs.SlotLemmas.{item_at-map}
+use Rattle.walrus_base.specs.Composite.{supertypes}
+use Rattle.walrus_base.specs.Operators.{Space, Tables, Globals, Op, names_of, type_item}
+use Rattle.walrus_base.specs.TypeDef.{TypeDef, type_def}
+use Rattle.walrus_base.proofs.SlotLemmas.{item_at-map}
 use Rattle.walrus_base.specs.Types.{heap_names, val_names}
 use Rattle.walrus_base.specs.declared.id.Id.{Id}
 use Rattle.walrus_base.specs.declared.keys.TypeKey.{TypeKey}
-use Rattle.walrus_items.specs.FunctionKind.{FunctionKind}
-use Rattle.walrus_items.specs.FunctionKind.TheVariants as kinds
+use Rattle.walrus_items.specs.declared.function_kind.FunctionKind.{FunctionKind}
+use Rattle.walrus_items.specs.declared.function_kind.FunctionKind.TheVariants as kinds
 use Rattle.walrus_items.specs.Functions.{FunctionValue, functions}
 use Rattle.walrus_contents.specs.There.{IsRefusal}
 use Rattle.walrus_contents.specs.View.{body, contents_view, function, kind_of, lent, parts_view}
 use Rattle.walrus_contents.specs.declared.parts.Contents.{Contents}
 use Rattle.walrus_contents.specs.declared.parts.Parts.{Parts}
-use Rattle.walrus_contents.proofs.Lookups.{mapped_some}
-use Rattle.walrus_contents.proofs.Slots.{entry_in, item_seen}
+use Rattle.walrus_base.proofs.Lookups.{mapped_some}
+use Rattle.walrus_model.proofs.Slots.{entry_in, item_seen}
 use Rattle.walrus_model.specs.Abstract as abstract
 use Rattle.walrus_model.specs.Abstract.{Abstract}
 use Rattle.walrus_model.specs.Dead.{HasDead}
@@ -27,15 +27,15 @@ use Rattle.walrus_model.specs.Names.{body_of_function, body_of_kind}
 use Rattle.walrus_model.specs.Order.{ByImport}
 use Rattle.walrus_model.specs.Refers.{global_names, named_by, table_names}
 use Rattle.walrus_model.specs.Rules.{LocalsHold, RulesHold}
-use Rattle.walrus_model.proofs.Lists.{Contains-map}
+use Rattle.walrus_base.proofs.Lists.{Contains-map}
 use Rattle.walrus_model.proofs.Living.{AllLive, all_live}
 use Rattle.walrus_model.proofs.Spaces.{live_to}
-use Rattle.walrus_model.proofs.Standing.{some_inj}
-use Rattle.walrus_parts.specs.declared.error.Error.{Error}
-use Rattle.walrus_parts.specs.declared.error.Error.TheVariants.{DeadItem, Memory, NoIndex, TooLarge, TwoIndices}
-use Rattle.walrus_rules.proofs.Counting.{no_longer}
-use Rattle.walrus_rules.proofs.NoCause.{two}
-use Rattle.walrus_rules.specs.WellMade.{IsCounted}
+use Rattle.walrus_base.proofs.Standing.{some_inj}
+use Rattle.walrus_items.specs.declared.error.Error.{Error}
+use Rattle.walrus_items.specs.declared.error.Error.TheVariants.{DeadItem, Memory, NoIndex, TooLarge, TwoIndices}
+use Rattle.walrus_base.proofs.Counting.{no_longer}
+use Rattle.walrus_theorem.proofs.NoCause.{two}
+use Rattle.walrus_theorem.specs.WellMade.{IsCounted}
 use Rattle.walrus_plan.specs.Places.{places}
 use Rattle.walrus_plan.specs.Prepared.{IsPrepared}
 use Rattle.walrus_plan.specs.Refusals.{RefusesPlan}
@@ -45,7 +45,7 @@ use Rattle.walrus_writing.proofs.RefusesLarge.{too_many_items}
 use Rattle.walrus_module.specs.Check.{PassesCheck, RefusesCheck}
 use Rattle.walrus_module.specs.Tested.{KeepsRules, KindDeclaresFew, forms_are_spelled}
 use Rattle.walrus_module.proofs.CountedBodies.{held_counted}
-use Rattle.walrus_module.proofs.Deciding.{all_so}
+use Rattle.walrus_model.proofs.Deciding.{all_so}
 use Rattle.walrus_module.proofs.FewLocals.{counted_few, few_counted}
 use Rattle.walrus_module.proofs.FormsTested.{const_heaps_fine, consts_fine, heaps_fine}
 

@@ -2,25 +2,26 @@
 use Rattle.std.proofs.Common.{◌≡◌, ℕ, List, [], ◌∷◌, Some, None, refl, sym, subst}
 use Rattle.std.specs.Prelude.{Contains, Option}
 use Rattle.walrus_base.specs.Types.{HeapType, IsNotExact, comp_heaps}
-use Rattle.walrus_types.specs.Operators.{Types, Functions, Tables, Memories, Tags, Globals, Elements, DataSegments, Item}
-use Rattle.walrus_types.specs.TypeDef.{TypeDef}
-use Rattle.walrus_parts.specs.declared.custom.CustomSection.{Ghosts}
+use Rattle.walrus_base.specs.Operators.{Types, Functions, Tables, Memories, Tags, Globals, Elements, DataSegments, Item}
+use Rattle.walrus_base.specs.TypeDef.{TypeDef}
+use Rattle.walrus_items.specs.declared.custom.CustomSection.{Ghosts}
 use Rattle.walrus_model.specs.Abstract.{Abstract, Function, FunctionKind, ImportedFunction, LocalFunction, Uninitialised}
 use Rattle.walrus_model.specs.Config.{Config}
 use Rattle.walrus_model.specs.Dead.{NoKind}
 use Rattle.walrus_model.specs.WellMade.{body_heaps, heaps_by, heaps_in, kind_heaps}
-use Rattle.walrus_model.proofs.Lists.{Contains-head, Contains-none, Contains-tail}
-use Rattle.walrus_rules.specs.WellMade.{IsWellMade}
-use Rattle.walrus_rules.proofs.EditTops.{customs_stay}
-use Rattle.walrus_rules.proofs.Matches.{matches}
-use Rattle.walrus_rules.proofs.PlainTypes.{Plain, TypePlain, each_in}
-use Rattle.walrus_rules.proofs.WellStays.{well_formed_in}
+use Rattle.walrus_base.proofs.Lists.{Contains-head, Contains-none, Contains-tail}
+use Rattle.walrus_theorem.specs.WellMade.{IsWellMade}
+use Rattle.walrus_theorem.proofs.EditTops.{customs_stay}
+use Rattle.walrus_theorem.proofs.Matches.{matches}
+use Rattle.walrus_model.proofs.PlainTypes.{Plain, TypePlain}
+use Rattle.walrus_theorem.proofs.WellStays.{well_formed_in}
 use Rattle.walrus_writing.proofs.NoCauseHeaps.{body_plain}
 use Rattle.walrus_module.specs.Check.{BodiesAreFormed, CheckedIsWellMade, PassesCheck}
 use Rattle.walrus_module.specs.View.{contents_of, held_view, view}
 use Rattle.walrus_module.specs.declared.entry.SectionEntry.{SectionEntry}
 use Rattle.walrus_module.specs.declared.module.Module.{Module}
 use Rattle.walrus_module.proofs.CountedBodies.{held_counted}
+use Rattle.walrus_model.proofs.Parsing.{each_in}
 
 plain_so : (hs : List (HeapType ℕ)) → ((h : HeapType ℕ) → Contains hs h → IsNotExact h) → Plain hs
 plain_so [] law = tt

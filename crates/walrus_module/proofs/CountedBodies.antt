@@ -4,20 +4,20 @@ use Rattle.std.specs.Prelude.{Option, Some, None, IsSome, Contains, filter, opti
 use Rattle.std.specs.List.{range_with_len}
 use Rattle.std.proofs.lemmas.List.{length-map}
 use Rattle.walrus_base.specs.Arena.{item_at}
-use Rattle.walrus_types.specs.Locals.{locals, local_type}
-use Rattle.walrus_types.specs.Value.{val_type}
-use Rattle.walrus_types.specs.declared.locals.ModuleLocals.{ModuleLocals}
+use Rattle.walrus_base.specs.Locals.{locals, local_type}
+use Rattle.walrus_base.specs.Value.{val_type}
+use Rattle.walrus_base.specs.declared.locals.ModuleLocals.{ModuleLocals}
 use Rattle.walrus_model.specs.EmittedBody.{types_of as local_types}
 use Rattle.walrus_model.specs.Abstract.{Body}
 use Rattle.walrus_model.specs.Names.{body_of_function, body_of_kind}
 use Rattle.walrus_model.specs.Refers.{IsUsed}
-use Rattle.walrus_model.proofs.Lists.{Contains-none}
-use Rattle.walrus_model.proofs.Standing.{some_inj}
+use Rattle.walrus_base.proofs.Lists.{Contains-none}
+use Rattle.walrus_base.proofs.Standing.{some_inj}
 use Rattle.walrus_items.specs.Functions.{FunctionValue, functions}
-use Rattle.walrus_items.specs.FunctionKind.TheVariants as kinds
-use Rattle.walrus_items.specs.FunctionKind.{FunctionKind}
+use Rattle.walrus_items.specs.declared.function_kind.FunctionKind.TheVariants as kinds
+use Rattle.walrus_items.specs.declared.function_kind.FunctionKind.{FunctionKind}
 use Rattle.walrus_contents.specs.View.{body, function, is_declared, kind_of}
-use Rattle.walrus_rules.specs.WellMade.{IsCounted}
+use Rattle.walrus_theorem.specs.WellMade.{IsCounted}
 use Rattle.walrus_reading.proofs.Carrying.{item_within}
 use Rattle.walrus_reading.proofs.DeclaredLocals.{counts}
 use Rattle.walrus_module.specs.Laws.{AbsentIsUncounted, HeldAreCounted}

@@ -8,9 +8,9 @@ use Rattle.walrus_base.specs.Arena.{item_at}
 use Rattle.walrus_base.specs.Id.{place}
 use Rattle.walrus_base.specs.declared.id.Id.{Id}
 use Rattle.walrus_base.specs.declared.keys.FunctionKey.{FunctionKey}
-use Rattle.walrus_types.specs.Operators.{Types, Functions, Tables, Memories, Tags, Globals, Elements, DataSegments, Item, function_item}
-use Rattle.walrus_parts.specs.declared.segments.ElementItems.TheVariants as element_contents
-use Rattle.walrus_parts.specs.declared.segments.ElementKind.TheVariants as element_kinds
+use Rattle.walrus_base.specs.Operators.{Types, Functions, Tables, Memories, Tags, Globals, Elements, DataSegments, Item, function_item}
+use Rattle.walrus_items.specs.declared.segments.ElementItems.TheVariants as element_contents
+use Rattle.walrus_items.specs.declared.segments.ElementKind.TheVariants as element_kinds
 use Rattle.walrus_items.specs.Elements.{ElementValue, ModuleElements, elements as elements_in}
 use Rattle.walrus_items.specs.OwnIds.{AtOwnIds}
 use Rattle.walrus_contents.specs.View.{contents_view, element_of, name_at, named_of}
@@ -21,14 +21,14 @@ use Rattle.walrus_model.specs.Declared.{AreUndeclared, NothingUndeclared}
 use Rattle.walrus_model.specs.Live.{IsLive}
 use Rattle.walrus_model.specs.Names.{last_name, own_name}
 use Rattle.walrus_model.specs.Refers.{named_by, written_in, element_names}
-use Rattle.walrus_model.proofs.Lists.{Contains-head}
+use Rattle.walrus_base.proofs.Lists.{Contains-head}
 use Rattle.walrus_model.proofs.Living.{AllLive, all_live, none_dead}
 use Rattle.walrus_model.proofs.PipelineOps.{from_map}
-use Rattle.walrus_model.proofs.Standing.{some_inj}
+use Rattle.walrus_base.proofs.Standing.{some_inj}
 use Rattle.walrus_reading.specs.Parsed.{ItemsAtOwnIds}
-use Rattle.walrus_rules.specs.Chain.{AddsSegment, HasSegment, Leaves}
-use Rattle.walrus_rules.proofs.SegmentStep.{live_too, live_undeclared, the_segment}
-use Rattle.walrus_rules.proofs.StepLeaves.{Between, between, is_segment, nothing_undeclared}
+use Rattle.walrus_theorem.specs.Chain.{AddsSegment, HasSegment, Leaves}
+use Rattle.walrus_theorem.proofs.SegmentStep.{live_too, live_undeclared, the_segment}
+use Rattle.walrus_theorem.proofs.StepLeaves.{Between, between, is_segment, nothing_undeclared}
 use Rattle.walrus_module.specs.Left.{AddsDeclared, AndOne, AsTheyWere, ChangesElements}
 use Rattle.walrus_module.specs.View.{contents_of}
 use Rattle.walrus_module.specs.declared.entry.SectionEntry.{SectionEntry}

@@ -5,12 +5,12 @@ use Rattle.std.proofs.lemmas.List.{map-append}
 use Rattle.std.proofs.lemmas.List.Elements.{filter-append}
 use Rattle.std.proofs.lemmas.Grind.{flat_map-append}
 use Rattle.walrus_base.specs.Arena.{items}
-use Rattle.walrus_types.specs.Operators.{Item}
-use Rattle.walrus_model.proofs.Lists.{Contains-append_1, Contains-append_2}
-use Rattle.walrus_items.proofs.Found.{found-item}
-use Rattle.walrus_parts.specs.declared.custom.CustomSection.{Ghosts}
-use Rattle.walrus_rules.proofs.StepHandlers.{Contains-split}
-use Rattle.walrus_rules.specs.Edits.{GainsCustom, LosesCustom, SwapsCustom}
+use Rattle.walrus_base.specs.Operators.{Item}
+use Rattle.walrus_base.proofs.Lists.{Contains-append_1, Contains-append_2}
+use Rattle.walrus_base.proofs.SearchFound.{found-item}
+use Rattle.walrus_items.specs.declared.custom.CustomSection.{Ghosts}
+use Rattle.walrus_theorem.proofs.StepHandlers.{Contains-split}
+use Rattle.walrus_theorem.specs.Edits.{GainsCustom, LosesCustom, SwapsCustom}
 use Rattle.walrus_module.specs.Customs.{sections}
 use Rattle.walrus_module.specs.Edits.{CustomAdded, CustomDeleted, CustomSet, RawRemoved}
 use Rattle.walrus_module.specs.Entry.{names_raw}
@@ -19,7 +19,7 @@ use Rattle.walrus_module.specs.Raws.{without_first}
 use Rattle.walrus_module.specs.View.{can_be_kept, custom_of, kept_by, view}
 use Rattle.walrus_module.specs.declared.entry.SectionEntry.{SectionEntry}
 use Rattle.walrus_module.specs.declared.module.Module.{Module}
-use Rattle.walrus_module.proofs.EditedSlots.{items_added, split}
+use Rattle.walrus_reading.proofs.EditedSlots.{items_added, split}
 
 -- ---- what sections ask for
 

@@ -1,7 +1,7 @@
 -- What deleting an item makes of the abstract module.
 use Rattle.std.proofs.Common.{◌≡◌, ◌≢◌, ℕ, List, Option, Some, None, option_map, slice_set, refl, sym, ap, ◌∙◌, subst}
 use Rattle.walrus_base.specs.Arena.{item_at}
-use Rattle.walrus_types.specs.Operators.{Functions, Tables, Memories, Tags, Globals, Elements, DataSegments}
+use Rattle.walrus_base.specs.Operators.{Functions, Tables, Memories, Tags, Globals, Elements, DataSegments}
 use Rattle.walrus_model.specs.Abstract.{Global, Memory, Table, Tag}
 use Rattle.walrus_model.specs.WellMade.{import_in, kind_import, origin_import}
 use Rattle.walrus_contents.specs.View.{data_of, element_of, function, global_of, handlers_at, kept_data, kept_elements, kind_of, memory_of, origin_of, table_of, tag_of}
@@ -12,12 +12,12 @@ use Rattle.walrus_items.specs.Globals.{globals}
 use Rattle.walrus_items.specs.Memories.{memories}
 use Rattle.walrus_items.specs.Tables.{tables}
 use Rattle.walrus_items.specs.Tags.{tags}
-use Rattle.walrus_parts.specs.declared.function_kind.FunctionKind.{FunctionKind}
-use Rattle.walrus_rules.specs.Edits.{LosesItem, Sets}
-use Rattle.walrus_rules.proofs.EditKept.{some_there}
+use Rattle.walrus_items.specs.declared.function_kind.FunctionKind.{FunctionKind}
+use Rattle.walrus_theorem.specs.Edits.{LosesItem, Sets}
+use Rattle.walrus_theorem.proofs.EditKept.{some_there}
 use Rattle.walrus_module.specs.Edits.{DataDeleted, Edits, ElementDeleted, FunctionDeleted, GlobalDeleted, MemoryDeleted, TableDeleted, TagDeleted, seen}
-use Rattle.walrus_module.proofs.EditedKeeps.{keeps_but, other_number}
-use Rattle.walrus_module.proofs.EditedSlots.{set_elsewhere, sets_seen}
+use Rattle.walrus_theorem.proofs.EditedKeeps.{keeps_but, other_number}
+use Rattle.walrus_reading.proofs.EditedSlots.{set_elsewhere, sets_seen}
 
 module _ {A X : Type 0} (see : A → X) (old new : List (Option A)) (i : ℕ) (x : A) (there : item_at old i ≡ Some x) (gone : new ≡ slice_set old i None) where
   lost : Sets i (Some (see x)) None (λ k. option_map see (item_at old k)) (λ k. option_map see (item_at new k))

@@ -4,9 +4,9 @@ use Rattle.std.proofs.lemmas.List.{map-append}
 use Rattle.walrus_base.specs.Arena.{items}
 use Rattle.walrus_contents.specs.View.{export_of}
 use Rattle.walrus_items.specs.Exports.{exports}
-use Rattle.walrus_rules.specs.Edits.{GainsExport, LosesExport, SwapsExport}
+use Rattle.walrus_theorem.specs.Edits.{GainsExport, LosesExport, SwapsExport}
 use Rattle.walrus_module.specs.Edits.{Edits, ExportAdded, ExportDeleted, ExportSet}
-use Rattle.walrus_module.proofs.EditedSlots.{items_added, split}
+use Rattle.walrus_reading.proofs.EditedSlots.{items_added, split}
 
 pub export_added : ExportAdded
 export_added old new e only are = subst (Edits (GainsExport (export_of e)) old) (sym only) (λ ss. record {

@@ -5,9 +5,9 @@ use Rattle.walrus_base.specs.Arena.{item_at}
 use Rattle.walrus_base.specs.Id.{place}
 use Rattle.walrus_base.specs.declared.id.Id.{Id}
 use Rattle.walrus_base.specs.declared.keys.TypeKey.{TypeKey}
-use Rattle.walrus_types.specs.Locals.{locals}
-use Rattle.walrus_types.specs.Operators.{Types, Functions, Tables, Memories, Tags, Globals, Elements, DataSegments, Item, function_item}
-use Rattle.walrus_types.specs.declared.locals.ModuleLocals.{ModuleLocals}
+use Rattle.walrus_base.specs.Locals.{locals}
+use Rattle.walrus_base.specs.Operators.{Types, Functions, Tables, Memories, Tags, Globals, Elements, DataSegments, Item, function_item}
+use Rattle.walrus_base.specs.declared.locals.ModuleLocals.{ModuleLocals}
 use Rattle.walrus_model.specs.Abstract as abstract
 use Rattle.walrus_model.specs.ReadFunction.{StaysInFront}
 use Rattle.walrus_model.specs.Refers.{KeepsToo}
@@ -18,18 +18,18 @@ use Rattle.walrus_items.specs.Function.{function_type}
 use Rattle.walrus_items.specs.Functions.{FunctionValue, ModuleFunctions, functions}
 use Rattle.walrus_items.specs.Imports.{ImportValue, ModuleImports, imports}
 use Rattle.walrus_items.specs.LocalFunction.{LocalFunction}
-use Rattle.walrus_parts.specs.Kinds.{imported}
-use Rattle.walrus_parts.specs.declared.function_kind.FunctionKind.{FunctionKind}
-use Rattle.walrus_parts.specs.declared.function_kind.FunctionKind.TheVariants.{Import, Local}
-use Rattle.walrus_parts.specs.declared.function_kind.ImportedFunction.{ImportedFunction}
-use Rattle.walrus_parts.specs.declared.kinds.ImportKind.TheVariants as kinds
-use Rattle.walrus_rules.specs.Edits.{GainsImported, GainsItem, KeepsFunction, MakesImported, MakesLocal, RenamesImport, SetsFunction, SwapsBodies, SwapsBody}
+use Rattle.walrus_items.specs.Kinds.{imported}
+use Rattle.walrus_items.specs.declared.function_kind.FunctionKind.{FunctionKind}
+use Rattle.walrus_items.specs.declared.function_kind.FunctionKind.TheVariants.{Import, Local}
+use Rattle.walrus_items.specs.declared.function_kind.ImportedFunction.{ImportedFunction}
+use Rattle.walrus_items.specs.declared.kinds.ImportKind.TheVariants as kinds
+use Rattle.walrus_theorem.specs.Edits.{GainsImported, GainsItem, KeepsFunction, MakesImported, MakesLocal, RenamesImport, SetsFunction, SwapsBodies, SwapsBody}
 use Rattle.walrus_module.specs.Edits.{BodiesSet, BodySet, Edits, FunctionAdded, FunctionImported, FunctionMadeImported, ImportSet, seen}
 use Rattle.walrus_module.specs.Meaning.{Meaning}
 use Rattle.walrus_module.specs.Replaced.{with_body}
-use Rattle.walrus_module.proofs.EditedKeeps.{keeps_functions}
-use Rattle.walrus_module.proofs.EditedLocals.{keeps_function}
-use Rattle.walrus_module.proofs.EditedSlots.{comes_behind, comes_seen, set_elsewhere, set_here, sets_seen, stays_before}
+use Rattle.walrus_theorem.proofs.EditedKeeps.{keeps_functions}
+use Rattle.walrus_reading.proofs.EditedLocals.{keeps_function}
+use Rattle.walrus_reading.proofs.EditedSlots.{comes_behind, comes_seen, set_elsewhere, set_here, sets_seen, stays_before}
 
 -- what stands at a place is there
 stands : {A : Type 0} {o : Option A} {x : A} → o ≡ Some x → IsSome o

@@ -2,23 +2,23 @@
 use Rattle.std.proofs.Common.{◌≡◌, ℕ, List, length, Option, option_map, refl, sym, ap, ◌∙◌, subst, inl, inr}
 use mathlib.Core.Path.{fun_ext}
 use Rattle.walrus_base.specs.Arena.{item_at}
-use Rattle.walrus_types.specs.Alone.{Added, Found, FoundOrAdded, alone}
-use Rattle.walrus_types.specs.Composite.{FunctionType}
-use Rattle.walrus_types.specs.ModuleTypes.{type_names, type_slots}
-use Rattle.walrus_types.specs.Operators.{Types, Functions, Tables, Memories, Tags, Globals, Elements, DataSegments}
-use Rattle.walrus_types.specs.TypeDef.{TypeDef}
-use Rattle.walrus_types.specs.declared.module_types.ModuleTypes.{ModuleTypes}
+use Rattle.walrus_base.specs.Alone.{Added, Found, FoundOrAdded, alone}
+use Rattle.walrus_base.specs.Composite.{FunctionType}
+use Rattle.walrus_base.specs.ModuleTypes.{type_names, type_slots}
+use Rattle.walrus_base.specs.Operators.{Types, Functions, Tables, Memories, Tags, Globals, Elements, DataSegments}
+use Rattle.walrus_base.specs.TypeDef.{TypeDef}
+use Rattle.walrus_base.specs.declared.module_types.ModuleTypes.{ModuleTypes}
 use Rattle.walrus_model.specs.Abstract.{Global, Name, Subject, TheModule, AnItem, ALocal}
 use Rattle.walrus_model.specs.WellMade.{import_in, origin_import}
 use Rattle.walrus_contents.specs.View.{data_of, global_of, name_at, named_of, origin_of}
 use Rattle.walrus_contents.specs.declared.parts.Contents.{Contents}
 use Rattle.walrus_items.specs.Data.{data_segments}
 use Rattle.walrus_items.specs.Globals.{GlobalValue, globals}
-use Rattle.walrus_rules.specs.Edits.{GainsItem}
+use Rattle.walrus_theorem.specs.Edits.{GainsItem}
 use Rattle.walrus_module.specs.Edits.{DataAdded, Edits, GlobalAdded, HasType, TypeFound, seen}
 use Rattle.walrus_module.specs.Meaning.{Meaning}
-use Rattle.walrus_module.proofs.EditedKeeps.{keeps_all}
-use Rattle.walrus_module.proofs.EditedSlots.{comes_behind, comes_seen, free_behind, stays_before}
+use Rattle.walrus_theorem.proofs.EditedKeeps.{keeps_all}
+use Rattle.walrus_reading.proofs.EditedSlots.{comes_behind, comes_seen, free_behind, stays_before}
 
 -- ---- types
 

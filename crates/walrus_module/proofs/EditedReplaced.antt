@@ -6,15 +6,15 @@ use Rattle.walrus_base.specs.Id.{place}
 use Rattle.walrus_base.specs.declared.id.Id.{Id}
 use Rattle.walrus_base.specs.declared.keys.FunctionKey.{FunctionKey}
 use Rattle.walrus_base.specs.declared.keys.TypeKey.{TypeKey}
-use Rattle.walrus_types.specs.Locals.{locals}
-use Rattle.walrus_types.specs.ModuleTypes.{type_slots}
-use Rattle.walrus_types.specs.Operators.{Functions, Item, function_item}
-use Rattle.walrus_types.specs.TypeDef.{TypeDef}
+use Rattle.walrus_base.specs.Locals.{locals}
+use Rattle.walrus_base.specs.ModuleTypes.{type_slots}
+use Rattle.walrus_base.specs.Operators.{Functions, Item, function_item}
+use Rattle.walrus_base.specs.TypeDef.{TypeDef}
 use Rattle.walrus_model.specs.Abstract as abstract
 use Rattle.walrus_model.specs.BodyRead.{new_locals}
 use Rattle.walrus_model.specs.EmittedBody.{types_of}
 use Rattle.walrus_model.specs.WellMade.{ImportsMatch, import_in, import_of as import_of_item, kind_import}
-use Rattle.walrus_model.proofs.Standing.{some_inj}
+use Rattle.walrus_base.proofs.Standing.{some_inj}
 use Rattle.walrus_contents.specs.View.{body, export_of, function, import_of, kind_of}
 use Rattle.walrus_contents.specs.declared.parts.Contents.{Contents}
 use Rattle.walrus_items.specs.Exports.{ExportValue, exports, exports_item}
@@ -23,21 +23,21 @@ use Rattle.walrus_items.specs.Functions.{FunctionValue, functions}
 use Rattle.walrus_items.specs.Imports.{ImportValue, imports, imports_item}
 use Rattle.walrus_items.specs.LocalFunction.{LocalFunction}
 use Rattle.walrus_items.specs.Searches.{first}
-use Rattle.walrus_items.proofs.Found.{found-item, found-passes}
-use Rattle.walrus_parts.specs.Kinds.{exported, imported}
-use Rattle.walrus_parts.specs.declared.error.Error.{Error}
-use Rattle.walrus_parts.specs.declared.function_kind.FunctionKind.{FunctionKind}
-use Rattle.walrus_parts.specs.declared.function_kind.FunctionKind.TheVariants.{Import, Local, Uninitialized}
-use Rattle.walrus_parts.specs.declared.function_kind.ImportedFunction.{ImportedFunction}
-use Rattle.walrus_parts.proofs.ItemLemmas.{is_item-same}
-use Rattle.walrus_rules.specs.Edits.{GainsItem, MakesLocal, SwapsExport}
+use Rattle.walrus_base.proofs.SearchFound.{found-item, found-passes}
+use Rattle.walrus_items.specs.Kinds.{exported, imported}
+use Rattle.walrus_items.specs.declared.error.Error.{Error}
+use Rattle.walrus_items.specs.declared.function_kind.FunctionKind.{FunctionKind}
+use Rattle.walrus_items.specs.declared.function_kind.FunctionKind.TheVariants.{Import, Local, Uninitialized}
+use Rattle.walrus_items.specs.declared.function_kind.ImportedFunction.{ImportedFunction}
+use Rattle.walrus_items.proofs.ItemLemmas.{is_item-same}
+use Rattle.walrus_theorem.specs.Edits.{GainsItem, MakesLocal, SwapsExport}
 use Rattle.walrus_module.specs.Edits.{Edits, ExportIsRedirected, ExportedReplaced, ImportedIsLocal, ImportedReplaced, Redirects, TakesTypes, seen}
 use Rattle.walrus_module.specs.Replaced.{Builds, IsMadeLocal, IsReplaced, MakesFoundLocal, MakesKindLocal, MakesLocal as MakesTypedLocal, ReplacesFound, ReplacesKind, naming}
 use Rattle.walrus_module.specs.View.{contents_of, held_view}
 use Rattle.walrus_module.specs.declared.module.Module.{Module}
 use Rattle.walrus_module.proofs.EditedExports.{export_set}
 use Rattle.walrus_module.proofs.EditedFunctions.{function_added, made_local}
-use Rattle.walrus_module.proofs.EditedLocals.{new_apart, new_typed}
+use Rattle.walrus_reading.proofs.EditedLocals.{new_apart, new_typed}
 
 refused : {P : Type 0} {X : Type 0} (x : X) (e : Error) → ◌≡◌ {A = Result X Error} (Ok x) (Err e) → P
 refused x e same = absurd cc

@@ -8,22 +8,22 @@ use Rattle.std.proofs.lemmas.List.{length-append}
 use Rattle.std.proofs.lemmas.List.Elements.{Contains-append_cases, Contains-append_left, Contains-append_right}
 use Rattle.std.proofs.lemmas.List.Kept.{AllPairs-filter}
 use Rattle.std.proofs.lemmas.Map.Made.{AllPairs-from_IsDistinct}
-use Rattle.walrus_types.specs.Operators.{locals_of}
-use Rattle.walrus_types.specs.PlaceList.{has}
-use Rattle.walrus_types.specs.declared.locals.ModuleLocals.{ModuleLocals}
-use Rattle.walrus_types.proofs.ShapesEnd.{has_contained}
+use Rattle.walrus_base.specs.Operators.{locals_of}
+use Rattle.walrus_base.specs.PlaceList.{has}
+use Rattle.walrus_base.specs.declared.locals.ModuleLocals.{ModuleLocals}
+use Rattle.walrus_base.proofs.ShapesEnd.{has_contained}
 use Rattle.walrus_functions.specs.Declaring.{AreOnce}
 use Rattle.walrus_items.specs.Function.{args_of, body_of}
 use Rattle.walrus_items.specs.LocalFunction.{LocalFunction}
 use Rattle.walrus_contents.specs.View.{body}
 use Rattle.walrus_contents.proofs.ExportedRefs.{contained_has}
-use Rattle.walrus_contents.proofs.Filters.{from_filter, in_filter}
+use Rattle.walrus_base.proofs.Filters.{from_filter, in_filter}
 use Rattle.walrus_model.proofs.OrderOfPlaces.{pairs_both}
-use Rattle.walrus_rules.proofs.Counting.{no_longer}
-use Rattle.walrus_rules.proofs.Pigeon.{all_in, apart_distinct, pigeon}
-use Rattle.walrus_rules.specs.WellMade.{IsCounted}
+use Rattle.walrus_base.proofs.Counting.{no_longer}
+use Rattle.walrus_functions.proofs.Pigeon.{all_in, apart_distinct, pigeon}
+use Rattle.walrus_theorem.specs.WellMade.{IsCounted}
 use Rattle.walrus_module.specs.Tested.{DeclaresFew}
-use Rattle.walrus_module.proofs.Deciding.{all_so, decides_by, leb_decides}
+use Rattle.walrus_model.proofs.Deciding.{all_so, decides_by, leb_decides}
 
 abbrev Apart : List ℕ → Type 0
 Apart xs = AllPairs (λ (x : ℕ) (y : ℕ). x ≢ y) xs

@@ -7,36 +7,36 @@ use Rattle.std.proofs.lemmas.List.Elements.{Contains-append_cases, Contains-appe
 use Rattle.std.proofs.lemmas.List.Folds.{list_all-map}
 use Rattle.walrus_base.specs.Arena.{entries, item_at, items}
 use Rattle.walrus_base.specs.Types.{CompType, Func, Struct, Array, FieldType, HeapType, OfHeap, Concrete, Exact, IsNotExact, StorageType, Unpacked, I8, I16, ValType, I32, I64, F32, F64, V128, Ref, comp_heaps, field_heaps, storage_heaps, val_heaps}
-use Rattle.walrus_types.specs.ConstOps.{const_op, const_ops}
-use Rattle.walrus_types.specs.ModuleTypes.{type_slots}
-use Rattle.walrus_types.specs.Operators.{Byte, Types, Functions, Tables, Memories, Tags, Globals, Elements, DataSegments, Item, Op}
-use Rattle.walrus_types.specs.TypeDef.{TypeDef}
-use Rattle.walrus_types.specs.Value.{heap_type, ref_type}
-use Rattle.walrus_types.specs.declared.const_expr.Value.TheVariants as constants
-use Rattle.walrus_types.specs.declared.const_expr.ConstOp.{ConstOp}
-use Rattle.walrus_types.specs.declared.const_expr.ConstOp.TheVariants as ops
-use Rattle.walrus_types.specs.declared.const_expr.ConstExpr.{ConstExpr}
-use Rattle.walrus_types.specs.declared.const_expr.ConstExpr.TheVariants as expressions
+use Rattle.walrus_base.specs.ConstOps.{const_op, const_ops}
+use Rattle.walrus_base.specs.ModuleTypes.{type_slots}
+use Rattle.walrus_base.specs.Operators.{Byte, Types, Functions, Tables, Memories, Tags, Globals, Elements, DataSegments, Item, Op}
+use Rattle.walrus_base.specs.TypeDef.{TypeDef}
+use Rattle.walrus_base.specs.Value.{heap_type, ref_type}
+use Rattle.walrus_base.specs.declared.const_expr.Value.TheVariants as constants
+use Rattle.walrus_base.specs.declared.const_expr.ConstOp.{ConstOp}
+use Rattle.walrus_base.specs.declared.const_expr.ConstOp.TheVariants as ops
+use Rattle.walrus_base.specs.declared.const_expr.ConstExpr.{ConstExpr}
+use Rattle.walrus_base.specs.declared.const_expr.ConstExpr.TheVariants as expressions
 use Rattle.walrus_code.specs.Results.{heap_is_exact}
 use Rattle.walrus_items.specs.Data.{DataValue, data_segments}
-use Rattle.walrus_items.specs.DataKind.{DataKind}
-use Rattle.walrus_items.specs.DataKind.TheVariants as data_kinds
-use Rattle.walrus_items.specs.ElementItems.{ElementItems}
-use Rattle.walrus_items.specs.ElementItems.TheVariants as element_contents
-use Rattle.walrus_items.specs.ElementKind.{ElementKind}
-use Rattle.walrus_items.specs.ElementKind.TheVariants as element_kinds
+use Rattle.walrus_items.specs.declared.segments.DataKind.{DataKind}
+use Rattle.walrus_items.specs.declared.segments.DataKind.TheVariants as data_kinds
+use Rattle.walrus_items.specs.declared.segments.ElementItems.{ElementItems}
+use Rattle.walrus_items.specs.declared.segments.ElementItems.TheVariants as element_contents
+use Rattle.walrus_items.specs.declared.segments.ElementKind.{ElementKind}
+use Rattle.walrus_items.specs.declared.segments.ElementKind.TheVariants as element_kinds
 use Rattle.walrus_items.specs.Elements.{ElementValue, elements}
 use Rattle.walrus_items.specs.Globals.{GlobalValue, globals}
 use Rattle.walrus_items.specs.Tables.{TableValue, tables}
 use Rattle.walrus_contents.specs.View.{contents_view, data_kind_of, data_of, element_items_of, element_kind_of, element_of, global_of, own_initialiser, table_of}
 use Rattle.walrus_contents.specs.declared.parts.Contents.{Contents}
-use Rattle.walrus_contents.proofs.Slots.{entry_in, item_seen}
+use Rattle.walrus_model.proofs.Slots.{entry_in, item_seen}
 use Rattle.walrus_model.specs.Abstract as abstract
 use Rattle.walrus_model.specs.Abstract.{Abstract}
 use Rattle.walrus_model.specs.Config.{Config}
 use Rattle.walrus_model.specs.WellMade.{arg_heaps, consts_by, consts_in, data_kind_consts, element_item_consts, element_item_heaps, element_kind_consts, heaps_by, heaps_in, op_heaps, option_consts}
-use Rattle.walrus_model.proofs.Lists.{Contains-head, Contains-map, Contains-none, Contains-uncons}
-use Rattle.walrus_rules.specs.Refused.{EmptyConstant, ExactConstant, ExactType, HasUnspelled}
+use Rattle.walrus_base.proofs.Lists.{Contains-head, Contains-map, Contains-none, Contains-uncons}
+use Rattle.walrus_theorem.specs.Refused.{EmptyConstant, ExactConstant, ExactType, HasUnspelled}
 use Rattle.walrus_plan.proofs.ReadsBefore.{each_passes, one_fails}
 use Rattle.walrus_module.specs.Tested.{comp_is_spelled, const_is_spelled, data_is_spelled, data_kind_is_spelled, element_is_spelled, element_items_are_spelled, element_kind_is_spelled, entry_is_spelled, field_is_spelled, forms_are_spelled, global_is_spelled, is_nothing, op_is_spelled, option_is_spelled, storage_is_spelled, table_is_spelled, type_is_spelled, val_is_spelled}
 

@@ -4,10 +4,10 @@ use Rattle.walrus_code.specs.declared.indices.IndicesToIds.{IndicesToIds}
 use Rattle.walrus_code.specs.declared.location.InstrLocId.{InstrLocId}
 use Rattle.walrus_model.specs.Abstract.{Abstract}
 use Rattle.walrus_contents.specs.declared.parts.Contents.{Contents}
-use Rattle.walrus_parts.specs.declared.custom.CustomSection.{Ghosts}
+use Rattle.walrus_items.specs.declared.custom.CustomSection.{Ghosts}
 use Rattle.walrus_reading.specs.Parsed.{AreLocated, HasTypesRead, IsParsed, ItemsAtOwnIds, KeepsCustoms, TakenFrom, read_view}
 use Rattle.walrus_reading.specs.declared.module.ReadModule.{ReadModule}
-use Rattle.walrus_rules.specs.Features.{features_of}
+use Rattle.walrus_theorem.specs.Features.{features_of}
 use Rattle.walrus_module.specs.Customs.{sections}
 use Rattle.walrus_module.specs.Flags.{Flags, config_of}
 use Rattle.walrus_module.specs.OnParse.{IsHanded, IsNumbered}

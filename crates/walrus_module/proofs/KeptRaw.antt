@@ -2,18 +2,18 @@
 use Rattle.std.proofs.Common.{◌≡◌, ℕ, ◌+◌, Bool, true, false, List, [], ◌∷◌, map, flat_map, filter, refl, sym, ap, subst, ◌∙◌}
 use Rattle.std.specs.List.{AllByRecursion}
 use Rattle.walrus_base.specs.Arena.{entries_from, items}
-use Rattle.walrus_types.specs.Operators.{Item}
+use Rattle.walrus_base.specs.Operators.{Item}
 use Rattle.walrus_model.specs.Abstract.{Custom}
 use Rattle.walrus_model.specs.Sections as sections
-use Rattle.walrus_parts.specs.declared.custom.CustomSection.{Ghosts}
-use Rattle.walrus_parts.specs.declared.raw_section.RawCustomSection.{RawCustomSection}
+use Rattle.walrus_items.specs.declared.custom.CustomSection.{Ghosts}
+use Rattle.walrus_items.specs.declared.raw_section.RawCustomSection.{RawCustomSection}
 use Rattle.walrus_contents.specs.View.{contents_view}
 use Rattle.walrus_contents.specs.declared.parts.Contents.{Contents}
 use Rattle.walrus_reading.specs.Customs.{section_seen}
 use Rattle.walrus_reading.specs.Parsed.{read_view}
 use Rattle.walrus_reading.specs.declared.module.ReadModule.{ReadModule}
-use Rattle.walrus_reading.proofs.Parsing.{each_in}
-use Rattle.walrus_rules.proofs.SameItems.{with_own}
+use Rattle.walrus_model.proofs.Parsing.{each_in}
+use Rattle.walrus_theorem.proofs.SameItems.{with_own}
 use Rattle.walrus_module.specs.Asked.{OneAskedMayRefuse, OneMayRefuse}
 use Rattle.walrus_module.specs.Customs as customs
 use Rattle.walrus_module.specs.Meaning.{Meaning, meaning, raw_meaning}

@@ -1,7 +1,6 @@
 pub mod FollowedSlots
 mod Handed
 pub mod KeptRaw
-pub mod Locating
 pub mod RawLemmas
 pub mod Asking
 pub mod Declaring
@@ -15,12 +14,8 @@ pub mod EditedDeleted
 pub mod EditedExports
 pub mod EditedFunctions
 pub mod EditedItems
-pub mod EditedKeeps
-pub mod EditedLocals
 pub mod EditedReplaced
-pub mod EditedSlots
 pub mod Emission
-pub mod Deciding
 pub mod FewLocals
 pub mod NamesApart
 pub mod RulesTested
@@ -28,3 +23,5 @@ pub mod OffsetsTested
 pub mod FormsTested
 pub mod Checked
 pub mod CheckedWell
+pub mod FirstRaw
+pub mod RawStays

@@ -8,32 +8,32 @@ use Rattle.wasm_opcodes.specs.declared.one_byte.TheConstants.{GLOBAL_GET}
 use Rattle.walrus_base.specs.Arena.{item_at, items}
 use Rattle.walrus_base.specs.Id.{place}
 use Rattle.walrus_base.specs.Types.{ValType, I32, I64, F32, F64, V128, Ref}
-use Rattle.walrus_types.specs.ConstOps.{const_op, const_ops, value_op}
-use Rattle.walrus_types.specs.Operators.{Arg, Globals, Index, Item, Op}
-use Rattle.walrus_types.specs.declared.const_expr.Value.{Value as Constant}
-use Rattle.walrus_types.specs.declared.const_expr.Value.TheVariants as constants
-use Rattle.walrus_types.specs.declared.const_expr.ConstOp.{ConstOp}
-use Rattle.walrus_types.specs.declared.const_expr.ConstOp.TheVariants as ops
-use Rattle.walrus_types.specs.declared.const_expr.ConstExpr.{ConstExpr}
-use Rattle.walrus_types.specs.declared.const_expr.ConstExpr.TheVariants as expressions
+use Rattle.walrus_base.specs.ConstOps.{const_op, const_ops, value_op}
+use Rattle.walrus_base.specs.Operators.{Arg, Globals, Index, Item, Op}
+use Rattle.walrus_base.specs.declared.const_expr.Value.{Value as Constant}
+use Rattle.walrus_base.specs.declared.const_expr.Value.TheVariants as constants
+use Rattle.walrus_base.specs.declared.const_expr.ConstOp.{ConstOp}
+use Rattle.walrus_base.specs.declared.const_expr.ConstOp.TheVariants as ops
+use Rattle.walrus_base.specs.declared.const_expr.ConstExpr.{ConstExpr}
+use Rattle.walrus_base.specs.declared.const_expr.ConstExpr.TheVariants as expressions
 use Rattle.walrus_items.specs.Data.{DataValue, data_segments}
-use Rattle.walrus_items.specs.DataKind.{DataKind}
-use Rattle.walrus_items.specs.DataKind.TheVariants as data_kinds
-use Rattle.walrus_items.specs.ElementKind.{ElementKind}
-use Rattle.walrus_items.specs.ElementKind.TheVariants as element_kinds
+use Rattle.walrus_items.specs.declared.segments.DataKind.{DataKind}
+use Rattle.walrus_items.specs.declared.segments.DataKind.TheVariants as data_kinds
+use Rattle.walrus_items.specs.declared.segments.ElementKind.{ElementKind}
+use Rattle.walrus_items.specs.declared.segments.ElementKind.TheVariants as element_kinds
 use Rattle.walrus_items.specs.Elements.{ElementValue, elements}
 use Rattle.walrus_items.specs.Globals.{GlobalValue, globals}
 use Rattle.walrus_items.specs.Memories.{MemoryValue, memories}
 use Rattle.walrus_items.specs.Tables.{TableValue, tables}
 use Rattle.walrus_contents.specs.View.{contents_view, data_kind_of, data_of, element_kind_of, element_of, global_of, memory_of, table_of}
 use Rattle.walrus_contents.specs.declared.parts.Contents.{Contents}
-use Rattle.walrus_contents.proofs.Lookups.{mapped_some}
+use Rattle.walrus_base.proofs.Lookups.{mapped_some}
 use Rattle.walrus_model.specs.Abstract as abstract
 use Rattle.walrus_model.specs.Abstract.{Abstract, ActiveData, ActiveElements}
 use Rattle.walrus_model.specs.Rules.{IsGetOf, IsPlainOp, OffsetHolds, OffsetsHold, offset_const, offset_type}
-use Rattle.walrus_model.proofs.Standing.{some_inj}
+use Rattle.walrus_base.proofs.Standing.{some_inj}
 use Rattle.walrus_module.specs.Tested.{data_is_placed, element_is_placed, global_gives, is_address, memory_takes, offset_gives, op_gives, ops_give, table_takes, value_gives}
-use Rattle.walrus_module.proofs.Deciding.{passed, passes}
+use Rattle.walrus_model.proofs.Deciding.{passed, passes}
 
 -- ---- operators that give a value at once
 

@@ -1,20 +1,20 @@
 -- A module with custom sections of its own: what is said of what it holds is said of it, and what emission answers then.
 use Rattle.std.proofs.Common.{◌≡◌, ℕ, List, [], ◌∷◌, sym, ap, ◌∙◌, subst}
 use Rattle.std.specs.Prelude.{Result, Ok, Err}
-use Rattle.walrus_types.specs.Operators.{Item}
-use Rattle.walrus_parts.specs.declared.custom.CustomSection.{Ghosts}
-use Rattle.walrus_parts.specs.declared.error.Error.{Error}
-use Rattle.walrus_parts.specs.declared.error.Error.TheVariants as error
+use Rattle.walrus_base.specs.Operators.{Item}
+use Rattle.walrus_items.specs.declared.custom.CustomSection.{Ghosts}
+use Rattle.walrus_items.specs.declared.error.Error.{Error}
+use Rattle.walrus_items.specs.declared.error.Error.TheVariants as error
 use Rattle.walrus_contents.specs.There.{IsRefusal}
 use Rattle.walrus_model.specs.Abstract.{Abstract, Custom}
 use Rattle.walrus_model.specs.Config.{Config}
 use Rattle.walrus_model.specs.Dead.{HasDead}
 use Rattle.walrus_model.specs.Declared.{AreUndeclared, IsUndeclared, NothingUndeclared}
 use Rattle.walrus_model.specs.Live.{IsLive}
-use Rattle.walrus_rules.specs.Chain.{AddsSegment, HasSegment, Leaves}
-use Rattle.walrus_rules.specs.Refused.{Refusal, Memory, DeadItem, NoIndex, TwoIndices, TooLarge, NotWritable, Caller, Another, RefusesToWrite}
+use Rattle.walrus_theorem.specs.Chain.{AddsSegment, HasSegment, Leaves}
+use Rattle.walrus_theorem.specs.Refused.{Refusal, Memory, DeadItem, NoIndex, TwoIndices, TooLarge, NotWritable, Caller, Another, RefusesToWrite}
 use Rattle.walrus_writing.specs.Emitted.{told}
-use Rattle.walrus_rules.proofs.SameItems.{dead_on, with_own}
+use Rattle.walrus_theorem.proofs.SameItems.{dead_on, with_own}
 use Rattle.walrus_module.specs.Asked.{IsRefusedBy}
 use Rattle.walrus_module.specs.Left.{ChangesElements}
 use Rattle.walrus_module.specs.View.{held_view, view}

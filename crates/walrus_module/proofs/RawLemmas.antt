@@ -2,12 +2,12 @@
 use Rattle.std.proofs.Common.{◌≡◌, ℕ, true, List, Option, Some, option_map, option_and_then, sym, ◌∙◌, ap, subst, refl}
 use Rattle.std.proofs.lemmas.Option.{cond_some}
 use Rattle.walrus_base.specs.Arena.{item_at, IsLive}
-use Rattle.walrus_parts.specs.declared.raw_section.RawCustomSection.{RawCustomSection}
+use Rattle.walrus_items.specs.declared.raw_section.RawCustomSection.{RawCustomSection}
 use Rattle.walrus_module.specs.declared.entry.SectionEntry.{SectionEntry}
 use Rattle.walrus_module.specs.declared.entry.SectionEntry.TheVariants.{Raw}
 use Rattle.walrus_module.specs.Entry.{names_raw, raw_of}
 use Rattle.walrus_module.specs.Raws.{first_raw}
-use Rattle.walrus_items.proofs.Found.{IsFound, is_found}
+use Rattle.walrus_base.proofs.SearchFound.{IsFound, is_found}
 
 module _ {V : Type 0} {O : V → Type 0} (name : List ℕ) (ss : List (Option (SectionEntry V O))) (n : ℕ) (h : Some n ≡ option_map (λ e. e.0) (first_raw name ss)) where
   known : IsFound (λ (e : ℕ × SectionEntry V O). names_raw name e.1) ss n

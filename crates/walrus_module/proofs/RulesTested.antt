@@ -8,15 +8,15 @@ use Rattle.std.proofs.lemmas.Bool.Decides.{Decides-and, Decides-eqb, Decides-or}
 use Rattle.walrus_base.specs.Arena.{item_at, items}
 use Rattle.walrus_base.specs.Id.{place}
 use Rattle.walrus_base.specs.Types.{CompType, Func, Struct, Array}
-use Rattle.walrus_types.specs.ModuleTypes.{type_slots}
-use Rattle.walrus_types.specs.Operators.{Block, OfType, Arg, Op}
-use Rattle.walrus_types.specs.TypeDef.{TypeDef}
+use Rattle.walrus_base.specs.ModuleTypes.{type_slots}
+use Rattle.walrus_base.specs.Operators.{Block, OfType, Arg, Op}
+use Rattle.walrus_base.specs.TypeDef.{TypeDef}
 use Rattle.walrus_bodies.specs.Blocks.{args_hold, block_holds, blocks_hold}
-use Rattle.walrus_bodies.specs.FunctionTypes.{is_function_at, is_function_comp, is_function_def}
+use Rattle.walrus_bodies.specs.FunctionTypes.{is_function_at, is_function_def}
 use Rattle.walrus_items.specs.Exports.{exports}
 use Rattle.walrus_items.specs.Function.{body_of}
-use Rattle.walrus_items.specs.FunctionKind.{FunctionKind}
-use Rattle.walrus_items.specs.FunctionKind.TheVariants as kinds
+use Rattle.walrus_items.specs.declared.function_kind.FunctionKind.{FunctionKind}
+use Rattle.walrus_items.specs.declared.function_kind.FunctionKind.TheVariants as kinds
 use Rattle.walrus_items.specs.FunctionKinds.{kind_type}
 use Rattle.walrus_items.specs.Functions.{FunctionValue, functions}
 use Rattle.walrus_items.specs.Memories.{MemoryValue, memories}
@@ -24,17 +24,18 @@ use Rattle.walrus_items.specs.Tables.{TableValue, tables}
 use Rattle.walrus_items.specs.Tags.{TagValue, tags}
 use Rattle.walrus_contents.specs.View.{body, contents_view, export_of, function, kind_of, memory_of, table_of, tag_of}
 use Rattle.walrus_contents.specs.declared.parts.Contents.{Contents}
-use Rattle.walrus_contents.proofs.Lookups.{mapped_some}
+use Rattle.walrus_base.proofs.Lookups.{mapped_some}
 use Rattle.walrus_model.specs.Abstract as abstract
 use Rattle.walrus_model.specs.Abstract.{Abstract}
 use Rattle.walrus_model.specs.Names.{body_of_function, body_of_kind}
-use Rattle.walrus_model.proofs.Standing.{some_inj}
+use Rattle.walrus_base.proofs.Standing.{some_inj}
 use Rattle.walrus_model.specs.Rules.{ExportsHold, FunctionTypesHold, IsAtMost, IsEmptyFunctionType, IsExponent, IsFunctionComp, IsFunctionType, LimitsHold, MaximumIsAtMost, MemoryHolds}
-use Rattle.walrus_rules.proofs.NestedBack.{blocks_fine, function_def}
+use Rattle.walrus_model.proofs.NestedBack.{blocks_fine, function_def}
 use Rattle.walrus_plan.proofs.ReadsBefore.{each_passes}
 use Rattle.walrus_module.specs.Tested.{AreNamedApart, function_blocks_hold, function_is_empty, function_is_typed, is_at_most, is_empty_comp, is_empty_def, is_exponent, is_nothing, kind_blocks_hold, maximum_is_at_most, memory_is_limited, most_pages, pages_are_few, start_is_empty, table_is_limited, tag_is_typed}
-use Rattle.walrus_module.proofs.Deciding.{decides_by, leb_decides, passed, passes}
+use Rattle.walrus_model.proofs.Deciding.{decides_by, leb_decides, passed, passes}
 use Rattle.walrus_module.proofs.NamesApart.{mapped_pairs, unmapped_pairs}
+use Rattle.walrus_theorem.proofs.EditSound.{comp_said as function_comp_back}
 
 -- ---- limits
 
@@ -98,11 +99,6 @@ empty_comp (Struct fields) = (λ e. absurd (false≢true e), λ h. absurd (cc))
 empty_comp (Array element) = (λ e. absurd (false≢true e), λ h. absurd (cc))
 
 -- ---- the type of a function
-
-function_comp_back : (x : CompType ℕ) → is_function_comp x ≡ true → IsFunctionComp x
-function_comp_back (Func params results) h = tt
-function_comp_back (Struct fields) h = absurd (false≢true h)
-function_comp_back (Array element) h = absurd (false≢true h)
 
 function_def_back : (o : Option TypeDef) → is_function_def o ≡ true → (x : TypeDef) × (o ≡ Some x) × IsFunctionComp x.sub.comp
 function_def_back (Some x) h = (x, refl, function_comp_back x.sub.comp h)

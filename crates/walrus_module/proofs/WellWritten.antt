@@ -2,18 +2,18 @@
 use Rattle.std.proofs.Common.{◌≡◌, ℕ, Bool, true, false, List, sym, ap, subst, ◌∙◌, ⊎_elim}
 use Rattle.std.specs.Prelude.{IfOk, Result, Ok, Err, ◌⊎◌, ⊤}
 use Rattle.std.specs.Global.{Vec}
-use Rattle.walrus_parts.specs.declared.custom.CustomSection.{Ghosts}
-use Rattle.walrus_parts.specs.declared.error.Error.{Error}
+use Rattle.walrus_items.specs.declared.custom.CustomSection.{Ghosts}
+use Rattle.walrus_items.specs.declared.error.Error.{Error}
 use Rattle.walrus_model.specs.Abstract.{Abstract}
 use Rattle.walrus_model.specs.Config.{Config}
 use Rattle.walrus_model.specs.Declared.{NothingUndeclared}
-use Rattle.walrus_rules.specs.Chain.{Leaves}
-use Rattle.walrus_rules.specs.Refused.{Refusal, Memory, DeadItem, NoIndex, TwoIndices, TooLarge, NotWritable, Caller, Another, HasNoCause, IsSayable, PassesLimits, RefusesToWrite}
-use Rattle.walrus_rules.specs.WellMade.{IsWellMade}
-use Rattle.walrus_rules.proofs.BytesOnce.{bytes_once, living_keeps}
-use Rattle.walrus_rules.proofs.NoCause.{well_no_cause}
-use Rattle.walrus_rules.proofs.OneSpelling.{spelled_once}
-use Rattle.walrus_rules.proofs.WellStays.{leaves_well}
+use Rattle.walrus_theorem.specs.Chain.{Leaves}
+use Rattle.walrus_theorem.specs.Refused.{Refusal, Memory, DeadItem, NoIndex, TwoIndices, TooLarge, NotWritable, Caller, Another, HasNoCause, IsSayable, PassesLimits, RefusesToWrite}
+use Rattle.walrus_theorem.specs.WellMade.{IsWellMade}
+use Rattle.walrus_theorem.proofs.BytesOnce.{bytes_once, living_keeps}
+use Rattle.walrus_theorem.proofs.NoCause.{well_no_cause}
+use Rattle.walrus_theorem.proofs.OneSpelling.{spelled_once}
+use Rattle.walrus_theorem.proofs.WellStays.{leaves_well}
 use Rattle.walrus_writing.specs.Emitted.{EmittedAs, IsEmitted, IsWrittenWith, refusal_of, told}
 use Rattle.walrus_writing.specs.declared.write.Choices.{Choices}
 use Rattle.walrus_module.specs.Answered.{IsWellWritten, WritesUnless}

@@ -1,5 +1,5 @@
 -- Custom sections that follow the code and are written: which stand where, what stays of them, and what is refused.
-use Rattle.std.proofs.Common.{◌≡◌, ℕ, ◌+◌, suc, Bool, true, false, cond, not, ◌||◌, append-nil, List, [], ◌∷◌, ◌++◌, map, length, filter, None, Some, refl, sym, ap, ap₂, ◌∙◌, subst, inl, inr, arith, ⊎_elim}
+use Rattle.std.proofs.Common.{◌≡◌, ℕ, ◌+◌, suc, Bool, true, false, cond, not, append-nil, List, [], ◌∷◌, ◌++◌, map, length, filter, None, Some, refl, sym, ap, ap₂, ◌∙◌, subst, inl, inr, arith, ⊎_elim}
 use Rattle.std.specs.Prelude.{All, Option, IfErr, IfOk, Result, Ok, Err}
 use Rattle.std.specs.List.{AllZip}
 use Rattle.std.specs.Global.{Vec as Bytes}
@@ -17,13 +17,13 @@ use Rattle.walrus_contents.specs.declared.parts.Parts.{Parts}
 use Rattle.walrus_model.specs.Abstract.{Abstract}
 use Rattle.walrus_model.specs.Config.{Config}
 use Rattle.walrus_model.specs.Customs.{is_debug_name}
-use Rattle.walrus_parts.specs.declared.custom.CustomSection.{Ghosts}
-use Rattle.walrus_parts.specs.Transform.{transform_of}
-use Rattle.walrus_parts.specs.declared.error.Error.{Error}
-use Rattle.walrus_parts.specs.declared.transform.CodeTransform.{CodeTransform}
+use Rattle.walrus_items.specs.declared.custom.CustomSection.{Ghosts}
+use Rattle.walrus_items.specs.Transform.{transform_of}
+use Rattle.walrus_items.specs.declared.error.Error.{Error}
+use Rattle.walrus_items.specs.declared.transform.CodeTransform.{CodeTransform}
 use Rattle.walrus_plan.specs.Prepared.{IsPrepared}
 use Rattle.walrus_plan.specs.declared.prepared.Prepared.{Prepared}
-use Rattle.walrus_rules.specs.Refused.{Refusal, Memory, DeadItem, NoIndex, TwoIndices, TooLarge, NotWritable, Caller, Another, RefusesToWrite}
+use Rattle.walrus_theorem.specs.Refused.{Refusal, Memory, DeadItem, NoIndex, TwoIndices, TooLarge, NotWritable, Caller, Another, RefusesToWrite}
 use Rattle.walrus_writing.specs.Customs.{IsAsked, task}
 use Rattle.walrus_writing.specs.Records.{Spells}
 use Rattle.walrus_writing.specs.Emitted.{IsWrittenWith, refusal_of, told}
@@ -39,6 +39,7 @@ use Rattle.walrus_module.specs.View.{meant, with_sections}
 use Rattle.walrus_module.specs.declared.customs.ModuleCustomSections.{ModuleCustomSections}
 use Rattle.walrus_module.specs.declared.entry.SectionEntry.{SectionEntry}
 use Rattle.walrus_module.proofs.Asking.{written_so}
+use Rattle.walrus_model.proofs.AgainSame.{other_not as neither}
 
 -- ---- filters that all or none pass
 
@@ -52,10 +53,6 @@ module _ {X : Type 0} (p : X → Bool) where
   none_pass [] h = refl
   none_pass (x ∷ xs) h =
       ap (λ (b : Bool). cond b (x ∷ filter p xs) (filter p xs)) (All-head (λ y. p y ≡ false) x xs h) ∙ none_pass xs (All-tail (λ y. p y ≡ false) x xs h)
-
-neither : (a b : Bool) → not (a || b) ≡ true → a ≡ false
-neither true b h = absurd (cc)
-neither false b h = refl
 
 -- ---- those of dynamic linking among all that are asked
 
@@ -224,7 +221,7 @@ firsts_stay x [] (t ∷ ts) h = absurd h
 firsts_stay x (s ∷ ss) [] h = absurd h
 firsts_stay x (s ∷ ss) (t ∷ ts) (h, rest) = one_first s t x ss ts (is_in_turn false s.name) refl h (firsts_stay x ss ts rest)
 
-one_name : (x : Transform) (s t : Meaning) (b : Bool) → FollowsBy b x s t → t.name ≡ s.name
+pub one_name : (x : Transform) (s t : Meaning) (b : Bool) → FollowsBy b x s t → t.name ≡ s.name
 one_name x s t true (name, state) = name
 one_name x s t false same = ap (λ (m : Meaning). m.name) same
 

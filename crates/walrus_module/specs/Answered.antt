@@ -3,10 +3,10 @@ use Rattle.std.specs.Prelude.{ℕ, List, Result, Ok, Err, ⊤}
 use Rattle.walrus_model.specs.Abstract.{Abstract}
 use Rattle.walrus_model.specs.Config.{Config}
 use Rattle.walrus_model.specs.Rules.{Holds}
-use Rattle.walrus_rules.specs.Headline.{ReadsModule}
-use Rattle.walrus_rules.specs.Pinned.{IsWrittenAs}
-use Rattle.walrus_rules.specs.Refused.{Refusal, Memory, TooLarge, Caller}
-use Rattle.walrus_rules.specs.Spelling.{IsSpelledAs}
+use Rattle.walrus_theorem.specs.Headline.{ReadsModule}
+use Rattle.walrus_theorem.specs.Pinned.{IsWrittenAs}
+use Rattle.walrus_theorem.specs.Refused.{Refusal, Memory, TooLarge, Caller}
+use Rattle.walrus_theorem.specs.Spelling.{IsSpelledAs}
 
 -- the module v in memory is written as one module of indices that keeps the rules; the bytes are the one spelling of that, and read as it
 pub record IsWellWritten (c : Config) (v : Abstract) (bytes : List ℕ) : Type 0 where

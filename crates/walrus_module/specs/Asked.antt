@@ -4,8 +4,8 @@ use Rattle.std.specs.Str.{IsUtf8}
 use Rattle.wasm_frames.specs.Record as wire
 use Rattle.walrus_code.specs.Names.{Lookup}
 use Rattle.walrus_model.specs.Customs.{is_debug_name}
-use Rattle.walrus_parts.specs.declared.error.Error.{Error}
-use Rattle.walrus_parts.specs.declared.error.Error.TheVariants.{Memory, Caller}
+use Rattle.walrus_items.specs.declared.error.Error.{Error}
+use Rattle.walrus_items.specs.declared.error.Error.TheVariants.{Memory, Caller}
 use Rattle.walrus_module.specs.Meaning.{Meaning}
 use Rattle.walrus_module.specs.declared.asked.AskedSection.{AskedSection}
 use Rattle.walrus_module.specs.declared.asked.SectionData.{SectionData}

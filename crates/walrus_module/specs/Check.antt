@@ -1,10 +1,10 @@
 -- What a check of a module in memory answers before it is written ("Validation > Modules"): the rules that it keeps, or the one that it breaks.
 use Rattle.std.specs.Prelude.{ℕ, List, [], length, flat_map, All, AllPairs, Contains, Some, codes, ◌≡◌, ◌≢◌, ◌<◌, ◌^◌, ⊤}
 use Rattle.walrus_base.specs.Types.{HeapType, IsNotExact}
-use Rattle.walrus_types.specs.Operators.{Space, Functions, Item, Op}
-use Rattle.walrus_parts.specs.declared.custom.CustomSection.{Ghosts}
-use Rattle.walrus_parts.specs.declared.error.Error.{Error}
-use Rattle.walrus_parts.specs.declared.error.Error.TheVariants.{Memory, InvalidWasm, DeadItem, NoIndex, TwoIndices, TooLarge, NotWritable}
+use Rattle.walrus_base.specs.Operators.{Space, Functions, Item, Op}
+use Rattle.walrus_items.specs.declared.custom.CustomSection.{Ghosts}
+use Rattle.walrus_items.specs.declared.error.Error.{Error}
+use Rattle.walrus_items.specs.declared.error.Error.TheVariants.{Memory, InvalidWasm, DeadItem, NoIndex, TwoIndices, TooLarge, NotWritable}
 use Rattle.walrus_model.specs.Abstract.{Abstract, Body, Custom, Function, LocalFunction}
 use Rattle.walrus_model.specs.Config.{Config}
 use Rattle.walrus_model.specs.Dead.{HasDead}
@@ -12,8 +12,8 @@ use Rattle.walrus_model.specs.Live.{Has}
 use Rattle.walrus_model.specs.Order.{ByImport}
 use Rattle.walrus_model.specs.Rules.{ExportsHold, FunctionTypesHold, LimitsHold, LocalsHold, OffsetsHold, RulesHold}
 use Rattle.walrus_model.specs.WellMade.{consts_in, heaps_in, op_heaps}
-use Rattle.walrus_rules.specs.Refused.{HasTwoIndices, HasUnspelled, LacksIndex, PassesLimits}
-use Rattle.walrus_rules.specs.WellMade.{IsWellFormed, IsWellMade}
+use Rattle.walrus_theorem.specs.Refused.{HasTwoIndices, HasUnspelled, LacksIndex, PassesLimits}
+use Rattle.walrus_theorem.specs.WellMade.{IsWellFormed, IsWellMade}
 use Rattle.walrus_module.specs.View.{view, held_view}
 use Rattle.walrus_module.specs.declared.entry.SectionEntry.{SectionEntry}
 use Rattle.walrus_module.specs.declared.module.Module.{Module}

@@ -6,12 +6,12 @@ use Rattle.walrus_base.specs.declared.id.Id.{Id}
 use Rattle.walrus_base.specs.declared.keys.FunctionKey.{FunctionKey}
 use Rattle.walrus_base.specs.declared.keys.ImportKey.{ImportKey}
 use Rattle.walrus_base.specs.declared.keys.TypeKey.{TypeKey}
-use Rattle.walrus_types.specs.Alone.{FoundOrAdded, alone}
-use Rattle.walrus_types.specs.Composite.{FunctionType}
-use Rattle.walrus_types.specs.Locals.{locals}
-use Rattle.walrus_types.specs.ModuleTypes.{type_names, type_slots}
-use Rattle.walrus_types.specs.Operators.{Types, Functions, Tables, Memories, Tags, Globals, Elements, DataSegments, function_item}
-use Rattle.walrus_types.specs.TypeDef.{TypeDef}
+use Rattle.walrus_base.specs.Alone.{FoundOrAdded, alone}
+use Rattle.walrus_base.specs.Composite.{FunctionType}
+use Rattle.walrus_base.specs.Locals.{locals}
+use Rattle.walrus_base.specs.ModuleTypes.{type_names, type_slots}
+use Rattle.walrus_base.specs.Operators.{Types, Functions, Tables, Memories, Tags, Globals, Elements, DataSegments, function_item}
+use Rattle.walrus_base.specs.TypeDef.{TypeDef}
 use Rattle.walrus_model.specs.Abstract.{Abstract, Body, Export, ImportedFunction as Brought, LocalFunction as WithBody}
 use Rattle.walrus_model.specs.BlockHandlers.{params_of}
 use Rattle.walrus_model.specs.ReadFunction.{StaysInFront}
@@ -30,12 +30,12 @@ use Rattle.walrus_items.specs.LocalFunction.{LocalFunction}
 use Rattle.walrus_items.specs.Memories.{MemoryValue, memories}
 use Rattle.walrus_items.specs.Tables.{TableValue, tables}
 use Rattle.walrus_items.specs.Tags.{TagValue, tags}
-use Rattle.walrus_parts.specs.Kinds.{exported, imported}
-use Rattle.walrus_parts.specs.declared.custom.CustomSection.{Ghosts}
-use Rattle.walrus_parts.specs.declared.function_kind.FunctionKind.TheVariants.{Import, Local}
-use Rattle.walrus_parts.specs.declared.function_kind.ImportedFunction.{ImportedFunction}
-use Rattle.walrus_parts.specs.declared.kinds.ImportKind.TheVariants.{Function}
-use Rattle.walrus_rules.specs.Edits.{GainsCustom, GainsExport, GainsImported, GainsItem, LosesCustom, LosesExport, LosesItem, MakesImported, MakesLocal, RenamesImport, SwapsBodies, SwapsCustom, SwapsExport}
+use Rattle.walrus_items.specs.Kinds.{exported, imported}
+use Rattle.walrus_items.specs.declared.custom.CustomSection.{Ghosts}
+use Rattle.walrus_items.specs.declared.function_kind.FunctionKind.TheVariants.{Import, Local}
+use Rattle.walrus_items.specs.declared.function_kind.ImportedFunction.{ImportedFunction}
+use Rattle.walrus_items.specs.declared.kinds.ImportKind.TheVariants.{Function}
+use Rattle.walrus_theorem.specs.Edits.{GainsCustom, GainsExport, GainsImported, GainsItem, LosesCustom, LosesExport, LosesItem, MakesImported, MakesLocal, RenamesImport, SwapsBodies, SwapsCustom, SwapsExport}
 use Rattle.walrus_module.specs.Customs.{sections}
 use Rattle.walrus_module.specs.Imported.{AddsImported}
 use Rattle.walrus_module.specs.Meaning.{Meaning, meaning}

@@ -1,7 +1,7 @@
 -- The flags of a configuration.
 use Rattle.std.specs.Prelude.{Bool, true, false}
 use Rattle.walrus_model.specs.Config.{Config}
-use Rattle.walrus_rules.specs.Features.{features_of}
+use Rattle.walrus_theorem.specs.Features.{features_of}
 use Rattle.walrus_writing.specs.declared.write.Choices.{Choices}
 use Rattle.walrus_module.specs.declared.config.ModuleConfig.{ModuleConfig}
 use Rattle.walrus_module.specs.declared.switches.Switches.{Switches}

@@ -9,9 +9,9 @@ use Rattle.walrus_model.specs.Config.{Config}
 use Rattle.walrus_contents.specs.View.{lent}
 use Rattle.walrus_contents.specs.declared.parts.Contents.{Contents}
 use Rattle.walrus_contents.specs.declared.parts.Parts.{Parts}
-use Rattle.walrus_parts.specs.Transform.{transform_of}
-use Rattle.walrus_parts.specs.declared.custom.CustomSection.{Ghosts}
-use Rattle.walrus_parts.specs.declared.transform.CodeTransform.{CodeTransform}
+use Rattle.walrus_items.specs.Transform.{transform_of}
+use Rattle.walrus_items.specs.declared.custom.CustomSection.{Ghosts}
+use Rattle.walrus_items.specs.declared.transform.CodeTransform.{CodeTransform}
 use Rattle.walrus_plan.specs.Prepared.{IsPrepared}
 use Rattle.walrus_plan.specs.declared.prepared.Prepared.{Prepared}
 use Rattle.walrus_writing.specs.Transform.{TellsTransform}

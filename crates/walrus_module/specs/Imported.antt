@@ -4,9 +4,9 @@ use Rattle.walrus_base.specs.Id.{place}
 use Rattle.walrus_base.specs.declared.id.Id.{Id}
 use Rattle.walrus_base.specs.declared.keys.ImportKey.{ImportKey}
 use Rattle.walrus_items.specs.Imports.{ImportValue}
-use Rattle.walrus_parts.specs.declared.kinds.ImportKind.{ImportKind}
-use Rattle.walrus_parts.specs.Errors.{out_of_memory}
-use Rattle.walrus_parts.specs.declared.error.Error.{Error}
+use Rattle.walrus_items.specs.declared.kinds.ImportKind.{ImportKind}
+use Rattle.walrus_items.specs.Errors.{out_of_memory}
+use Rattle.walrus_items.specs.declared.error.Error.{Error}
 
 -- an item and an import stand behind all others of their collections, under the ids that are answered, and name each other
 pub record IsImported {K T : Type 0} (ids : Id K × Id ImportKey) (old new : List (Option T)) (before after : List (Option ImportValue)) (module_name name : List ℕ) (item : ℕ → Id ImportKey → T) (kind : Id K → ImportKind) : Type 0 where

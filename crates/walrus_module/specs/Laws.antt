@@ -1,19 +1,19 @@
 -- The laws of a module in memory: what a second emission answers, and what its bodies count.
 use Rattle.std.specs.Prelude.{ℕ, [], false, IfOk, Result, Ok, ◌≡◌, ⊤}
 use Rattle.std.specs.Global.{Vec}
-use Rattle.walrus_parts.specs.declared.custom.CustomSection.{Ghosts}
-use Rattle.walrus_parts.specs.declared.error.Error.{Error}
-use Rattle.walrus_types.specs.Locals.{locals}
-use Rattle.walrus_types.specs.declared.locals.ModuleLocals.{ModuleLocals}
+use Rattle.walrus_items.specs.declared.custom.CustomSection.{Ghosts}
+use Rattle.walrus_items.specs.declared.error.Error.{Error}
+use Rattle.walrus_base.specs.Locals.{locals}
+use Rattle.walrus_base.specs.declared.locals.ModuleLocals.{ModuleLocals}
 use Rattle.walrus_items.specs.LocalFunction.{LocalFunction}
 use Rattle.walrus_contents.specs.View.{body, contents_view}
 use Rattle.walrus_contents.specs.declared.parts.Contents.{Contents}
 use Rattle.walrus_model.specs.Declared.{NothingUndeclared}
-use Rattle.walrus_rules.specs.OkLaws.{AreCounted}
-use Rattle.walrus_rules.specs.Once.{TypesLocals}
-use Rattle.walrus_rules.specs.Pinned.{DeclaresLocal}
-use Rattle.walrus_rules.specs.Refused.{IsSayable, RefusesToWrite}
-use Rattle.walrus_rules.specs.WellMade.{IsCounted}
+use Rattle.walrus_theorem.specs.OkLaws.{AreCounted}
+use Rattle.walrus_theorem.specs.Once.{TypesLocals}
+use Rattle.walrus_theorem.specs.Pinned.{DeclaresLocal}
+use Rattle.walrus_theorem.specs.Refused.{IsSayable, RefusesToWrite}
+use Rattle.walrus_theorem.specs.WellMade.{IsCounted}
 use Rattle.walrus_writing.specs.Emitted.{IsEmitted, told}
 use Rattle.walrus_module.specs.Answered.{WritesUnless}
 use Rattle.walrus_module.specs.Asked.{OneAskedMayRefuse}

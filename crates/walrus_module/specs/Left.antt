@@ -4,13 +4,13 @@ use Rattle.std.specs.Prelude.{List, [], ◌∷◌, ◌++◌, length, Option, Som
 use Rattle.std.specs.Global.{Vec}
 use Rattle.walrus_base.specs.declared.id.Id.{Id}
 use Rattle.walrus_base.specs.declared.keys.FunctionKey.{FunctionKey}
-use Rattle.walrus_parts.specs.declared.segments.ElementItems.TheVariants.{Functions}
-use Rattle.walrus_parts.specs.declared.segments.ElementKind.TheVariants.{Declared}
+use Rattle.walrus_items.specs.declared.segments.ElementItems.TheVariants.{Functions}
+use Rattle.walrus_items.specs.declared.segments.ElementKind.TheVariants.{Declared}
 use Rattle.walrus_items.specs.Elements.{ElementValue}
 use Rattle.walrus_model.specs.Abstract.{Abstract}
 use Rattle.walrus_module.specs.declared.module.Module.{Module}
-use Rattle.walrus_rules.specs.Chain.{Leaves}
-use Rattle.walrus_rules.specs.Refused.{Refusal, Memory, DeadItem, NoIndex, TwoIndices, TooLarge, NotWritable, Caller, Another}
+use Rattle.walrus_theorem.specs.Chain.{Leaves}
+use Rattle.walrus_theorem.specs.Refused.{Refusal, Memory, DeadItem, NoIndex, TwoIndices, TooLarge, NotWritable, Caller, Another}
 
 -- u is left of v where emission answers so: with that segment, or as it was where something named isn't there; where memory runs out, either
 abbrev pub LeavesBy : {X : Type 0} → Abstract → Abstract → Result X Refusal → Type 0

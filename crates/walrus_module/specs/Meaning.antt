@@ -1,11 +1,11 @@
 -- What a custom section means to gc and to emission, whoever wrote it.
 use Rattle.std.specs.Prelude.{ℕ, Bool, false, List, []}
 use Rattle.std.specs.String.{string_bytes}
-use Rattle.walrus_types.specs.Operators.{Item}
+use Rattle.walrus_base.specs.Operators.{Item}
 use Rattle.walrus_code.specs.Names.{Lookup}
 use Rattle.walrus_code.specs.Transform.{Transform}
-use Rattle.walrus_parts.specs.declared.custom.CustomSection.{Ghosts}
-use Rattle.walrus_parts.specs.declared.raw_section.RawCustomSection.{RawCustomSection}
+use Rattle.walrus_items.specs.declared.custom.CustomSection.{Ghosts}
+use Rattle.walrus_items.specs.declared.raw_section.RawCustomSection.{RawCustomSection}
 use Rattle.walrus_module.specs.declared.entry.SectionEntry.{SectionEntry}
 use Rattle.walrus_module.specs.declared.entry.SectionEntry.TheVariants.{Raw, Boxed}
 

@@ -12,18 +12,18 @@ use Rattle.walrus_items.specs.Globals.{globals}
 use Rattle.walrus_items.specs.Memories.{memories}
 use Rattle.walrus_items.specs.Tables.{tables}
 use Rattle.walrus_items.specs.Tags.{tags}
-use Rattle.walrus_parts.specs.declared.custom.CustomSection.{Ghosts}
-use Rattle.walrus_parts.specs.declared.error.Error.{Error}
-use Rattle.walrus_parts.specs.declared.error.Error.TheVariants.{Memory, InvalidWasm}
+use Rattle.walrus_items.specs.declared.custom.CustomSection.{Ghosts}
+use Rattle.walrus_items.specs.declared.error.Error.{Error}
+use Rattle.walrus_items.specs.declared.error.Error.TheVariants.{Memory, InvalidWasm}
 use Rattle.walrus_reading.specs.Parsed.{AreLocated, HasTypesRead, IsParsed, ItemsAtOwnIds, RefusesBytes, TakenFrom}
-use Rattle.walrus_rules.specs.Features.{features_of}
+use Rattle.walrus_theorem.specs.Features.{features_of}
 use Rattle.walrus_module.specs.Flags.{Flags, config_of}
 use Rattle.walrus_module.specs.Raws.{KeepsRead}
 use Rattle.walrus_module.specs.Settings.{settings}
 use Rattle.walrus_module.specs.View.{contents_of, view}
 use Rattle.walrus_module.specs.declared.entry.SectionEntry.{SectionEntry}
 use Rattle.walrus_module.specs.declared.module.Module.{Module}
-use Rattle.walrus_types.specs.Operators.{Space, Types, Functions, Tables, Memories, Tags, Globals, Elements, DataSegments}
+use Rattle.walrus_base.specs.Operators.{Space, Types, Functions, Tables, Memories, Tags, Globals, Elements, DataSegments}
 
 -- under each index stands the id of the same place
 abbrev pub AreInPlace : IndicesToIds → Type 0

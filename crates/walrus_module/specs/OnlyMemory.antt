@@ -1,7 +1,7 @@
 -- The only memory of a module.
 use Rattle.std.specs.Prelude.{ℕ, List, [], ◌∷◌, Result, Ok, Err}
-use Rattle.walrus_parts.specs.declared.error.Error.{Error}
-use Rattle.walrus_parts.specs.declared.error.Error.TheVariants.{NoMemory, SeveralMemories}
+use Rattle.walrus_items.specs.declared.error.Error.{Error}
+use Rattle.walrus_items.specs.declared.error.Error.TheVariants.{NoMemory, SeveralMemories}
 
 -- the only one of these memories, by their own ids, or that there is none, or that there are several
 abbrev pub only_memory : List ℕ → Result ℕ Error

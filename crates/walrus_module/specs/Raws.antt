@@ -1,7 +1,7 @@
 -- The raw sections among the custom sections of a module.
 use Rattle.std.specs.Prelude.{ℕ, List, Option, Some, None, find, map, slice_set, ◌≡◌}
 use Rattle.walrus_base.specs.Arena.{entries}
-use Rattle.walrus_parts.specs.declared.raw_section.RawCustomSection.{RawCustomSection}
+use Rattle.walrus_items.specs.declared.raw_section.RawCustomSection.{RawCustomSection}
 use Rattle.walrus_reading.specs.Parsed.{KeepsCustoms}
 use Rattle.walrus_module.specs.Customs.{sections}
 use Rattle.walrus_module.specs.Entry.{names_raw}

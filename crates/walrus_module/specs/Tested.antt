@@ -5,32 +5,32 @@ use Rattle.std.specs.List.{list_all}
 use Rattle.walrus_base.specs.Arena.{entries, item_at, items}
 use Rattle.walrus_base.specs.Id.{place}
 use Rattle.walrus_base.specs.Types.{CompType, Func, Struct, Array, ValType, I32, I64, StorageType, Unpacked, I8, I16, FieldType}
-use Rattle.walrus_types.specs.ModuleTypes.{type_slots}
-use Rattle.walrus_types.specs.Operators.{locals_of}
-use Rattle.walrus_types.specs.TypeDef.{TypeDef}
-use Rattle.walrus_types.specs.Value.{heap_type, ref_type}
-use Rattle.walrus_types.specs.declared.const_expr.Value.{Value as Constant}
-use Rattle.walrus_types.specs.declared.const_expr.Value.TheVariants as constants
-use Rattle.walrus_types.specs.declared.const_expr.ConstOp.{ConstOp}
-use Rattle.walrus_types.specs.declared.const_expr.ConstOp.TheVariants as ops
-use Rattle.walrus_types.specs.declared.const_expr.ConstExpr.{ConstExpr}
-use Rattle.walrus_types.specs.declared.const_expr.ConstExpr.TheVariants as expressions
-use Rattle.walrus_types.specs.declared.module_types.ModuleTypes.{ModuleTypes}
+use Rattle.walrus_base.specs.ModuleTypes.{type_slots}
+use Rattle.walrus_base.specs.Operators.{locals_of}
+use Rattle.walrus_base.specs.TypeDef.{TypeDef}
+use Rattle.walrus_base.specs.Value.{heap_type, ref_type}
+use Rattle.walrus_base.specs.declared.const_expr.Value.{Value as Constant}
+use Rattle.walrus_base.specs.declared.const_expr.Value.TheVariants as constants
+use Rattle.walrus_base.specs.declared.const_expr.ConstOp.{ConstOp}
+use Rattle.walrus_base.specs.declared.const_expr.ConstOp.TheVariants as ops
+use Rattle.walrus_base.specs.declared.const_expr.ConstExpr.{ConstExpr}
+use Rattle.walrus_base.specs.declared.const_expr.ConstExpr.TheVariants as expressions
+use Rattle.walrus_base.specs.declared.module_types.ModuleTypes.{ModuleTypes}
 use Rattle.walrus_code.specs.Results.{heap_is_exact, val_is_exact}
 use Rattle.walrus_bodies.specs.Blocks.{blocks_hold}
 use Rattle.walrus_bodies.specs.FunctionTypes.{is_function_at}
 use Rattle.walrus_items.specs.Data.{DataValue, data_segments}
-use Rattle.walrus_items.specs.DataKind.{DataKind}
-use Rattle.walrus_items.specs.DataKind.TheVariants as data_kinds
-use Rattle.walrus_items.specs.ElementItems.{ElementItems}
-use Rattle.walrus_items.specs.ElementItems.TheVariants as element_contents
-use Rattle.walrus_items.specs.ElementKind.{ElementKind}
-use Rattle.walrus_items.specs.ElementKind.TheVariants as element_kinds
+use Rattle.walrus_items.specs.declared.segments.DataKind.{DataKind}
+use Rattle.walrus_items.specs.declared.segments.DataKind.TheVariants as data_kinds
+use Rattle.walrus_items.specs.declared.segments.ElementItems.{ElementItems}
+use Rattle.walrus_items.specs.declared.segments.ElementItems.TheVariants as element_contents
+use Rattle.walrus_items.specs.declared.segments.ElementKind.{ElementKind}
+use Rattle.walrus_items.specs.declared.segments.ElementKind.TheVariants as element_kinds
 use Rattle.walrus_items.specs.Elements.{ElementValue, elements}
 use Rattle.walrus_items.specs.Exports.{ExportValue}
 use Rattle.walrus_items.specs.Function.{args_of, body_of}
-use Rattle.walrus_items.specs.FunctionKind.{FunctionKind}
-use Rattle.walrus_items.specs.FunctionKind.TheVariants as kinds
+use Rattle.walrus_items.specs.declared.function_kind.FunctionKind.{FunctionKind}
+use Rattle.walrus_items.specs.declared.function_kind.FunctionKind.TheVariants as kinds
 use Rattle.walrus_items.specs.FunctionKinds.{kind_type}
 use Rattle.walrus_items.specs.Functions.{FunctionValue}
 use Rattle.walrus_items.specs.Globals.{GlobalValue, globals}

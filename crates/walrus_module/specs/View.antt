@@ -1,8 +1,8 @@
 -- A module in memory as an abstract module: that of what it holds, with its custom sections ("Binary Format > Custom Section").
 use Rattle.std.specs.Prelude.{ℕ, Bool, true, false, List, [], filter, flat_map, map, ◌≡◌}
 use Rattle.walrus_base.specs.Arena.{items}
-use Rattle.walrus_types.specs.Operators.{Space, Types, Functions, Tables, Memories, Tags, Globals, Elements, DataSegments, Item}
-use Rattle.walrus_parts.specs.declared.custom.CustomSection.{Ghosts}
+use Rattle.walrus_base.specs.Operators.{Space, Types, Functions, Tables, Memories, Tags, Globals, Elements, DataSegments, Item}
+use Rattle.walrus_items.specs.declared.custom.CustomSection.{Ghosts}
 use Rattle.walrus_model.specs.Abstract.{Abstract, Custom}
 use Rattle.walrus_module.specs.Customs.{sections}
 use Rattle.walrus_module.specs.Meaning.{Meaning, meaning}

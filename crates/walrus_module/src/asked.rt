@@ -5,16 +5,17 @@ ghost use Rattle.std.specs.Prelude.{◌≡◌, ◌++◌, All, IfErr, IfOk, IsOkU
 ghost use Rattle.wasm_frames.specs.Record.{custom_record};
 ghost use Rattle.walrus_base.specs.Arena.{items};
 ghost use Rattle.walrus_code.specs.Indices.{index_of};
-ghost use Rattle.walrus_parts.specs.Errors.{out_of_memory};
+ghost use Rattle.walrus_items.specs.Errors.{out_of_memory};
 ghost use Rattle.walrus_module.specs.Asked.{is_in_turn, section_seen};
 
 use crate::customs::ModuleCustomSections;
 use crate::entry::SectionEntry;
 use crate::module::Module;
 use std::alloc::Global;
-use walrus_ir::IdsToIndices;
-use walrus_parts::{CustomSection, Result, Roots};
-use wasm_wire::{CustomGroup, RawCustom, is_debug};
+use walrus_code::IdsToIndices;
+use walrus_items::{CustomSection, Result, Roots};
+use wasm_frames::RawCustom;
+use wasm_wire::{CustomGroup, is_debug};
 
 // The data of a section: that of a raw one lent, that of a caller's own made.
 #[derive(Drop)]
@@ -76,7 +77,7 @@ pub(crate) fn is_in_turn(name: &str, first: bool) -> bool
 impl SectionEntry {
     ghost use Rattle.walrus_module.specs.Asked.{IsText, section_under};
     ghost use Rattle.walrus_module.specs.Meaning.{meaning};
-    ghost use Rattle.walrus_parts.specs.Section.{FailsAsSection};
+    ghost use Rattle.walrus_items.specs.Section.{FailsAsSection};
 
     // The section where items have these indices, its data lent where it is kept as it was read.
     fn asked(&self, indices: &IdsToIndices) -> Result<AskedSection<'_>>
@@ -103,7 +104,7 @@ impl ModuleCustomSections {
     ghost use Rattle.walrus_module.specs.Customs.{sections};
     ghost use Rattle.walrus_module.specs.View.{meant};
     ghost use Rattle.walrus_module.specs.Meaning.{Meaning, meaning};
-    ghost use Rattle.walrus_parts.specs.Roots.{with_roots};
+    ghost use Rattle.walrus_items.specs.Roots.{with_roots};
     ghost use Rattle.std.specs.Prelude.{flat_map};
 
     // Asks the sections of this turn, by their ids, for their data where items have these indices.
@@ -194,7 +195,7 @@ impl Module {
     ghost use Rattle.walrus_module.specs.Asked.{IsRefusedBy, OneMayRefuse};
     ghost use Rattle.walrus_module.specs.Meaning.{Meaning};
     ghost use Rattle.walrus_module.specs.View.{meanings};
-    ghost use Rattle.walrus_parts.specs.Roots.{no_roots, with_roots};
+    ghost use Rattle.walrus_items.specs.Roots.{no_roots, with_roots};
 
     /// The items that the module's custom sections ask to keep, section by section in the order of their ids.
     ///

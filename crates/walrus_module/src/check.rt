@@ -18,7 +18,7 @@ use crate::typed::{are_functions_typed, are_tags_typed, do_all_blocks_hold};
 use std::alloc::{AllocError, Global};
 use std::result;
 use walrus_contents::{Parts, check_live};
-use walrus_parts::{Error, ErrorKind, Result};
+use walrus_items::{Error, ErrorKind, Result};
 use walrus_plan::prepare;
 
 impl Module {

@@ -7,12 +7,12 @@ ghost use Rattle.std.specs.Iterator.{YieldsFirstBy, item_count};
 ghost use Rattle.walrus_base.specs.Arena.{IsLive, item_at, entries, live_places};
 ghost use Rattle.walrus_base.specs.Id.{place};
 ghost use Rattle.walrus_module.specs.Entry.{names_raw, raw_of};
-ghost use Rattle.walrus_parts.specs.Errors.{out_of_memory};
+ghost use Rattle.walrus_items.specs.Errors.{out_of_memory};
 
 use crate::entry::SectionEntry;
 use std::alloc::Global;
 use walrus_base::{ArenaIter, CustomSectionKey, TombstoneArena, UntypedCustomSectionId};
-use walrus_parts::{RawCustomSection, Result};
+use walrus_items::{RawCustomSection, Result};
 
 // Whether the section is a raw one of this name.
 fn is_raw_named(entry: &SectionEntry, name: &str) -> bool

@@ -6,13 +6,15 @@ ghost use Rattle.walrus_base.specs.Id.{place};
 ghost use Rattle.walrus_code.specs.Code.{ops_of};
 ghost use Rattle.walrus_functions.specs.Declaring.{AreOnce};
 ghost use Rattle.walrus_items.specs.Functions.{functions};
-ghost use Rattle.walrus_types.specs.Operators.{locals_of};
+ghost use Rattle.walrus_base.specs.Operators.{locals_of};
 ghost use Rattle.walrus_module.specs.Tested.{DeclaresFew, KindDeclaresFew};
 
 use std::alloc::{AllocError, Global};
 use std::result;
-use walrus_code::push_locals;
-use walrus_items::{FunctionKind, LocalFunction, LocalId, ModuleFunctions, Operator};
+use walrus_base::LocalId;
+use walrus_bodies::LocalFunction;
+use walrus_code::{Operator, push_locals};
+use walrus_items::{FunctionKind, ModuleFunctions};
 
 // The most locals that a body declares.
 const MOST_LOCALS: usize = 50_000;

@@ -1,4 +1,4 @@
-//! What the calls that edit a module make of the abstract module, so that the laws of edits of `walrus_rules` tell what stays. Nothing
+//! What the calls that edit a module make of the abstract module, so that the laws of edits of `walrus_theorem` tell what stays. Nothing
 //! runs here.
 
 ghost use Rattle.walrus_module.specs.Edits.{BodiesSet, CustomAdded, CustomDeleted, CustomSet, DataAdded, DataDeleted, ElementDeleted, ExportAdded, ExportDeleted, ExportSet, ExportedReplaced, FunctionAdded, FunctionDeleted, FunctionImported, FunctionMadeImported, GlobalAdded, GlobalDeleted, ImportSet, ImportedReplaced, MemoryDeleted, RawRemoved, TableDeleted, TagDeleted, TypeFound};
@@ -6,7 +6,7 @@ ghost use Rattle.walrus_module.specs.Edits.{BodiesSet, CustomAdded, CustomDelete
 use crate::module::Module;
 use walrus_base::LocalId;
 use walrus_ir::InstrSeqBuilder;
-use walrus_parts::{CustomSection, Result};
+use walrus_items::{CustomSection, Result};
 
 /// A custom section that is [added](crate::ModuleCustomSections::add) stands behind the others of the abstract module, and asks to
 /// keep what it asks for. The parameter only names the type of custom sections.

@@ -4,12 +4,12 @@ ghost use Rattle.walrus_contents.specs.View.{parts_view};
 ghost use Rattle.walrus_items.specs.Elements.{elements};
 ghost use Rattle.walrus_model.specs.Dead.{HasDead};
 ghost use Rattle.walrus_model.specs.Declared.{NothingUndeclared};
-ghost use Rattle.walrus_parts.specs.Errors.{out_of_memory};
-ghost use Rattle.walrus_rules.specs.Chain.{Leaves};
+ghost use Rattle.walrus_items.specs.Errors.{out_of_memory};
+ghost use Rattle.walrus_theorem.specs.Chain.{Leaves};
 ghost use Rattle.walrus_reading.specs.Parsed.{ItemsAtOwnIds};
-ghost use Rattle.walrus_parts.specs.Transform.{transform_of};
-ghost use Rattle.walrus_rules.specs.Refused.{IsSayable, PassesLimits, RefusesToWrite};
-ghost use Rattle.walrus_rules.specs.WellMade.{IsWellMade};
+ghost use Rattle.walrus_items.specs.Transform.{transform_of};
+ghost use Rattle.walrus_theorem.specs.Refused.{IsSayable, PassesLimits, RefusesToWrite};
+ghost use Rattle.walrus_theorem.specs.WellMade.{IsWellMade};
 ghost use Rattle.walrus_module.specs.Answered.{IsWellWritten, WritesUnless};
 ghost use Rattle.walrus_module.specs.Asked.{asked_first};
 ghost use Rattle.walrus_module.specs.Customs.{sections};
@@ -25,8 +25,7 @@ use crate::module::Module;
 use crate::written::write_parts;
 use std::alloc::Global;
 use walrus_contents::{Parts, check_live, undeclared_functions};
-use walrus_items::{ElementItems, ElementKind};
-use walrus_parts::{CodeTransform, CustomSection, Result};
+use walrus_items::{CodeTransform, CustomSection, ElementItems, ElementKind, Result};
 
 impl Module {
     /// The module's bytes. The module gets one element segment, unnamed and behind all others, that declares the functions that `ref.func`

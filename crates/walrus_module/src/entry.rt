@@ -1,14 +1,13 @@
 //! A custom section of a module as it is kept: read and unchanged, or of a caller's own type.
 
-ghost use Rattle.std.specs.Prelude.{◌≡◌};
-ghost use Rattle.walrus_parts.specs.Section.{FailsAsSection};
+ghost use Rattle.std.specs.Prelude.{◌≡◌, IfOk, OnOk, OnErr};
+ghost use Rattle.walrus_items.specs.Section.{FailsAsSection};
 ghost use Rattle.walrus_code.specs.Indices.{index_of};
-ghost use Rattle.std.specs.Prelude.{IfOk, OnOk, OnErr};
-ghost use Rattle.walrus_parts.specs.Transform.{transform_of};
-ghost use Rattle.walrus_parts.specs.Roots.{with_roots};
+ghost use Rattle.walrus_items.specs.Transform.{transform_of};
+ghost use Rattle.walrus_items.specs.Roots.{with_roots};
 
-use walrus_ir::IdsToIndices;
-use walrus_parts::{CodeTransform, CustomSection, RawCustomSection, Result, Roots};
+use walrus_code::IdsToIndices;
+use walrus_items::{CodeTransform, CustomSection, RawCustomSection, Result, Roots};
 
 /// A custom section of a module ("Binary Format > Custom Section").
 #[derive(Drop)]

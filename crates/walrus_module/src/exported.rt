@@ -6,13 +6,14 @@ ghost use Rattle.walrus_base.specs.Arena.{item_at, items};
 ghost use Rattle.walrus_base.specs.Id.{place};
 ghost use Rattle.walrus_items.specs.Exports.{exports};
 ghost use Rattle.walrus_items.specs.Functions.{functions};
-ghost use Rattle.walrus_types.specs.ModuleTypes.{type_slots};
+ghost use Rattle.walrus_base.specs.ModuleTypes.{type_slots};
 ghost use Rattle.walrus_module.specs.Tested.{AreApart, AreNamedApart, is_empty_def, start_is_empty};
 
 use std::alloc::{AllocError, Global};
 use std::result;
+use walrus_base::{ModuleTypes, TypeId};
 use walrus_contents::Parts;
-use walrus_items::{ModuleExports, ModuleTypes, TypeId};
+use walrus_items::ModuleExports;
 
 // The names of exports, by rising id.
 fn export_names(alloc: Global, all: &ModuleExports) -> result::Result<Vec<&str>, AllocError>

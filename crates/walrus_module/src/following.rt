@@ -2,8 +2,8 @@
 ghost use Rattle.std.specs.Prelude.{◌≡◌, OnOk, OnErr, IfErr, false, map, Some, true};
 ghost use Rattle.walrus_base.specs.Arena.{item_at, items};
 ghost use Rattle.walrus_base.specs.Id.{place};
-ghost use Rattle.walrus_parts.specs.Section.{FailsAsSection};
-ghost use Rattle.walrus_parts.specs.Transform.{transform_of};
+ghost use Rattle.walrus_items.specs.Section.{FailsAsSection};
+ghost use Rattle.walrus_items.specs.Transform.{transform_of};
 ghost use Rattle.walrus_module.specs.Following.{AreRaw, EachComes, Follows, IsRaw, MayFollow, MayRefuseAt, OneComes, SameKind, Stays};
 ghost use Rattle.walrus_module.specs.Meaning.{meaning};
 ghost use Rattle.walrus_module.specs.Asked.{IsRefusedBy, OneAskedMayRefuse, is_in_turn};
@@ -12,7 +12,7 @@ use crate::asked::is_in_turn;
 use crate::customs::ModuleCustomSections;
 use crate::entry::SectionEntry;
 use walrus_base::{Id, UntypedCustomSectionId};
-use walrus_parts::{CodeTransform, CustomSection, Result};
+use walrus_items::{CodeTransform, CustomSection, Result};
 
 impl SectionEntry {
     // Follows the code to its new places, where it is handed the transform. What is kept as it was read stays.

@@ -1,11 +1,11 @@
 //! Adding an item together with the import that brings it ("Structure > Modules > Imports").
 ghost use Rattle.std.specs.Prelude.{◌≡◌, Some, None};
 ghost use Rattle.walrus_base.specs.Id.{place};
-ghost use Rattle.walrus_types.specs.Value.{ref_type, val_type};
+ghost use Rattle.walrus_base.specs.Value.{ref_type, val_type};
 ghost use Rattle.walrus_items.specs.Functions.{functions};
 ghost use Rattle.walrus_items.specs.Imports.{imports};
-ghost use Rattle.walrus_parts.specs.declared.function_kind.FunctionKind.TheVariants as functions;
-ghost use Rattle.walrus_parts.specs.declared.kinds.ImportKind.TheVariants.{Function, Table, Memory, Global, Tag};
+ghost use Rattle.walrus_items.specs.declared.function_kind.FunctionKind.TheVariants as functions;
+ghost use Rattle.walrus_items.specs.declared.kinds.ImportKind.TheVariants.{Function, Table, Memory, Global, Tag};
 ghost use Rattle.walrus_items.specs.Added.{no_segments};
 ghost use Rattle.walrus_items.specs.Tables.{tables};
 ghost use Rattle.walrus_items.specs.Memories.{memories};
@@ -14,10 +14,10 @@ ghost use Rattle.walrus_items.specs.Globals.{globals};
 ghost use Rattle.walrus_module.specs.Imported.{AddsImported};
 
 use crate::module::Module;
-use walrus_base::{FunctionId, GlobalId, ImportId, MemoryId, TableId, TagId, TypeId};
-use walrus_ir::{RefType, ValType};
-use walrus_items::ImportKind;
-use walrus_parts::Result;
+use walrus_base::{
+    FunctionId, GlobalId, ImportId, MemoryId, RefType, TableId, TagId, TypeId, ValType,
+};
+use walrus_items::{ImportKind, Result};
 
 impl<S> Module<S> {
     /// Imports a function of this type by the name of its module and its own. Answers the ids of the function and of the import,

@@ -1,13 +1,13 @@
 //! The laws of a module in memory, as contracts. Nothing runs here.
-ghost use Rattle.walrus_rules.specs.OkLaws.{AreCounted};
-ghost use Rattle.walrus_rules.specs.Once.{TypesLocals};
+ghost use Rattle.walrus_theorem.specs.OkLaws.{AreCounted};
+ghost use Rattle.walrus_theorem.specs.Once.{TypesLocals};
 ghost use Rattle.walrus_module.specs.Check.{CheckedIsWellMade};
 ghost use Rattle.walrus_module.specs.Following.{FollowedWrite};
 ghost use Rattle.walrus_module.specs.Laws.{AbsentIsUncounted, EmitsAgain, HeldAreCounted, UnsayableIsOpen};
 ghost use Rattle.walrus_module.specs.View.{view};
 
 use crate::module::Module;
-use walrus_parts::CustomSection;
+use walrus_items::CustomSection;
 
 /// A module for which [`emit_wasm`](crate::Module::emit_wasm) answered bytes is left as it is by a second call, which answers
 /// the same bytes, or is refused for want of memory or by a custom section that is asked. So the clauses of the two calls say,

@@ -4,13 +4,13 @@ ghost use Rattle.walrus_code.specs.Location.{location, location_at};
 ghost use Rattle.walrus_module.specs.Flags.{config_of, flags};
 ghost use Rattle.walrus_module.specs.Located.{Gives, MayAnswer};
 ghost use Rattle.walrus_reading.specs.Parsed.{AreLocated, HasTypesRead, IsParsed, ItemsAtOwnIds, KeepsCustoms, RefusesBytes, TakenFrom, read_view};
-ghost use Rattle.walrus_rules.specs.Features.{features_of};
+ghost use Rattle.walrus_theorem.specs.Features.{features_of};
 
 use crate::config::ModuleConfig;
 use crate::hook::LocationHook;
 use std::alloc::Global;
-use walrus_ir::InstrLocId;
-use walrus_parts::Result;
+use walrus_code::InstrLocId;
+use walrus_items::Result;
 use walrus_reading::{ReadModule, read};
 
 impl LocationHook {

@@ -8,7 +8,7 @@ ghost use Rattle.walrus_module.specs.OnlyMemory.{only_memory};
 
 use crate::module::Module;
 use walrus_base::MemoryId;
-use walrus_parts::{Error, Result};
+use walrus_items::{Error, Result};
 
 impl<S> Module<S> {
     /// The own id of the module's only memory, exported or not: `NoMemory` where there is none, `SeveralMemories` where there are more.

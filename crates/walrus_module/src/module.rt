@@ -2,20 +2,19 @@
 
 ghost use Rattle.std.specs.Prelude.{◌≡◌, IfOk, IfErr, IsOkUnless};
 ghost use Rattle.walrus_base.specs.Arena.{items};
-ghost use Rattle.walrus_parts.specs.Errors.{out_of_memory};
+ghost use Rattle.walrus_items.specs.Errors.{out_of_memory};
 
 use crate::config::ModuleConfig;
 use crate::customs::ModuleCustomSections;
 use crate::entry::SectionEntry;
 use crate::switches::Switches;
 use std::alloc::Global;
+use walrus_base::{FunctionId, ModuleLocals, ModuleTypes};
 use walrus_contents::Contents;
-use walrus_ir::{FunctionId, ModuleLocals, ModuleTypes};
 use walrus_items::{
-    FunctionIter, ModuleData, ModuleElements, ModuleExports, ModuleFunctions, ModuleGlobals,
-    ModuleImports, ModuleMemories, ModuleTables, ModuleTags,
+    CustomSection, FunctionIter, ModuleData, ModuleElements, ModuleExports, ModuleFunctions,
+    ModuleGlobals, ModuleImports, ModuleMemories, ModuleTables, ModuleTags, Result,
 };
-use walrus_parts::{CustomSection, Result};
 use walrus_producers::ModuleProducers;
 
 /// A WebAssembly module ("Structure > Modules"). Its items are named by ids, which stay when other items come and go. `S` is what its
@@ -69,7 +68,7 @@ impl<S> Module<S> {
 impl Module {
     ghost use Rattle.walrus_module.specs.Flags.{config_of, defaults, flags, flags_of};
     ghost use Rattle.walrus_reading.specs.Parsed.{AreLocated, IsParsed, ItemsAtOwnIds, RefusesBytes, TakenFrom};
-    ghost use Rattle.walrus_rules.specs.Features.{features_of};
+    ghost use Rattle.walrus_theorem.specs.Features.{features_of};
     ghost use Rattle.walrus_module.specs.Located.{Gives, IsPlace};
     ghost use Rattle.walrus_module.specs.Settings.{settings};
     ghost use Rattle.walrus_module.specs.Raws.{KeepsRead};

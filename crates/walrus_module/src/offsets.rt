@@ -8,12 +8,12 @@ ghost use Rattle.walrus_items.specs.Elements.{elements};
 ghost use Rattle.walrus_items.specs.Globals.{globals};
 ghost use Rattle.walrus_items.specs.Memories.{memories};
 ghost use Rattle.walrus_items.specs.Tables.{tables};
-ghost use Rattle.walrus_types.specs.Value.{val_type};
+ghost use Rattle.walrus_base.specs.Value.{val_type};
 ghost use Rattle.walrus_module.specs.Tested.{data_is_placed, element_is_placed, global_gives, is_address, offset_gives, op_gives, ops_give, value_gives};
 
+use walrus_base::{ConstExpr, ConstOp, GlobalId, ValType, Value};
 use walrus_contents::Parts;
-use walrus_ir::{ConstExpr, ConstOp, GlobalId, Value};
-use walrus_items::{DataKind, ElementKind, ModuleGlobals, ValType};
+use walrus_items::{DataKind, ElementKind, ModuleGlobals};
 
 // Whether addresses of this width have this type.
 fn is_address(wide: bool, ty: ValType) -> bool

@@ -6,15 +6,15 @@ ghost use Rattle.walrus_module.specs.Flags.{config_of, flags};
 ghost use Rattle.walrus_module.specs.Located.{Gives};
 ghost use Rattle.walrus_module.specs.OnParse.{AreInPlace, Effect, IsNumbered, IsUnread, RunsHook};
 ghost use Rattle.walrus_module.specs.View.{contents_of};
-ghost use Rattle.walrus_parts.specs.Errors.{out_of_memory};
-ghost use Rattle.walrus_rules.specs.Headline.{Accepts};
+ghost use Rattle.walrus_items.specs.Errors.{out_of_memory};
+ghost use Rattle.walrus_theorem.specs.Headline.{Accepts};
 
 use crate::config::ModuleConfig;
 use crate::customs::ModuleCustomSections;
 use crate::module::Module;
 use std::alloc::{AllocError, Global};
-use walrus_ir::{IndexSpace, IndicesToIds};
-use walrus_parts::{CustomSection, Error, Result};
+use walrus_code::{IndexSpace, IndicesToIds};
+use walrus_items::{CustomSection, Error, Result};
 
 /// What is done with a module as soon as it is read. It is told in terms of [`OnParse::parse`], and says by one definition over its value, the
 /// ghost member, what it does; one that promises nothing defines it as what always holds.

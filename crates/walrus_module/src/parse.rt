@@ -6,13 +6,13 @@ ghost use Rattle.walrus_module.specs.Settings.{settings};
 ghost use Rattle.walrus_module.specs.Raws.{KeepsRead};
 ghost use Rattle.walrus_module.specs.View.{contents_of, view};
 ghost use Rattle.walrus_reading.specs.Parsed.{AreLocated, IsParsed, ItemsAtOwnIds, RefusesBytes, TakenFrom};
-ghost use Rattle.walrus_rules.specs.Features.{features_of};
+ghost use Rattle.walrus_theorem.specs.Features.{features_of};
 
 use crate::config::ModuleConfig;
 use crate::customs::ModuleCustomSections;
 use crate::module::Module;
 use std::alloc::Global;
-use walrus_parts::{CustomSection, Result};
+use walrus_items::{CustomSection, Result};
 
 impl ModuleConfig {
     /// The module that the bytes are ("Binary Format > Modules"), to be written as the configuration says.

@@ -3,8 +3,8 @@
 ghost use Rattle.std.specs.Prelude.{◌≡◌, map, option_map, slice_set};
 ghost use Rattle.walrus_base.specs.Arena.{item_at, IsLive};
 ghost use Rattle.walrus_base.specs.Id.{place};
-ghost use Rattle.walrus_types.specs.ModuleTypes.{type_slots};
-ghost use Rattle.walrus_types.specs.Value.{val_type};
+ghost use Rattle.walrus_base.specs.ModuleTypes.{type_slots};
+ghost use Rattle.walrus_base.specs.Value.{val_type};
 ghost use Rattle.walrus_items.specs.Exports.{exports};
 ghost use Rattle.walrus_items.specs.Functions.{functions};
 ghost use Rattle.walrus_model.specs.BlockHandlers.{params_of};
@@ -12,10 +12,13 @@ ghost use Rattle.walrus_module.specs.Replaced.{LendsBody, Rebuilds, ReplacesExpo
 
 use crate::module::Module;
 use std::alloc::Global;
-use walrus_base::{ExportId, FunctionId, LocalId, TypeId};
-use walrus_ir::{InstrSeqBuilder, LocalFunction, ModuleTypes, ValType, add_locals};
-use walrus_items::{ModuleExports, ModuleFunctions};
-use walrus_parts::{Error, ExportItem, FunctionKind, ImportKind, Result};
+use walrus_base::{ExportId, FunctionId, LocalId, ModuleTypes, TypeId, ValType};
+use walrus_bodies::LocalFunction;
+use walrus_functions::add_locals;
+use walrus_ir::InstrSeqBuilder;
+use walrus_items::{
+    Error, ExportItem, FunctionKind, ImportKind, ModuleExports, ModuleFunctions, Result,
+};
 
 // The body of the function of this id.
 fn body_at(all: &ModuleFunctions, id: FunctionId) -> Result<&LocalFunction>

@@ -9,16 +9,18 @@ ghost use Rattle.walrus_items.specs.Data.{data_segments};
 ghost use Rattle.walrus_items.specs.Elements.{elements};
 ghost use Rattle.walrus_items.specs.Globals.{globals, global_init};
 ghost use Rattle.walrus_items.specs.Tables.{table_value, tables};
-ghost use Rattle.walrus_types.specs.Composite.{comp_type, field_type};
-ghost use Rattle.walrus_types.specs.ModuleTypes.{type_slots};
-ghost use Rattle.walrus_types.specs.Value.{heap_type, val_type};
+ghost use Rattle.walrus_base.specs.Composite.{comp_type, field_type};
+ghost use Rattle.walrus_base.specs.ModuleTypes.{type_slots};
+ghost use Rattle.walrus_base.specs.Value.{heap_type, val_type};
 ghost use Rattle.walrus_module.specs.Tested.{comp_is_spelled, const_is_spelled, data_is_spelled, data_kind_is_spelled, element_is_spelled, element_items_are_spelled, element_kind_is_spelled, entry_is_spelled, field_is_spelled, forms_are_spelled, global_is_spelled, op_is_spelled, option_is_spelled, table_is_spelled, val_is_spelled};
 
+use walrus_base::{
+    CompositeType, ConstExpr, ConstOp, FieldType, HeapType, ModuleTypes, StorageType, ValType,
+};
 use walrus_contents::Parts;
-use walrus_ir::{CompositeType, ConstExpr, ConstOp, FieldType, StorageType};
 use walrus_items::{
-    DataKind, ElementItems, ElementKind, GlobalKind, HeapType, ModuleData, ModuleElements,
-    ModuleGlobals, ModuleTables, ModuleTypes, Table, ValType,
+    DataKind, ElementItems, ElementKind, GlobalKind, ModuleData, ModuleElements, ModuleGlobals,
+    ModuleTables, Table,
 };
 
 // Whether bytes spell a heap type: it isn't exact.

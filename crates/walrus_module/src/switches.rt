@@ -1,7 +1,7 @@
 //! What a configuration says by flags.
 ghost use Rattle.std.specs.Prelude.{◌≡◌};
 
-use walrus_ir::Features;
+use walrus_bodies::Features;
 use walrus_writing::Choices;
 
 /// The flags of a configuration: all that a module keeps of it.
@@ -18,7 +18,7 @@ pub struct Switches {
 }
 
 impl Switches {
-    ghost use Rattle.walrus_rules.specs.Features.{features_of};
+    ghost use Rattle.walrus_theorem.specs.Features.{features_of};
     ghost use Rattle.walrus_module.specs.Flags.{choices_of, config_of, defaults, flags_of};
 
     // Those of the default configuration.

@@ -11,8 +11,9 @@ ghost use Rattle.walrus_module.specs.Tested.{function_blocks_hold, function_is_t
 
 use std::alloc::AllocError;
 use std::result;
-use walrus_bodies::{FunctionTypes, blocks_hold};
-use walrus_items::{FunctionKind, LocalFunction, ModuleFunctions, ModuleTags, ModuleTypes};
+use walrus_base::ModuleTypes;
+use walrus_bodies::{FunctionTypes, LocalFunction, blocks_hold};
+use walrus_items::{FunctionKind, ModuleFunctions, ModuleTags};
 
 // Whether each function has a function type.
 pub(crate) fn are_functions_typed(funcs: &ModuleFunctions, types: &ModuleTypes) -> bool

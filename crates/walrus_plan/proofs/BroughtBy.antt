@@ -3,18 +3,18 @@ use Rattle.std.proofs.Common.{◌≡◌, ℕ, List, [], ◌∷◌, ◌++◌, map
 use Rattle.std.specs.Prelude.{Option, Contains, filter_map, option_map, option_to_list}
 use Rattle.std.specs.List.{cons_option}
 use Rattle.walrus_base.specs.Arena.{entries, item_at, items}
-use Rattle.walrus_types.specs.Operators.{Space}
+use Rattle.walrus_base.specs.Operators.{Space}
 use Rattle.walrus_contents.specs.View as seen
 use Rattle.walrus_contents.specs.View.{parts_view}
 use Rattle.walrus_contents.specs.declared.parts.Parts.{Parts}
-use Rattle.walrus_contents.proofs.Slots.{stands_at}
-use Rattle.walrus_parts.specs.Kinds.{imported}
+use Rattle.walrus_model.proofs.Slots.{stands_at}
+use Rattle.walrus_items.specs.Kinds.{imported}
 use Rattle.walrus_items.specs.Imports.{ImportValue, imports}
 use Rattle.walrus_model.specs.Abstract.{FunctionKind, ImportedBy, ImportedFunction, LocalFunction, Uninitialised, Origin, Defined}
 use Rattle.walrus_model.specs.Imported.{import_number, import_number_by, number_in}
 use Rattle.walrus_model.specs.WellMade.{kind_import, origin_import}
-use Rattle.walrus_model.proofs.Lists.{Contains-head, Contains-tail}
-use Rattle.walrus_model.proofs.Standing.{some_inj}
+use Rattle.walrus_base.proofs.Lists.{Contains-head, Contains-tail}
+use Rattle.walrus_base.proofs.Standing.{some_inj}
 use Rattle.walrus_plan.specs.Brought.{places_brought}
 
 -- ---- the places of what imports bring

@@ -13,17 +13,18 @@ use Rattle.std.proofs.lemmas.List.Sorted.{sorted_far, Contains-permutation, IsPe
 use Rattle.walrus_base.specs.Arena.{item_at, entries, entries_from}
 use Rattle.walrus_items.specs.LocalFunction.{LocalFunction}
 use Rattle.walrus_items.specs.Functions.{FunctionValue, local_functions, local_at}
-use Rattle.walrus_parts.specs.declared.function_kind.FunctionKind.{FunctionKind}
-use Rattle.walrus_parts.specs.declared.function_kind.FunctionKind.TheVariants as kind
-use Rattle.walrus_types.specs.Shape.{place_in}
+use Rattle.walrus_items.specs.declared.function_kind.FunctionKind.{FunctionKind}
+use Rattle.walrus_items.specs.declared.function_kind.FunctionKind.TheVariants as kind
+use Rattle.walrus_base.specs.Shape.{place_in}
 use Rattle.walrus_items.specs.Function.{size_of}
-use Rattle.walrus_contents.proofs.Lookups.{pairs_map, got_map}
-use Rattle.walrus_contents.proofs.Slots.{stands_at as stands_among}
+use Rattle.walrus_base.proofs.Lookups.{pairs_map, got_map}
+use Rattle.walrus_model.proofs.Slots.{stands_at as stands_among}
 use Rattle.walrus_model.specs.Ordered.{Ordered}
 use Rattle.walrus_model.proofs.Orders.{lists_permuted, ordered_entries}
 use Rattle.walrus_model.proofs.Reach.{Contains-unmap}
-use Rattle.walrus_model.proofs.Standing.{got_in, none_there, some_inj, stands_at}
+use Rattle.walrus_base.proofs.Standing.{got_in, none_there, some_inj, stands_at}
 use Rattle.walrus_plan.specs.Sizes.{by_size, local_sizes, IsOrder}
+use Rattle.std.proofs.lemmas.Option.{slice_get-get_or as got_at}
 
 -- ---- functions with a body
 
@@ -86,11 +87,6 @@ module _ (m n i j : ℕ) (apart : i ≢ j) (far : is_lt (by_size (n, j) (m, i)) 
   larger_first = of_sizes (leb_tells m n) (leb_tells n m)
 
 -- ---- their order
-
-pub got_at : {A : Type 0} (xs : List A) (k : ℕ) (d : A) → k < length xs → slice_get xs k ≡ Some (get_or xs k d)
-got_at [] k d low = absurd (omega (arith, low))
-got_at (x ∷ xs) zero d low = refl
-got_at (x ∷ xs) (suc k) d low = got_at xs k d (omega (arith, low))
 
 places_of : (es : List (ℕ × LocalFunction)) → map (λ (s : ℕ × ℕ). s.1) (map (λ (e : ℕ × LocalFunction). (size_of e.1, e.0)) es) ≡ map (λ (e : ℕ × LocalFunction). e.0) es
 places_of [] = refl

@@ -4,36 +4,34 @@ use Rattle.std.specs.Prelude.{flat_map, Contains, IsSome, Option, option_map}
 use Rattle.std.specs.List.{list_any}
 use Rattle.std.proofs.lemmas.Bool.{false≢true}
 use Rattle.std.proofs.lemmas.List.Elements.{Contains-append_cases, Contains-append_left}
-use Rattle.std.proofs.lemmas.List.Folds.{Any-from_list_any, list_any_at}
+use Rattle.std.proofs.lemmas.List.Folds.{list_any_at}
 use Rattle.walrus_base.specs.Arena.{entries, item_at, items}
 use Rattle.walrus_base.specs.Types.{heap_names, val_names}
-use Rattle.walrus_types.specs.Operators.{Space, Types, Functions, Tables, Memories, Tags, Globals, Elements, DataSegments, Item, Arg, Index, Label, Local, Number, Count, Byte, S32, S64, Bits32, Bits64, Value, Heap, Block, Access, Op, arg_names, block_names, names_of, op_names, type_item}
-use Rattle.walrus_types.specs.declared.locals.ModuleLocals.{ModuleLocals}
+use Rattle.walrus_base.specs.Operators.{Space, Types, Functions, Tables, Memories, Tags, Globals, Elements, DataSegments, Item, Arg, Index, Label, Local, Number, Count, Byte, S32, S64, Bits32, Bits64, Value, Heap, Block, Access, Op, arg_names, block_names, names_of, op_names, type_item}
+use Rattle.walrus_base.specs.declared.locals.ModuleLocals.{ModuleLocals}
 use Rattle.walrus_items.specs.Function.{body_of}
 use Rattle.walrus_items.specs.Data.{DataValue, data_segments, is_passive_data}
 use Rattle.walrus_items.specs.Functions.{FunctionValue, functions}
-use Rattle.walrus_parts.specs.declared.function_kind.FunctionKind.{FunctionKind}
-use Rattle.walrus_parts.specs.declared.function_kind.FunctionKind.TheVariants as kind
-use Rattle.walrus_parts.specs.declared.segments.DataKind.{DataKind}
-use Rattle.walrus_parts.specs.declared.segments.DataKind.TheVariants.{Active, Passive}
+use Rattle.walrus_items.specs.declared.function_kind.FunctionKind.{FunctionKind}
+use Rattle.walrus_items.specs.declared.function_kind.FunctionKind.TheVariants as kind
+use Rattle.walrus_items.specs.declared.segments.DataKind.{DataKind}
+use Rattle.walrus_items.specs.declared.segments.DataKind.TheVariants.{Active, Passive}
 use Rattle.walrus_contents.specs.View.{data_kind_of, data_of, function, kind_of, parts_view}
 use Rattle.walrus_contents.specs.declared.parts.Parts.{Parts}
-use Rattle.walrus_contents.proofs.Slots.{entry_in, item_seen}
+use Rattle.walrus_model.proofs.Slots.{entry_in, item_seen}
 use Rattle.walrus_model.specs.Abstract.{Abstract, Function, FunctionKind as Kind, ImportedFunction, LocalFunction, PassiveData, Uninitialised}
 use Rattle.walrus_model.specs.Dead.{DeadName, HasDead}
 use Rattle.walrus_model.specs.Live.{IsLive}
 use Rattle.walrus_model.specs.Names.{body_of_function, body_of_kind}
 use Rattle.walrus_model.specs.Refers.{function_names, kind_names, local_names, named_by, used_locals}
-use Rattle.walrus_model.proofs.Lists.{Contains-head, Contains-map, Contains-none, Contains-tail, Contains-uncons}
+use Rattle.walrus_base.proofs.Lists.{Contains-head, Contains-map, Contains-none, Contains-tail, Contains-uncons}
 use Rattle.walrus_model.proofs.Reach.{Contains-unmap}
 use Rattle.walrus_model.proofs.TypeRules.{Contains-flat_map}
-use Rattle.walrus_rules.specs.Spelling.{IsPassive, NamesData, NeedsCount}
+use Rattle.walrus_theorem.specs.Spelling.{IsPassive, NamesData, NeedsCount}
 use Rattle.walrus_plan.specs.Count.{arg_is_data, is_passive_value, kind_names_data, one_names_data, op_names_data}
+use Rattle.walrus_groups.proofs.WrittenCauses.{any_found}
 
 -- ---- lists
-
-any_found : {X : Type 0} (p : X → Bool) (xs : List X) → list_any p xs ≡ true → (x : X) × (Contains xs x × (p x ≡ true))
-any_found p xs h = let m = Any-from_list_any p xs h in (m.1, ((m.0, m.2, m.3), m.4))
 
 any_at : {X : Type 0} (p : X → Bool) (xs : List X) (x : X) → Contains xs x → p x ≡ true → list_any p xs ≡ true
 any_at p xs x c h = list_any_at p xs c.0 x c.1 (ap p c.2 ∙ h)

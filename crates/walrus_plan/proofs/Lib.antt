@@ -2,7 +2,6 @@ pub mod BroughtBy
 pub mod BySize
 pub mod Counted
 pub mod Matching
-pub mod OrderByImport
 pub mod OrdersSpaces
 pub mod OwnFunctions
 pub mod PlannedByImport
@@ -11,7 +10,3 @@ pub mod Planning
 pub mod ReadsBefore
 pub mod RefusesIndex
 pub mod RefusesPlanned
-pub mod Rows
-pub mod Somes
-pub mod SortedPairs
-pub mod Turns

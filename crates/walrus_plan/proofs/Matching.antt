@@ -2,23 +2,23 @@
 use Rattle.std.proofs.Common.{◌≡◌, ℕ, List, [], ◌∷◌, Some, None, refl, sym, ap, ◌∙◌, subst}
 use Rattle.std.specs.Prelude.{Option, IsSome, option_map}
 use Rattle.walrus_base.specs.Arena.{item_at}
-use Rattle.walrus_types.specs.Operators.{Space, Types, Functions, Tables, Memories, Tags, Globals, Elements, DataSegments, Item}
-use Rattle.walrus_types.specs.declared.locals.ModuleLocals.{ModuleLocals}
+use Rattle.walrus_base.specs.Operators.{Space, Types, Functions, Tables, Memories, Tags, Globals, Elements, DataSegments, Item}
+use Rattle.walrus_base.specs.declared.locals.ModuleLocals.{ModuleLocals}
 use Rattle.walrus_items.specs.Functions.{FunctionValue}
-use Rattle.walrus_parts.specs.Kinds.{imported}
+use Rattle.walrus_items.specs.Kinds.{imported}
 use Rattle.walrus_items.specs.Imports.{ImportValue}
-use Rattle.walrus_parts.specs.declared.function_kind.FunctionKind.{FunctionKind}
-use Rattle.walrus_parts.specs.declared.function_kind.FunctionKind.TheVariants as kind
+use Rattle.walrus_items.specs.declared.function_kind.FunctionKind.{FunctionKind}
+use Rattle.walrus_items.specs.declared.function_kind.FunctionKind.TheVariants as kind
 use Rattle.walrus_items.specs.Globals.{GlobalValue}
 use Rattle.walrus_items.specs.Memories.{MemoryValue}
 use Rattle.walrus_items.specs.Tables.{TableValue}
 use Rattle.walrus_items.specs.Tags.{TagValue}
 use Rattle.walrus_model.specs.Abstract.{Abstract, Import}
 use Rattle.walrus_model.specs.WellMade.{ImportsMatch, import_in, import_of, kind_import, origin_import}
-use Rattle.walrus_model.proofs.Standing.{some_inj}
-use Rattle.walrus_rules.specs.Refused.{LacksIndex, NotBrought}
+use Rattle.walrus_base.proofs.Standing.{some_inj}
+use Rattle.walrus_theorem.specs.Refused.{LacksIndex, NotBrought}
 use Rattle.walrus_contents.specs.View as seen
-use Rattle.walrus_contents.proofs.Walked.{Walked, next_there, walk_goes, walk_ends}
+use Rattle.walrus_model.proofs.Walked.{Walked, next_there, walk_goes, walk_ends}
 use Rattle.walrus_plan.specs.Matched.{AreAnswered, AreImportsAnswered, AreItemsAnswered, IsAnswered, IsNamedBy, IsUnanswered}
 use Rattle.walrus_plan.specs.Origins.{function_import}
 

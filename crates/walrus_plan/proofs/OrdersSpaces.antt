@@ -3,7 +3,7 @@ use Rattle.std.proofs.Common.{◌≡◌, inl, inr, ⊎_elim, ℕ, ◌<◌, Bool,
 use Rattle.std.specs.Prelude.{Option, IsSome, AllPairs, Contains, filter, option_map}
 use Rattle.std.specs.List.{AllByRecursion}
 use Rattle.walrus_base.specs.Arena.{entries, item_at}
-use Rattle.walrus_types.specs.Operators.{Functions, Tables, Memories, Tags, Globals}
+use Rattle.walrus_base.specs.Operators.{Functions, Tables, Memories, Tags, Globals}
 use Rattle.walrus_items.specs.Globals.{GlobalValue, globals}
 use Rattle.walrus_items.specs.Memories.{MemoryValue, memories}
 use Rattle.walrus_items.specs.Tables.{TableValue, tables}
@@ -13,24 +13,22 @@ use Rattle.walrus_functions.proofs.LawOrder.{Sorted, sorted_of}
 use Rattle.walrus_contents.specs.View as seen
 use Rattle.walrus_contents.specs.View.{origin_of, parts_view}
 use Rattle.walrus_contents.specs.declared.parts.Parts.{Parts}
-use Rattle.walrus_contents.proofs.Slots.{entry_in, stands_at}
+use Rattle.walrus_model.proofs.Slots.{entry_in, stands_at}
 use Rattle.walrus_model.specs.Abstract.{Abstract, Function, FunctionKind, Global, Import, ImportedFunction, LocalFunction, Uninitialised, Memory, Origin, ImportedBy, Defined, Table, Tag}
 use Rattle.walrus_model.specs.Order.{FunctionsByImport, OriginsInOrder}
 use Rattle.walrus_model.specs.Same.{BothAnd}
 use Rattle.walrus_model.specs.WellMade.{import_in, kind_import, origin_import}
 use Rattle.walrus_model.proofs.Arenas.{entries_rise}
-use Rattle.walrus_model.proofs.Lists.{Contains-head, Contains-map, Contains-none, Contains-tail, Contains-uncons}
+use Rattle.walrus_base.proofs.Lists.{Contains-head, Contains-map, Contains-none, Contains-tail, Contains-uncons}
 use Rattle.walrus_model.proofs.OrderOfPlaces.{pairs_weaker}
 use Rattle.walrus_model.proofs.Reach.{Contains-unmap}
 use Rattle.walrus_plan.specs.Brought.{own_places}
 use Rattle.walrus_plan.specs.Local.{is_own}
 use Rattle.walrus_plan.proofs.BroughtBy.{kind_origin, origin_is}
-use Rattle.walrus_plan.proofs.OrderByImport.{ListsImports, ListsOwn, OrdersSpace}
-use Rattle.walrus_plan.proofs.SortedPairs.{pairs_of}
-use Rattle.walrus_plan.proofs.Somes.{none_some}
-
-is_false : false ≡ true → ⊥
-is_false e = cc
+use Rattle.walrus_model.proofs.OrderByImport.{ListsImports, ListsOwn, OrdersSpace}
+use Rattle.walrus_functions.proofs.SortedPairs.{pairs_of}
+use Rattle.walrus_code.proofs.Somes.{none_some}
+use Rattle.std.proofs.lemmas.Bool.{false≢true as is_false}
 
 -- ---- items with an origin
 

@@ -2,12 +2,12 @@
 use Rattle.std.proofs.Common.{◌≡◌, ◌⊎◌, ℕ, ◌<◌, List, refl, sym, ap, ◌∙◌, subst, Some, None}
 use Rattle.std.specs.Prelude.{Option, IsSome, Contains, option_map}
 use Rattle.walrus_base.specs.Arena.{item_at}
-use Rattle.walrus_types.specs.Operators.{Functions}
+use Rattle.walrus_base.specs.Operators.{Functions}
 use Rattle.walrus_items.specs.Function.{size_of}
 use Rattle.walrus_items.specs.LocalFunction.{LocalFunction}
 use Rattle.walrus_items.specs.Functions.{FunctionValue, functions}
-use Rattle.walrus_parts.specs.declared.function_kind.FunctionKind.{FunctionKind}
-use Rattle.walrus_parts.specs.declared.function_kind.FunctionKind.TheVariants as kind
+use Rattle.walrus_items.specs.declared.function_kind.FunctionKind.{FunctionKind}
+use Rattle.walrus_items.specs.declared.function_kind.FunctionKind.TheVariants as kind
 use Rattle.walrus_contents.specs.View.{body, function, kind_of, parts_view}
 use Rattle.walrus_contents.specs.declared.parts.Parts.{Parts}
 use Rattle.walrus_model.specs.Abstract as abstract
@@ -16,12 +16,12 @@ use Rattle.walrus_model.specs.Dead.{HasDead, NoKind}
 use Rattle.walrus_model.specs.Order.{ByImport, FunctionsByImport}
 use Rattle.walrus_model.specs.Same.{BothAnd}
 use Rattle.walrus_model.specs.WellMade.{import_in, import_of, kind_import}
-use Rattle.walrus_model.proofs.Standing.{some_inj, some_of}
+use Rattle.walrus_base.proofs.Standing.{some_inj, some_of}
 use Rattle.walrus_plan.specs.Sizes.{IsOrder}
 use Rattle.walrus_plan.proofs.BySize.{bodies_in, body_at, body_there, ordered_by_size, own_body, pairs_by_size}
 use Rattle.walrus_plan.proofs.BroughtBy.{kind_origin}
-use Rattle.walrus_plan.proofs.OrderByImport.{ListsOwn}
-use Rattle.walrus_plan.proofs.Somes.{none_some}
+use Rattle.walrus_model.proofs.OrderByImport.{ListsOwn}
+use Rattle.walrus_code.proofs.Somes.{none_some}
 
 module _ (p : Parts) where
   abbrev V : Abstract

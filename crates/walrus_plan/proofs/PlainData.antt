@@ -1,10 +1,10 @@
 -- A plain body names no data segment.
 use Rattle.std.proofs.Common.{◌≡◌, ℕ, true, false, ◌||◌, List, [], ◌∷◌, refl, ap₂}
 use Rattle.std.specs.List.{list_all, list_any}
-use Rattle.walrus_types.specs.Operators.{Types, Functions, Tables, Memories, Tags, Globals, Elements, DataSegments, Arg, Index, Label, Local, Number, Count, Byte, S32, S64, Bits32, Bits64, Value, Heap, Block, Access, Op}
+use Rattle.walrus_base.specs.Operators.{Types, Functions, Tables, Memories, Tags, Globals, Elements, DataSegments, Arg, Index, Label, Local, Number, Count, Byte, S32, S64, Bits32, Bits64, Value, Heap, Block, Access, Op}
 use Rattle.walrus_model.specs.PlainBodies.{is_plain_arg, is_plain_op}
-use Rattle.walrus_contents.proofs.PlainBodies.{both}
 use Rattle.walrus_plan.specs.Count.{arg_is_data, op_names_data}
+use Rattle.std.proofs.lemmas.Bool.{and_parts as both}
 
 module _ (first count : ℕ) where
   arg_other : (a : Arg) → is_plain_arg first count a ≡ true → arg_is_data a ≡ false

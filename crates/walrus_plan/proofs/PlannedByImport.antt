@@ -1,9 +1,9 @@
 -- Where imports and items name each other, what imports bring, by rising import, and then what the module defines, is the order of the plan, space
 -- by space.
-use Rattle.std.proofs.Common.{ℕ, List, ◌++◌, map, refl, subst}
-use Rattle.std.specs.Prelude.{AllPairs, Option, Some, None, IsSome, option_map}
+use Rattle.std.proofs.Common.{ℕ, List, ◌++◌, map, subst}
+use Rattle.std.specs.Prelude.{AllPairs, Option, option_map}
 use Rattle.walrus_base.specs.Arena.{entries, item_at, items}
-use Rattle.walrus_types.specs.Operators.{Space, Functions, Tables, Memories, Tags, Globals, Elements, DataSegments}
+use Rattle.walrus_base.specs.Operators.{Space, Functions, Tables, Memories, Tags, Globals, Elements, DataSegments}
 use Rattle.walrus_items.specs.Data.{data_segments}
 use Rattle.walrus_items.specs.Elements.{elements}
 use Rattle.walrus_items.specs.Globals.{GlobalValue, globals}
@@ -22,18 +22,14 @@ use Rattle.walrus_model.specs.Spaces.{look}
 use Rattle.walrus_model.specs.WellMade.{ImportsMatch}
 use Rattle.walrus_model.proofs.Arenas.{entries_rise}
 use Rattle.walrus_model.proofs.Orders.{ordered_entries}
-use Rattle.walrus_model.proofs.Standing.{was_some}
+use Rattle.walrus_base.proofs.Standing.{was_some}
 use Rattle.walrus_plan.specs.Brought.{own_places, places_brought}
 use Rattle.walrus_plan.specs.Sizes.{IsOrder}
 use Rattle.walrus_plan.proofs.BroughtBy.{brought_numbers}
-use Rattle.walrus_plan.proofs.OrderByImport.{ListsOwn, OrdersSpace, whole_ordered, whole_pairs}
+use Rattle.walrus_model.proofs.OrderByImport.{ListsOwn, OrdersSpace, whole_ordered, whole_pairs}
 use Rattle.walrus_plan.proofs.OrdersSpaces.{functions_order, globals_listed, globals_order, imports_listed, memories_listed, memories_order, tables_listed, tables_order, tags_listed, tags_order}
 use Rattle.walrus_plan.proofs.OwnFunctions.{functions_listed}
-
--- what stands in the slots stands in what is seen of them
-seen_some : {A B : Type 0} (f : A → B) (o : Option A) → IsSome o → IsSome (option_map f o)
-seen_some f (Some x) h = refl
-seen_some f None h = h
+use Rattle.walrus_base.proofs.Lookups.{still_some as seen_some}
 
 seen_ordered : {A B : Type 0} (f : A → B) (slots : List (Option A)) → Ordered (λ i. option_map f (item_at slots i)) (map (λ e. e.0) (entries slots))
 seen_ordered f slots =

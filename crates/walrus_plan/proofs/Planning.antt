@@ -2,8 +2,8 @@
 use Rattle.std.proofs.Common.{◌≡◌, ℕ, List, ◌++◌, map, sym, subst}
 use Rattle.walrus_base.specs.Arena.{entries, items}
 use Rattle.walrus_base.specs.Id.{place}
-use Rattle.walrus_types.specs.ModuleTypes.{type_slots}
-use Rattle.walrus_types.specs.Operators.{Space, Types, Functions, Tables, Memories, Tags, Globals, Elements, DataSegments}
+use Rattle.walrus_base.specs.ModuleTypes.{type_slots}
+use Rattle.walrus_base.specs.Operators.{Space, Types, Functions, Tables, Memories, Tags, Globals, Elements, DataSegments}
 use Rattle.walrus_items.specs.Functions.{functions}
 use Rattle.walrus_items.specs.Imports.{imports}
 use Rattle.walrus_items.specs.Data.{data_segments}

@@ -1,21 +1,20 @@
 -- What initialisers may read, item by item: from the test to the rule, and from its failing to what lacks an index.
-use Rattle.std.proofs.Common.{inl, inr, ◌≡◌, ℕ, ◌<◌, ◌⊎◌, ◌&&◌, ◌||◌, ⊎_elim, Bool, true, false, List, [], ◌∷◌, ◌++◌, map, refl, sym, ap, ◌∙◌, subst, arith, Some, None}
+use Rattle.std.proofs.Common.{inl, inr, ◌≡◌, ℕ, ◌<◌, ◌⊎◌, ◌&&◌, ⊎_elim, Bool, true, false, List, [], ◌∷◌, ◌++◌, map, refl, sym, ap, ◌∙◌, subst, arith, Some, None}
 use Rattle.std.specs.Prelude.{Option, IsSome, Contains, not, nat_lt, option_map, IfOk, Result, Ok, Err}
 use Rattle.std.specs.List.{list_all}
 use borrow.Author.Tests.{ltb-true, ltb-false}
 use Rattle.walrus_base.specs.Arena.{item_at}
 use Rattle.walrus_base.specs.Types.{heap_names, val_names}
-use Rattle.walrus_types.specs.ConstOps.{const_ops, value_op, vector_const}
-use Rattle.walrus_types.specs.declared.const_expr.ConstExpr.{ConstExpr}
-use Rattle.walrus_types.specs.declared.const_expr.ConstExpr.TheVariants as expressions
-use Rattle.walrus_types.specs.declared.const_expr.Value.{Value}
-use Rattle.walrus_types.specs.declared.const_expr.Value.TheVariants as constants
-use Rattle.walrus_types.specs.Operators.{Types, Tables, Globals, Item, Op, type_item, names_of}
+use Rattle.walrus_base.specs.ConstOps.{const_ops}
+use Rattle.walrus_base.specs.declared.const_expr.ConstExpr.{ConstExpr}
+use Rattle.walrus_base.specs.declared.const_expr.ConstExpr.TheVariants as expressions
+use Rattle.walrus_base.specs.declared.const_expr.Value.{Value}
+use Rattle.walrus_base.specs.declared.const_expr.Value.TheVariants as constants
+use Rattle.walrus_base.specs.Operators.{Types, Tables, Globals, Item, Op, type_item, names_of}
 use Rattle.walrus_items.specs.Globals.{GlobalValue, globals, global_import, global_init}
 use Rattle.walrus_items.specs.Tables.{TableValue, tables}
-use Rattle.walrus_parts.specs.declared.kinds.GlobalKind.{GlobalKind}
-use Rattle.walrus_parts.specs.declared.kinds.GlobalKind.TheVariants as kinds
-use Rattle.walrus_contents.proofs.LiveLemmas.{was_there}
+use Rattle.walrus_items.specs.declared.kinds.GlobalKind.{GlobalKind}
+use Rattle.walrus_items.specs.declared.kinds.GlobalKind.TheVariants as kinds
 use Rattle.walrus_contents.specs.View.{global_of, origin_of, own_initialiser, parts_view, table_of}
 use Rattle.walrus_contents.specs.declared.parts.Parts.{Parts}
 use Rattle.walrus_model.specs.Abstract.{Abstract, Origin, ImportedBy, Defined, Global, Table}
@@ -25,19 +24,16 @@ use Rattle.walrus_model.specs.Refers.{global_names, named_by, table_names, writt
 use Rattle.walrus_model.specs.Roots.{IsImported}
 use Rattle.walrus_model.specs.Rules.{IsImportedGlobal}
 use Rattle.walrus_model.specs.Same.{BothAnd}
-use Rattle.walrus_model.proofs.Lists.{Contains-head, Contains-tail, Contains-uncons, Contains-none, Contains-append_2}
-use Rattle.walrus_model.proofs.Standing.{none_there, some_inj}
-use Rattle.walrus_rules.specs.Refused.{GlobalReads, LacksIndex, LaterGlobalRead, LocalGlobalRead, TableReads}
+use Rattle.walrus_base.proofs.Lists.{Contains-head, Contains-tail, Contains-uncons, Contains-none, Contains-append_2}
+use Rattle.walrus_base.proofs.Standing.{none_there, some_inj, was_some as was_there}
+use Rattle.walrus_theorem.specs.Refused.{GlobalReads, LacksIndex, LaterGlobalRead, LocalGlobalRead, TableReads}
 use Rattle.walrus_plan.specs.Local.{is_own}
-use Rattle.walrus_parts.specs.declared.error.Error.{Error}
+use Rattle.walrus_items.specs.declared.error.Error.{Error}
 use Rattle.walrus_plan.specs.Reads.{AreReadEarlier, AreReadImported, ReadsInOrder, may_name, may_name_all, may_read}
-use Rattle.walrus_plan.proofs.Somes.{both_pass, neither, none_some}
-
--- ---- tests
-
-either : (a b : Bool) → (a || b) ≡ true → (a ≡ true) ⊎ (b ≡ true)
-either true b e = inl refl
-either false b e = inr e
+use Rattle.walrus_code.proofs.Somes.{none_some}
+use Rattle.std.proofs.lemmas.Bool.{and_parts as both_pass, or_parts as neither}
+use Rattle.walrus_base.proofs.Noted.{or_cases as either}
+use Rattle.walrus_contents.proofs.ConstNames.{value_named as value_names_nothing}
 
 -- ---- lists
 
@@ -213,18 +209,6 @@ module _ (p : Parts) where
       let read = initialiser_reads (val_names v.ty) (option_map const_ops v.initialiser) x.0 named in
       LaterGlobalRead i x.0 (global_of v, (read.0, (view, read.1.0, read.1.1))) (subst (λ (o : Option GlobalValue). IsSome (option_map global_of o)) (sym w.1.0) refl)
       (λ either_way. ⊎_elim (λ is. not_imported x.0 w.0 w.1.0 w.1.1.0 is) (λ before. not_before i x.0 v w.0 at w.1.0 w.1.1.0 w.1.1.1 before) either_way)
-
--- a plain value
-value_names_nothing : (v : Value) → names_of (value_op v ∷ []) ≡ []
-value_names_nothing (constants.I32 n) = refl
-value_names_nothing (constants.I64 n) = refl
-value_names_nothing (constants.F32 bits) = refl
-value_names_nothing (constants.F64 bits) = refl
-value_names_nothing (constants.V128 bytes) = bytes_name_nothing bytes
-  where
-    bytes_name_nothing : (bytes : List ℕ) → names_of (vector_const bytes ∷ []) ≡ []
-    bytes_name_nothing [] = refl
-    bytes_name_nothing (b ∷ bs) = bytes_name_nothing bs
 
 pub plain_names_nothing : (e : ConstExpr) (v : Value) → e ≡ expressions.Value v → names_of (const_ops e) ≡ []
 plain_names_nothing e v plain = ap (λ (x : ConstExpr). names_of (const_ops x)) plain ∙ value_names_nothing v

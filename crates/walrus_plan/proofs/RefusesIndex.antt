@@ -3,20 +3,20 @@ use Rattle.std.proofs.Common.{◌≡◌, ℕ, List, map, refl, sym, subst, Some,
 use Rattle.std.specs.Prelude.{Option, IsSome, Contains}
 use Rattle.walrus_base.specs.Arena.{item_at}
 use Rattle.walrus_base.specs.Types.{comp_names, sub_names}
-use Rattle.walrus_types.specs.Operators.{Types, type_item}
-use Rattle.walrus_types.specs.TypeDef.{TypeDef}
+use Rattle.walrus_base.specs.Operators.{Types, type_item}
+use Rattle.walrus_base.specs.TypeDef.{TypeDef}
 use Rattle.walrus_groups.specs.Indexed as groups
 use Rattle.walrus_groups.specs.Indexed.{IsOutOfOrder}
-use Rattle.walrus_types.specs.ModuleTypes.{type_slots}
+use Rattle.walrus_base.specs.ModuleTypes.{type_slots}
 use Rattle.walrus_contents.specs.View.{parts_view}
 use Rattle.walrus_contents.specs.declared.parts.Parts.{Parts}
 use Rattle.walrus_model.specs.Abstract.{Abstract}
 use Rattle.walrus_model.specs.Dead.{HasDead, DeadName}
 use Rattle.walrus_model.specs.Live.{IsLive}
 use Rattle.walrus_model.specs.Refers.{named_by, type_names}
-use Rattle.walrus_model.proofs.Lists.{Contains-map, Contains-append_1, Contains-append_2}
-use Rattle.walrus_model.proofs.Standing.{none_there}
-use Rattle.walrus_rules.specs.Refused.{LacksIndex, LaterSupertype, LaterType}
+use Rattle.walrus_base.proofs.Lists.{Contains-map, Contains-append_1, Contains-append_2}
+use Rattle.walrus_base.proofs.Standing.{none_there}
+use Rattle.walrus_theorem.specs.Refused.{LacksIndex, LaterSupertype, LaterType}
 
 module _ (p : Parts) (lives : HasDead (parts_view p) → ⊥) where
   abbrev V : Abstract

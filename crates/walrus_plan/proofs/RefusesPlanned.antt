@@ -1,15 +1,15 @@
 -- What refuses a plan; and that where imports and items name each other, and types and what initialisers read stand in order, nothing lacks an index.
-use Rattle.walrus_types.specs.ModuleTypes.{type_slots}
+use Rattle.walrus_base.specs.ModuleTypes.{type_slots}
 use Rattle.walrus_groups.specs.Indexed.{AreInOrder}
 use Rattle.walrus_contents.specs.View.{parts_view}
 use Rattle.walrus_contents.specs.declared.parts.Parts.{Parts}
 use Rattle.walrus_model.specs.Abstract.{Abstract}
 use Rattle.walrus_model.specs.Plan.{IsPlan, Plan}
 use Rattle.walrus_model.specs.WellMade.{ImportsMatch}
-use Rattle.walrus_parts.specs.declared.error.Error.{Error}
-use Rattle.walrus_parts.specs.declared.error.Error.TheVariants.{Memory, NoIndex, TooLarge, TwoIndices}
-use Rattle.walrus_rules.specs.Refused.{LacksIndex, NotBrought, LocalGlobalRead, LaterGlobalRead, LaterSupertype, LaterType}
-use Rattle.walrus_rules.proofs.NoCause.{two}
+use Rattle.walrus_items.specs.declared.error.Error.{Error}
+use Rattle.walrus_items.specs.declared.error.Error.TheVariants.{Memory, NoIndex, TooLarge, TwoIndices}
+use Rattle.walrus_theorem.specs.Refused.{LacksIndex, NotBrought, LocalGlobalRead, LaterGlobalRead, LaterSupertype, LaterType}
+use Rattle.walrus_theorem.proofs.NoCause.{two}
 use Rattle.walrus_plan.specs.Matched.{RefusesUnmatched}
 use Rattle.walrus_plan.specs.Reads.{ReadsInOrder}
 use Rattle.walrus_plan.specs.Refusals.{RefusesCounts, RefusesPlan}

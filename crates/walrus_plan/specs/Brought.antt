@@ -4,10 +4,10 @@ use Rattle.std.specs.Global.{Vec}
 use Rattle.walrus_base.specs.Arena.{entries}
 use Rattle.walrus_base.specs.Id.{place}
 use Rattle.walrus_base.specs.declared.id.Id.{Id}
-use Rattle.walrus_types.specs.Operators.{Space}
+use Rattle.walrus_base.specs.Operators.{Space}
 use Rattle.walrus_contents.specs.declared.parts.Parts.{Parts}
-use Rattle.walrus_parts.specs.Kinds.{imported}
-use Rattle.walrus_parts.specs.declared.kinds.ImportKind.{ImportKind}
+use Rattle.walrus_items.specs.Kinds.{imported}
+use Rattle.walrus_items.specs.declared.kinds.ImportKind.{ImportKind}
 use Rattle.walrus_items.specs.Imports.{ImportValue, imports}
 use Rattle.walrus_model.specs.Imported.{number_in}
 use Rattle.walrus_plan.specs.Local.{is_own}

@@ -1,12 +1,12 @@
 -- Which segments are passive, and which functions name one.
 use Rattle.std.specs.Prelude.{Bool, true, false}
 use Rattle.std.specs.List.{list_any}
-use Rattle.walrus_types.specs.Operators.{Types, Functions, Tables, Memories, Tags, Globals, Elements, DataSegments, Arg, Index, Label, Local, Number, Count, Byte, S32, S64, Bits32, Bits64, Value, Heap, Block, Access, Op}
+use Rattle.walrus_base.specs.Operators.{Types, Functions, Tables, Memories, Tags, Globals, Elements, DataSegments, Arg, Index, Label, Local, Number, Count, Byte, S32, S64, Bits32, Bits64, Value, Heap, Block, Access, Op}
 use Rattle.walrus_items.specs.Function.{body_of}
 use Rattle.walrus_items.specs.Data.{DataValue, is_passive_data}
 use Rattle.walrus_items.specs.Functions.{FunctionValue}
-use Rattle.walrus_parts.specs.declared.function_kind.FunctionKind.{FunctionKind}
-use Rattle.walrus_parts.specs.declared.function_kind.FunctionKind.TheVariants as kind
+use Rattle.walrus_items.specs.declared.function_kind.FunctionKind.{FunctionKind}
+use Rattle.walrus_items.specs.declared.function_kind.FunctionKind.TheVariants as kind
 
 abbrev pub is_passive_value : DataValue → Bool
 is_passive_value d = is_passive_data d.kind

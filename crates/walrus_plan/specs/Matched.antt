@@ -1,11 +1,11 @@
 -- Whether imports and items name each other, one by one.
 use Rattle.std.specs.Prelude.{ℕ, Option, Some, ◌≡◌}
-use Rattle.walrus_types.specs.Operators.{Space, Functions, Tables, Memories, Tags, Globals, Item}
+use Rattle.walrus_base.specs.Operators.{Space, Functions, Tables, Memories, Tags, Globals, Item}
 use Rattle.walrus_model.specs.Abstract.{Abstract, Import}
 use Rattle.walrus_model.specs.WellMade.{import_of}
-use Rattle.walrus_parts.specs.declared.error.Error.{Error}
-use Rattle.walrus_parts.specs.declared.error.Error.TheVariants.{NoIndex, TwoIndices}
-use Rattle.walrus_rules.specs.Refused.{HasTwoIndices, LacksIndex}
+use Rattle.walrus_items.specs.declared.error.Error.{Error}
+use Rattle.walrus_items.specs.declared.error.Error.TheVariants.{NoIndex, TwoIndices}
+use Rattle.walrus_theorem.specs.Refused.{HasTwoIndices, LacksIndex}
 
 -- the import of this number is there, and names the item
 abbrev pub IsNamedBy : Abstract → Item → ℕ → Type 0

@@ -1,7 +1,7 @@
 -- The order in which items are written, as the plan of a module.
 use Rattle.std.specs.Prelude.{map, ◌++◌}
 use Rattle.walrus_base.specs.Id.{place}
-use Rattle.walrus_types.specs.Operators.{Types, Functions, Tables, Memories, Tags, Globals, Elements, DataSegments}
+use Rattle.walrus_base.specs.Operators.{Types, Functions, Tables, Memories, Tags, Globals, Elements, DataSegments}
 use Rattle.walrus_base.specs.Arena.{entries}
 use Rattle.walrus_contents.specs.declared.parts.Parts.{Parts}
 use Rattle.walrus_items.specs.Globals.{globals}

@@ -2,8 +2,8 @@
 use Rattle.std.specs.Prelude.{◌≡◌, ◌<◌, ◌^◌, ◌++◌, length, map}
 use Rattle.walrus_base.specs.Arena.{entries, items}
 use Rattle.walrus_base.specs.Id.{place}
-use Rattle.walrus_types.specs.ModuleTypes.{type_slots}
-use Rattle.walrus_types.specs.Operators.{Space, Functions, Tables, Memories, Tags, Globals, DataSegments}
+use Rattle.walrus_base.specs.ModuleTypes.{type_slots}
+use Rattle.walrus_base.specs.Operators.{Space, Functions, Tables, Memories, Tags, Globals, DataSegments}
 use Rattle.walrus_code.specs.Indices.{index_of}
 use Rattle.walrus_groups.specs.Indexed.{AreInOrder}
 use Rattle.walrus_items.specs.Functions.{functions}
@@ -18,7 +18,7 @@ use Rattle.walrus_contents.specs.View.{parts_view}
 use Rattle.walrus_contents.specs.declared.parts.Parts.{Parts}
 use Rattle.walrus_model.specs.Plan.{AreNumbered, IsPlan}
 use Rattle.walrus_model.specs.WellMade.{ImportsMatch}
-use Rattle.walrus_rules.specs.Spelling.{IsCount}
+use Rattle.walrus_theorem.specs.Spelling.{IsCount}
 use Rattle.walrus_plan.specs.Brought.{own_places, places_brought}
 use Rattle.walrus_plan.specs.Places.{places}
 use Rattle.walrus_plan.specs.Reads.{ReadsInOrder}

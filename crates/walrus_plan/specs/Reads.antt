@@ -2,14 +2,14 @@
 use Rattle.std.specs.Prelude.{ℕ, Bool, true, not, ◌||◌, nat_lt, List, Option, Some, None, ◌≡◌, ◌⊎◌}
 use Rattle.std.specs.List.{list_all}
 use Rattle.walrus_base.specs.Arena.{item_at}
-use Rattle.walrus_types.specs.Operators.{Tables, Globals, Item}
+use Rattle.walrus_base.specs.Operators.{Tables, Globals, Item}
 use Rattle.walrus_items.specs.Globals.{GlobalValue, global_init}
-use Rattle.walrus_parts.specs.declared.kinds.GlobalKind.{GlobalKind}
+use Rattle.walrus_items.specs.declared.kinds.GlobalKind.{GlobalKind}
 use Rattle.walrus_model.specs.Abstract.{Abstract}
 use Rattle.walrus_model.specs.Live.{IsLive}
 use Rattle.walrus_model.specs.Order.{ByImport}
 use Rattle.walrus_model.specs.Rules.{IsImportedGlobal}
-use Rattle.walrus_rules.specs.Refused.{GlobalReads, TableReads}
+use Rattle.walrus_theorem.specs.Refused.{GlobalReads, TableReads}
 use Rattle.walrus_plan.specs.Local.{is_own}
 
 -- a table's initialiser reads imported globals alone

@@ -1,12 +1,12 @@
 -- Why parts that name nothing dead have no plan to be written by.
 use Rattle.std.specs.Prelude.{length, ◌≤◌, ◌^◌, ⊤}
-use Rattle.walrus_types.specs.Operators.{Space}
+use Rattle.walrus_base.specs.Operators.{Space}
 use Rattle.walrus_contents.specs.View.{parts_view}
 use Rattle.walrus_contents.specs.declared.parts.Parts.{Parts}
 use Rattle.walrus_model.specs.Plan.{IsPlan, Plan}
-use Rattle.walrus_parts.specs.declared.error.Error.{Error}
-use Rattle.walrus_parts.specs.declared.error.Error.TheVariants.{Memory, NoIndex, TooLarge, TwoIndices}
-use Rattle.walrus_rules.specs.Refused.{HasTwoIndices, LacksIndex}
+use Rattle.walrus_items.specs.declared.error.Error.{Error}
+use Rattle.walrus_items.specs.declared.error.Error.TheVariants.{Memory, NoIndex, TooLarge, TwoIndices}
+use Rattle.walrus_theorem.specs.Refused.{HasTwoIndices, LacksIndex}
 
 -- a space of the plan has too many items
 abbrev pub HasTooMany : Plan → Type 0

@@ -3,22 +3,21 @@
 ghost use Rattle.std.specs.Prelude.{◌≡◌, ◌++◌, map, IfOk, OnOk, IsOkUnless};
 ghost use Rattle.walrus_base.specs.Arena.{entries, items};
 ghost use Rattle.walrus_base.specs.Id.{place};
-ghost use Rattle.walrus_types.specs.Operators.{Functions, Globals, Memories, Tables, Tags};
+ghost use Rattle.walrus_base.specs.Operators.{Functions, Globals, Memories, Tables, Tags};
 ghost use Rattle.walrus_items.specs.Globals.{globals};
 ghost use Rattle.walrus_items.specs.Memories.{memories};
 ghost use Rattle.walrus_items.specs.Tables.{tables};
 ghost use Rattle.walrus_items.specs.Tags.{tags};
 ghost use Rattle.walrus_items.specs.Imports.{imports};
-ghost use Rattle.walrus_parts.specs.Errors.{out_of_memory};
+ghost use Rattle.walrus_items.specs.Errors.{out_of_memory};
 ghost use Rattle.walrus_plan.specs.Brought.{IsLonger, own_places, places_brought};
 
 use crate::origins::{global_import, tag_import};
 use std::alloc::Global;
-use walrus_ir::{FunctionId, GlobalId, MemoryId, TableId, TagId};
+use walrus_base::{FunctionId, GlobalId, MemoryId, TableId, TagId};
 use walrus_items::{
-    ImportKind, ModuleGlobals, ModuleImports, ModuleMemories, ModuleTables, ModuleTags,
+    ImportKind, ModuleGlobals, ModuleImports, ModuleMemories, ModuleTables, ModuleTags, Result,
 };
-use walrus_parts::Result;
 
 /// What imports bring, in a list for each kind of items.
 #[derive(Drop)]

@@ -8,11 +8,13 @@ ghost use Rattle.walrus_items.specs.Data.{data_segments};
 ghost use Rattle.walrus_items.specs.Functions.{functions};
 ghost use Rattle.walrus_contents.specs.View.{parts_view};
 ghost use Rattle.walrus_model.specs.Dead.{HasDead};
-ghost use Rattle.walrus_rules.specs.Spelling.{IsCount, NeedsCount};
+ghost use Rattle.walrus_theorem.specs.Spelling.{IsCount, NeedsCount};
 ghost use Rattle.walrus_plan.specs.Count.{arg_is_data, kind_names_data, one_names_data, op_names_data, is_passive_value};
 
+use walrus_bodies::LocalFunction;
+use walrus_code::{Arg, Operator};
 use walrus_contents::Parts;
-use walrus_items::{Arg, FunctionKind, LocalFunction, ModuleData, ModuleFunctions, Operator};
+use walrus_items::{FunctionKind, ModuleData, ModuleFunctions};
 
 // Whether there is a segment.
 fn has_segments(segments: &ModuleData) -> bool

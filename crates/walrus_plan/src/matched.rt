@@ -1,20 +1,19 @@
 //! Whether imports and the items that they bring name each other ("Structure > Modules > Imports").
 ghost use Rattle.std.specs.Prelude.{◌≡◌, MatchResult, Some, true, false, option_map};
 ghost use Rattle.walrus_base.specs.Id.{place};
-ghost use Rattle.walrus_types.specs.Operators.{Functions, Globals, Memories, Tables, Tags};
+ghost use Rattle.walrus_base.specs.Operators.{Functions, Globals, Memories, Tables, Tags};
 ghost use Rattle.walrus_contents.specs.View.{parts_view};
-ghost use Rattle.walrus_parts.specs.Kinds.{imported};
+ghost use Rattle.walrus_items.specs.Kinds.{imported};
 ghost use Rattle.walrus_model.specs.Dead.{HasDead};
 ghost use Rattle.walrus_model.specs.Live.{IsLive};
 ghost use Rattle.walrus_model.specs.WellMade.{ImportsMatch, import_of};
-ghost use Rattle.walrus_rules.specs.Refused.{LacksIndex};
+ghost use Rattle.walrus_theorem.specs.Refused.{LacksIndex};
 ghost use Rattle.walrus_plan.specs.Matched.{AreAnswered, AreImportsAnswered, AreItemsAnswered, IsAnswered, IsNamedBy, IsUnanswered, RefusesUnmatched};
 
 use crate::origins::{function_import, global_import, import_of, tag_import};
+use walrus_base::ImportId;
 use walrus_contents::Parts;
-use walrus_ir::ImportId;
-use walrus_items::ImportKind;
-use walrus_parts::{Error, Result};
+use walrus_items::{Error, ImportKind, Result};
 
 // Whether these import the same.
 fn is_same(kind: ImportKind, other: ImportKind) -> bool

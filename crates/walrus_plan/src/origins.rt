@@ -4,13 +4,13 @@ ghost use Rattle.walrus_base.specs.Id.{place};
 ghost use Rattle.walrus_contents.specs.View.{parts_view};
 ghost use Rattle.walrus_items.specs.Globals.{global_import};
 ghost use Rattle.walrus_items.specs.Tags.{tag_import};
-ghost use Rattle.walrus_parts.specs.Kinds.{imported};
+ghost use Rattle.walrus_items.specs.Kinds.{imported};
 ghost use Rattle.walrus_model.specs.Live.{IsLive};
 ghost use Rattle.walrus_model.specs.WellMade.{import_of};
 ghost use Rattle.walrus_plan.specs.Origins.{function_import};
 
+use walrus_base::ImportId;
 use walrus_contents::Parts;
-use walrus_ir::ImportId;
 use walrus_items::{FunctionKind, GlobalKind, ImportKind, TagKind};
 
 /// The import that brings a function of this kind.

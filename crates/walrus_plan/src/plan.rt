@@ -3,9 +3,9 @@ ghost use Rattle.std.specs.Prelude.{◌≡◌, ◌<◌, ◌≤◌, ◌^◌, ◌+
 ghost use Rattle.walrus_base.specs.Arena.{entries, items};
 ghost use Rattle.std.specs.List.{IsDistinct};
 ghost use Rattle.walrus_base.specs.Id.{place};
-ghost use Rattle.walrus_types.specs.ModuleTypes.{type_slots};
+ghost use Rattle.walrus_base.specs.ModuleTypes.{type_slots};
 ghost use Rattle.walrus_code.specs.Indices.{NumbersAlong, index_of};
-ghost use Rattle.walrus_types.specs.Operators.{Space, Types, Functions, Tables, Memories, Tags, Globals};
+ghost use Rattle.walrus_base.specs.Operators.{Space, Types, Functions, Tables, Memories, Tags, Globals};
 ghost use Rattle.walrus_items.specs.Functions.{functions};
 ghost use Rattle.walrus_items.specs.Imports.{imports};
 ghost use Rattle.walrus_contents.specs.View.{parts_view};
@@ -18,7 +18,7 @@ ghost use Rattle.walrus_items.specs.Tags.{tags};
 ghost use Rattle.walrus_model.specs.Dead.{HasDead};
 ghost use Rattle.walrus_model.specs.Plan.{AreNumbered, IsPlan};
 ghost use Rattle.walrus_model.specs.WellMade.{ImportsMatch};
-ghost use Rattle.walrus_parts.specs.Errors.{out_of_memory};
+ghost use Rattle.walrus_items.specs.Errors.{out_of_memory};
 ghost use Rattle.walrus_plan.specs.Brought.{own_places, places_brought};
 ghost use Rattle.walrus_plan.specs.Local.{is_own};
 ghost use Rattle.walrus_plan.specs.Places.{places};
@@ -30,13 +30,13 @@ use crate::by_import::{
 };
 use std::alloc::Global;
 use std::cmp::Reverse;
-use walrus_contents::Parts;
-use walrus_ir::{
-    DataId, ElementId, FunctionId, FunctionKey, GlobalId, IdsToIndices, MemoryId, ModuleTypes,
-    Numbering, TableId, TagId, TypeId,
+use walrus_base::{
+    DataId, ElementId, FunctionId, FunctionKey, GlobalId, MemoryId, ModuleTypes, TableId, TagId,
+    TypeId,
 };
-use walrus_items::{GlobalKind, ModuleData, ModuleElements, ModuleFunctions};
-use walrus_parts::{Error, Result};
+use walrus_code::{IdsToIndices, Numbering};
+use walrus_contents::Parts;
+use walrus_items::{Error, GlobalKind, ModuleData, ModuleElements, ModuleFunctions, Result};
 
 /// For each index space the ids of the items in the order in which they are written, so that each one's place in it is its index: what
 /// imports bring, by rising import, and then what the module defines. Functions stand in two lists.

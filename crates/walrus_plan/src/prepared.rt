@@ -10,10 +10,10 @@ use crate::matched::check_matched;
 use crate::plan::Plan;
 use crate::reads::are_reads_in_order;
 use std::alloc::Global;
+use walrus_code::IdsToIndices;
 use walrus_contents::Parts;
 use walrus_groups::are_in_order;
-use walrus_ir::IdsToIndices;
-use walrus_parts::{Error, Result};
+use walrus_items::{Error, Result};
 
 /// What a module's parts are written by: the order of their items, and the index that each has by it.
 #[derive(Drop)]

@@ -1,24 +1,24 @@
 //! Which globals initialisers read ("Validation > Modules > Globals", "Tables").
 ghost use Rattle.std.specs.Prelude.{◌≡◌, true, false, [], map, option_map, IfOk, IsOkUnless};
 ghost use Rattle.walrus_base.specs.Id.{place};
-ghost use Rattle.walrus_types.specs.ConstOps.{const_ops};
-ghost use Rattle.walrus_types.specs.Operators.{Globals, names_of};
+ghost use Rattle.walrus_base.specs.ConstOps.{const_ops};
+ghost use Rattle.walrus_base.specs.Operators.{Globals, names_of};
 ghost use Rattle.walrus_code.specs.Code.{item_of};
 ghost use Rattle.walrus_items.specs.Globals.{global_init, globals};
 ghost use Rattle.walrus_model.specs.Live.{IsLive};
 ghost use Rattle.walrus_model.specs.Refers.{named_by};
-ghost use Rattle.walrus_parts.specs.Errors.{out_of_memory};
-ghost use Rattle.walrus_rules.specs.Refused.{LacksIndex};
+ghost use Rattle.walrus_items.specs.Errors.{out_of_memory};
+ghost use Rattle.walrus_theorem.specs.Refused.{LacksIndex};
 ghost use Rattle.walrus_contents.specs.Named.{own_written};
 ghost use Rattle.walrus_contents.specs.View.{parts_view};
 ghost use Rattle.walrus_plan.specs.Reads.{AreReadEarlier, AreReadImported, HasInitialiser, IsOfKind, ReadsInOrder, may_name, may_name_all};
 
 use crate::plan::is_global_own;
 use std::alloc::Global;
+use walrus_base::{ConstExpr, GlobalId};
+use walrus_code::ItemId;
 use walrus_contents::{Parts, push_written_names};
-use walrus_ir::{ConstExpr, GlobalId};
-use walrus_items::{GlobalKind, ItemId};
-use walrus_parts::{Error, Result};
+use walrus_items::{Error, GlobalKind, Result};
 
 /// Whether each table's initialiser reads imported globals alone, and each global's imported ones and those that are written before it.
 pub fn are_reads_in_order(alloc: Global, parts: Parts<'_>) -> Result<bool>

@@ -12,15 +12,15 @@ use Rattle.walrus_model.specs.Abstract.{Custom, ProducerField}
 use Rattle.walrus_model.specs.Config.{Config}
 use Rattle.walrus_model.specs.Reads.{declared, ReadsBodyWith}
 use Rattle.walrus_model.specs.Sections.{custom_of, customs_of}
-use Rattle.walrus_rules.specs.Chain.{ParsedAs}
-use Rattle.walrus_rules.specs.Features.{features_of}
-use Rattle.walrus_rules.specs.Headline.{ReadsModule, field_of}
-use Rattle.walrus_rules.specs.Sections.{module_of}
+use Rattle.walrus_theorem.specs.Chain.{ParsedAs}
+use Rattle.walrus_theorem.specs.Features.{features_of}
+use Rattle.walrus_theorem.specs.Headline.{ReadsModule, field_of}
+use Rattle.walrus_theorem.specs.Sections.{module_of}
 use Rattle.walrus_contents.specs.View.{contents_view}
 use Rattle.walrus_contents.specs.declared.parts.Contents.{Contents}
-use Rattle.walrus_naming.specs.Taken.{is_known, name_payloads}
-use Rattle.walrus_records.specs.Rules.{OnlyRecords}
-use Rattle.walrus_records.proofs.Agree.{agree, reads_agree}
+use Rattle.walrus_reading.specs.TakenNames.{is_known, name_payloads}
+use Rattle.walrus_theorem.specs.Rules.{OnlyRecords}
+use Rattle.walrus_theorem.proofs.RulesAgree.{agree, reads_agree}
 use Rattle.walrus_reading.specs.Customs.{kept_customs}
 use Rattle.walrus_reading.specs.Named.{HasNames}
 use Rattle.walrus_reading.specs.Parsed.{IsParsed, LocalsInTurn}

@@ -6,11 +6,11 @@ use Rattle.wasm_entries.specs.declared.record.RawDesc.{RawDesc}
 use Rattle.wasm_entries.specs.declared.record.RawDesc.TheVariants as descs
 use Rattle.wasm_entries.specs.Record as entries
 use Rattle.wasm_frames.specs.Record as wire
-use Rattle.walrus_types.specs.Locals.{locals}
-use Rattle.walrus_types.specs.declared.locals.ModuleLocals.{ModuleLocals}
+use Rattle.walrus_base.specs.Locals.{locals}
+use Rattle.walrus_base.specs.declared.locals.ModuleLocals.{ModuleLocals}
 use Rattle.walrus_bodies.specs.declared.features.Features.{Features}
 use Rattle.walrus_functions.specs.EmittedBody.{types_of as local_types}
-use Rattle.walrus_functions.proofs.LawNamed.{each_append}
+use Rattle.walrus_bodies.proofs.LawNamed.{each_append}
 use Rattle.walrus_items.specs.Functions.{FunctionValue, functions}
 use Rattle.walrus_model.specs.Abstract.{Function, ImportedFunction}
 use Rattle.walrus_model.specs.Reads.{ReadsBodyWith}

@@ -14,24 +14,26 @@ use Rattle.walrus_model.specs.Names.{body_of_function, body_of_kind}
 use Rattle.walrus_model.specs.Producers.{produced}
 use Rattle.walrus_model.specs.Renaming.{Renaming}
 use Rattle.walrus_model.specs.Sections.{Said, body_with, customs_of, data_segments_of, elements_of, functions_of, imported, imported_function, memories_of, tables_of, types_of}
-use Rattle.walrus_model.proofs.Standing.{got_in, some_inj}
-use Rattle.walrus_rules.specs.Chain.{ParsedAs}
-use Rattle.walrus_rules.specs.Sections.{module_of}
+use Rattle.walrus_base.proofs.Standing.{got_in, some_inj}
+use Rattle.walrus_theorem.specs.Chain.{ParsedAs}
+use Rattle.walrus_theorem.specs.Sections.{module_of}
 use Rattle.walrus_contents.specs.View.{contents_view}
 use Rattle.walrus_contents.specs.declared.parts.Contents.{Contents}
-use Rattle.walrus_naming.specs.Laws.{IsUnnamed}
-use Rattle.walrus_naming.specs.Taken.{Bounds, place_of}
+use Rattle.walrus_reading.specs.Laws.{IsUnnamed}
+use Rattle.walrus_reading.specs.TakenNames.{Bounds, place_of}
 use Rattle.walrus_reading.specs.Held.{HoldsImportedFunction, memory_keeps, table_keeps}
 use Rattle.walrus_reading.specs.Taken.{HasTaken, local_counts, locals_said, starts_of}
 use Rattle.walrus_reading.proofs.AllHeld.{Fits, all_fit}
-use Rattle.walrus_reading.proofs.Carrying.{first_at, first_of, function_by, got_within, held_at, parsed, parsed_places, parsed_types}
-use Rattle.walrus_reading.proofs.CustomsAside.{customs_aside, renaming_aside, types_aside, with_customs}
+use Rattle.walrus_reading.proofs.Carrying.{first_at, first_of, held_at, parsed, parsed_places, parsed_types}
+use Rattle.walrus_theorem.proofs.Aside.{customs_aside, renaming_aside, types_aside, with_customs}
 use Rattle.walrus_reading.proofs.Held.{starts_taken}
 use Rattle.walrus_reading.proofs.LocalStarts.{joined}
 use Rattle.walrus_reading.proofs.Placed.{own_ids}
 use Rattle.walrus_reading.proofs.Rows.{placed_length}
 use Rattle.walrus_reading.proofs.Unnamed.{nothing_named}
 use Rattle.wasm_frames.specs.Record as wire
+use Rattle.walrus_theorem.proofs.ReadFits.{some_there as got_within}
+use Rattle.walrus_theorem.proofs.ReadBody.{body_from as function_by}
 
 -- ---- bodies
 

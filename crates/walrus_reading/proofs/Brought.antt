@@ -8,8 +8,8 @@ use Rattle.wasm_entries.specs.declared.record.RawImport.{RawImport}
 use Rattle.wasm_entries.specs.Record as entries
 use Rattle.walrus_base.specs.Id.{place}
 use Rattle.walrus_base.specs.declared.id.Id.{Id}
-use Rattle.walrus_types.specs.Operators.{Functions, Tables, Memories, Tags, Globals, Item}
-use Rattle.walrus_parts.specs.declared.error.Error.{Error}
+use Rattle.walrus_base.specs.Operators.{Functions, Tables, Memories, Tags, Globals, Item}
+use Rattle.walrus_items.specs.declared.error.Error.{Error}
 use Rattle.walrus_items.specs.Functions.{functions}
 use Rattle.walrus_items.specs.Imports.{imports}
 use Rattle.walrus_items.specs.Added.{IsAdded}

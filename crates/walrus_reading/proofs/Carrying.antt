@@ -6,36 +6,36 @@ use Rattle.std.specs.Prelude.{Option, Some, None, IsSome, Contains, slice_get, o
 use Rattle.std.specs.List.{AllZip, range_with_len}
 use Rattle.walrus_base.specs.Arena.{item_at}
 use Rattle.walrus_base.specs.Id.{place}
-use Rattle.walrus_base.specs.Types.{ValType, map_val}
-use Rattle.walrus_types.specs.Locals.{locals, local_type}
-use Rattle.walrus_types.specs.Value.{val_type}
+use Rattle.walrus_base.specs.Types.{ValType}
+use Rattle.walrus_base.specs.Locals.{locals, local_type}
+use Rattle.walrus_base.specs.Value.{val_type}
 use Rattle.walrus_items.specs.Function.{body_of as body_of_local}
 use Rattle.walrus_groups.specs.Groups.{types_from}
 use Rattle.std.proofs.lemmas.List.{length-map}
-use Rattle.walrus_types.specs.Operators.{Types, Functions, Tables, Memories, Tags, Globals, Elements, DataSegments, Item, NoResult, OneResult, OfType, Arg, Index, Label, Local as LocalArg, Number, Count, Byte, S32, S64, Bits32, Bits64, Value, Heap, Block, Access, Op, locals_of}
-use Rattle.walrus_types.specs.declared.locals.ModuleLocals.{ModuleLocals}
+use Rattle.walrus_base.specs.Operators.{Types, Item, NoResult, OneResult, OfType, Arg, Index, Label, Local as LocalArg, Number, Count, Byte, S32, S64, Bits32, Bits64, Value, Heap, Block, Access, Op, locals_of}
+use Rattle.walrus_base.specs.declared.locals.ModuleLocals.{ModuleLocals}
 use Rattle.walrus_items.specs.LocalFunction.{LocalFunction}
 use Rattle.walrus_functions.specs.EmittedBody.{types_of as local_types}
 use Rattle.walrus_functions.specs.Handlers.{params_of}
 use Rattle.walrus_functions.specs.Laws.{moved_arg, moved_op}
-use Rattle.walrus_parts.specs.FunctionKinds.{kind_type}
+use Rattle.walrus_items.specs.FunctionKinds.{kind_type}
 use Rattle.walrus_items.specs.Functions.{FunctionValue, functions}
-use Rattle.walrus_parts.specs.declared.function_kind.FunctionKind.{FunctionKind}
-use Rattle.walrus_parts.specs.declared.function_kind.FunctionKind.TheVariants.{Local}
+use Rattle.walrus_items.specs.declared.function_kind.FunctionKind.{FunctionKind}
+use Rattle.walrus_items.specs.declared.function_kind.FunctionKind.TheVariants.{Local}
 use Rattle.walrus_model.specs.Abstract as abstract
 use Rattle.walrus_model.specs.Abstract.{Abstract, Name, Custom, ProducerField, TypeDef, Function, Import, Body, Subject, TheModule, AnItem, ALocal}
 use Rattle.walrus_model.specs.Carried.{Carries}
 use Rattle.walrus_bodies.specs.declared.features.Features.{Features}
-use Rattle.walrus_rules.specs.Chain.{AddsHandlers, IsBehind, IsWholeBody, ParsedAs}
-use Rattle.walrus_rules.specs.Namings.{is_in_range}
-use Rattle.walrus_rules.specs.Sections.{items_of, module_of}
+use Rattle.walrus_theorem.specs.Chain.{AddsHandlers, IsBehind, IsWholeBody, ParsedAs}
+use Rattle.walrus_theorem.specs.Namings.{is_in_range}
+use Rattle.walrus_theorem.specs.Sections.{items_of, module_of}
 use Rattle.walrus_reading.proofs.DeclaredLocals.{counts}
 use Rattle.walrus_model.specs.Reads.{arity, ReadsBodyWith}
 use Rattle.walrus_model.specs.Sections.{Said, customs_of, function_with, functions_of, body_with, imported, imported_function, imports_after, types_of, globals_of, memories_of, tables_of, tags_of, elements_of, data_segments_of}
 use Rattle.walrus_model.specs.Kept.{IsImportOf}
 use Rattle.walrus_model.specs.Live.{IsLive}
-use Rattle.walrus_model.specs.WellMade.{import_in, import_of, kind_import, origin_import}
-use Rattle.walrus_rules.proofs.TextImports.{imports_match}
+use Rattle.walrus_model.specs.WellMade.{import_of}
+use Rattle.walrus_theorem.proofs.TextImports.{imports_match}
 use Rattle.walrus_model.specs.Config.{Config}
 use Rattle.walrus_model.specs.Names.{body_of, body_of_function, body_of_kind, name_of, own_name, names_that_count, synthetic_name, last_name, or_else}
 use Rattle.walrus_model.specs.Producers.{produced}
@@ -43,9 +43,9 @@ use Rattle.walrus_model.proofs.Follow.{used_follow}
 use Rattle.walrus_model.proofs.Reach.{Contains-unmap}
 use Rattle.walrus_model.specs.Renaming.{Renaming, renamed_arg, renamed_import, renamed_op, renamed_ops, renamed_export}
 use Rattle.walrus_model.specs.Same.{SameType, SameBody, SameFunction, SameKind, BothAnd}
-use Rattle.walrus_types.specs.Shape.{Seen, Own, Other, in_its_group, others_through, place_in}
-use Rattle.walrus_model.proofs.Lists.{map-itself, map-same}
-use Rattle.walrus_model.proofs.TypeMaps.{sub-itself, val-itself, heap-itself}
+use Rattle.walrus_base.specs.Shape.{in_its_group, others_through, place_in}
+use Rattle.walrus_base.proofs.Lists.{map-itself, map-same}
+use Rattle.walrus_base.proofs.TypeMaps.{sub-itself, val-itself, heap-itself}
 use Rattle.walrus_reading.specs.Taken.{HasTaken, tag_types_of}
 use Rattle.walrus_reading.proofs.AllHeld.{Fits, all_fit, all_imported}
 use Rattle.walrus_reading.proofs.ChainHandlers.{HasHandlers, by_numbers, imported_turn, own_turn}
@@ -53,7 +53,7 @@ use Rattle.walrus_reading.proofs.FoundTypes.{all_grown}
 use Rattle.walrus_reading.proofs.Held.{HeldBody, HeldFunction, exported, in_front, starts_taken}
 use Rattle.walrus_reading.proofs.Rows.{in_turn_append}
 use Rattle.walrus_contents.specs.View.{body, kind_of, handlers_at, function, contents_view, data_of, element_of, global_of, import_of as import_of_value, memory_of, table_of, tag_of}
-use Rattle.walrus_model.proofs.PipelineSame.{data_stays, element_stays, global_stays, import_stays, memory_stays, start_stays, table_stays, tag_stays}
+use Rattle.walrus_model.proofs.PipelineSame.{data_stays, element_stays, global_stays, import_stays, memory_stays, start_stays, table_stays, tag_stays, local_type_stays as types_stay}
 use Rattle.walrus_reading.specs.Held.{HoldsData, HoldsElement, HoldsGlobal, HoldsImport, HoldsMemory, HoldsTable, HoldsTag, memory_keeps, table_keeps}
 use Rattle.walrus_reading.specs.Placed.{AllPlaced, InTurn}
 use Rattle.walrus_reading.proofs.KeptSegments.{kept_seen, tables_seen}
@@ -66,17 +66,18 @@ use Rattle.walrus_items.specs.Memories.{memories}
 use Rattle.walrus_items.specs.Tables.{tables}
 use Rattle.walrus_items.specs.Tags.{tags}
 use Rattle.walrus_contents.specs.declared.parts.Contents.{Contents}
-use Rattle.walrus_contents.proofs.Lookups.{there}
-use Rattle.walrus_reading.proofs.Parsing.{used_below}
-use Rattle.walrus_contents.proofs.Steps.{item_there, zip_length}
+use Rattle.walrus_base.proofs.Lookups.{there}
+use Rattle.walrus_model.proofs.Parsing.{used_below}
+use Rattle.walrus_model.proofs.PlacedTypes.{item_there, zip_length}
 use Rattle.wasm_frames.specs.Record as wire
-use Rattle.walrus_model.proofs.Standing.{none_there, some_inj, some_of, got_in}
+use Rattle.walrus_base.proofs.Standing.{none_there, some_inj, some_of, got_in, was_some}
+use Rattle.walrus_functions.proofs.LawMoves.{range_moved}
+use Rattle.walrus_model.proofs.Seen.{others-id as others_same}
+use Rattle.walrus_theorem.proofs.NoCause.{import_live as named_live}
+use Rattle.walrus_theorem.proofs.ReadFits.{some_there as got_within}
+use Rattle.walrus_theorem.proofs.ReadBody.{body_from as function_by}
 
 -- ---- types
-
-others_same : (s : Seen) → others_through (λ k. k) s ≡ s
-others_same (Own k) = refl
-others_same (Other t) = refl
 
 same_type : (i : ℕ) (x : TypeDef) → SameType (λ k. k) i x x
 same_type i x = record {
@@ -90,12 +91,6 @@ both_types i (Some x) h = same_type i x
 both_types i None h = absurd (none_there h)
 
 -- ---- a range of numbers further on
-
-range_moved : (by first count : ℕ) → range_with_len (by + first) count ≡ map (λ (n : ℕ). by + n) (range_with_len first count)
-range_moved by first zero = refl
-range_moved by first (suc count) =
-    let next : by + first + 1 ≡ by + (first + 1) = omega arith in
-    ap (λ (ns : List ℕ). (by + first) ∷ ns) (ap (λ (n : ℕ). range_with_len n count) next ∙ range_moved by (first + 1) count)
 
 same_test : (by n x : ℕ) (b c : Bool) → (by + n == by + x) ≡ b → (n == x) ≡ c → b ≡ c
 same_test by n x true true p q = refl
@@ -112,10 +107,6 @@ parameter_places : (first count x : ℕ) → place_in (range_with_len first coun
 parameter_places first count x =
     let start : first ≡ first + 0 = omega arith in
     ap (λ (n : ℕ). place_in (range_with_len n count) (first + x)) start ∙ ap (λ (ns : List ℕ). place_in ns (first + x)) (range_moved first 0 count) ∙ place_moved first (range_with_len 0 count) x
-
-types_stay : (o : Option (ValType ℕ)) → option_map (map_val (λ i. i)) o ≡ o
-types_stay None = refl
-types_stay (Some v) = ap Some (val-itself (λ (i : ℕ). i) (λ i. refl) v)
 
 abbrev of_kind : ModuleLocals → FunctionKind → Function
 of_kind all k = record { ty = place (kind_type k); kind = kind_of all k }
@@ -231,15 +222,6 @@ item_within [] i h = absurd (none_there h)
 item_within (x ∷ xs) zero h = omega arith
 item_within (x ∷ xs) (suc i) h = let lt : i < length xs = item_within xs i h in omega (arith, lt)
 
-pub got_within : {A : Type 0} (xs : List A) (i : ℕ) → IsSome (slice_get xs i) → i < length xs
-got_within [] i h = absurd (none_there h)
-got_within (x ∷ xs) zero h = omega arith
-got_within (x ∷ xs) (suc i) h = let lt : i < length xs = got_within xs i h in omega (arith, lt)
-
-was_some : {A B : Type 0} (f : A → B) (o : Option A) → IsSome (option_map f o) → IsSome o
-was_some f (Some x) h = refl
-was_some f None h = absurd (none_there h)
-
 both_same : {X : Type 0} (S : X → X → Type 0) (o : Option X) → IsSome o → ((x : X) → S x x) → BothAnd S o o
 both_same S (Some x) h all = all x
 both_same S None h all = absurd (none_there h)
@@ -307,26 +289,6 @@ module _ (c : Features) (r : wire.Module) (starts : List ℕ) (all : ModuleLocal
       subst (λ (y : Body). IsWholeBody (moving moved) f a y) new
       (subst (λ (y : Body). IsWholeBody (moving moved) f y (body all o.holds.local)) old
       (whole moved all c r f o.pair o.text o.holds.local o.holds.body o.read at))
-
-pub function_by : (o : Option Function) (a : Body) → body_of_function o ≡ Some a → (g : Function) × (o ≡ Some g) × (body_of_kind g.kind ≡ Some a)
-function_by (Some g) a e = (g, refl, e)
-function_by None a e = absurd (let no : ◌≡◌ {A = Option Body} None (Some a) = e in cc)
-
--- ---- what imports name is there
-
-in_some : {X : Type 0} (get : X → Option ℕ) (o : Option X) (p : ℕ) → import_in get o ≡ Some p → IsSome o
-in_some get None p e = absurd (let no : ◌≡◌ {A = Option ℕ} None (Some p) = e in cc)
-in_some get (Some x) p e = refl
-
-named_live : (m : Abstract) (y : Item) (p : ℕ) → import_of m y ≡ Some p → IsLive m y
-named_live m (Functions, k) p e = in_some (λ f. kind_import f.kind) (m.functions k) p e
-named_live m (Tables, k) p e = in_some (λ t. origin_import t.origin) (m.tables k) p e
-named_live m (Memories, k) p e = in_some (λ t. origin_import t.origin) (m.memories k) p e
-named_live m (Tags, k) p e = in_some (λ t. origin_import t.origin) (m.tags k) p e
-named_live m (Globals, k) p e = in_some (λ t. origin_import t.origin) (m.globals k) p e
-named_live m (Types, k) p e = absurd (cc)
-named_live m (Elements, k) p e = absurd (cc)
-named_live m (DataSegments, k) p e = absurd (cc)
 
 -- ---- the whole, where the tables and memories that segments are active in are there
 

@@ -3,22 +3,23 @@ use Rattle.std.proofs.Common.{◌≡◌, ℕ, suc, ◌+◌, List, [], ◌∷◌,
 use Rattle.std.specs.Prelude.{Option, None, slice_get}
 use Rattle.std.specs.List.{AllByRecursion, range_with_len}
 use Rattle.walrus_base.specs.Arena.{item_at}
-use Rattle.walrus_types.specs.declared.locals.ModuleLocals.{ModuleLocals}
+use Rattle.walrus_base.specs.declared.locals.ModuleLocals.{ModuleLocals}
 use Rattle.walrus_items.specs.Functions.{FunctionValue}
-use Rattle.walrus_parts.specs.declared.function_kind.FunctionKind.{FunctionKind}
-use Rattle.walrus_parts.specs.declared.function_kind.FunctionKind.TheVariants as variants
+use Rattle.walrus_items.specs.declared.function_kind.FunctionKind.{FunctionKind}
+use Rattle.walrus_items.specs.declared.function_kind.FunctionKind.TheVariants as variants
 use Rattle.walrus_model.specs.Abstract.{Abstract, Body, Function, ImportedFunction, TypeDef}
 use Rattle.walrus_model.specs.Names.{body_of, body_of_function, body_of_kind}
 use Rattle.walrus_model.specs.Sections.{Said, function_with, types_of}
-use Rattle.walrus_rules.specs.Chain.{AddsHandlers, AndThose, AreFoundOrAdded, NoFunction, NoMore, handlers_by}
-use Rattle.walrus_rules.specs.Sections.{module_of}
+use Rattle.walrus_theorem.specs.Chain.{AddsHandlers, AndThose, AreFoundOrAdded, NoFunction, NoMore, handlers_by}
+use Rattle.walrus_theorem.specs.Sections.{module_of}
 use Rattle.walrus_contents.specs.View.{handlers_at, kind_handlers, kind_of}
 use Rattle.walrus_reading.specs.Held.{HoldsImportedFunction}
 use Rattle.walrus_reading.specs.Placed.{AllPlaced, InTurn}
 use Rattle.walrus_reading.specs.Taken.{HoldsHandlers, tag_types_of}
 use Rattle.walrus_reading.proofs.AllHeld.{IsImported}
-use Rattle.walrus_reading.proofs.Rows.{nothing_more, one_later}
+use Rattle.walrus_reading.proofs.Rows.{nothing_more}
 use Rattle.wasm_frames.specs.Record as wire
+use Rattle.walrus_reading.proofs.Becoming.{one_later}
 
 -- a slot has the types that the handlers of a function need
 abbrev pub HasHandlers : Abstract → Function → Option FunctionValue → (old new : List TypeDef) → Type 0

@@ -4,25 +4,25 @@ use Rattle.std.specs.Prelude.{AllPairs, Contains, filter, not, cond}
 use Rattle.std.specs.List.{range_with_len}
 use Rattle.std.proofs.lemmas.List.FromFn.{length-range_with_len, get_or-range_with_len}
 use Rattle.std.proofs.lemmas.List.Kept.{AllPairs-filter}
-use Rattle.walrus_types.specs.Locals.{locals}
-use Rattle.walrus_types.specs.Operators.{locals_of}
-use Rattle.walrus_types.specs.PlaceList.{has}
-use Rattle.walrus_types.specs.declared.locals.ModuleLocals.{ModuleLocals}
-use Rattle.walrus_types.proofs.ShapesEnd.{has_contained}
+use Rattle.walrus_base.specs.Locals.{locals}
+use Rattle.walrus_base.specs.Operators.{locals_of}
+use Rattle.walrus_base.specs.PlaceList.{has}
+use Rattle.walrus_base.specs.declared.locals.ModuleLocals.{ModuleLocals}
+use Rattle.walrus_base.proofs.ShapesEnd.{has_contained}
 use Rattle.walrus_items.specs.Function.{body_of, args_of}
 use Rattle.walrus_items.specs.LocalFunction.{LocalFunction}
 use Rattle.walrus_contents.specs.View.{is_declared, body}
 use Rattle.walrus_contents.proofs.ExportedRefs.{contained_has}
-use Rattle.walrus_contents.proofs.TypeLists.{in_range}
-use Rattle.walrus_model.proofs.Lists.{Contains-head, Contains-tail, Contains-uncons, Contains-none}
-use Rattle.walrus_model.proofs.Standing.{none_there}
-use Rattle.walrus_rules.specs.Pinned.{DeclaresLocal}
-use Rattle.walrus_rules.specs.WellMade.{IsCounted}
-use Rattle.walrus_reading.proofs.BothTests.{both_pass, pass_both}
+use Rattle.walrus_groups.proofs.TypeLists.{in_range}
+use Rattle.walrus_base.proofs.Lists.{Contains-head, Contains-tail, Contains-uncons, Contains-none}
+use Rattle.walrus_base.proofs.Standing.{none_there}
+use Rattle.walrus_theorem.specs.Pinned.{DeclaresLocal}
+use Rattle.walrus_theorem.specs.WellMade.{IsCounted}
+use Rattle.std.proofs.lemmas.Bool.{and_parts as both_pass, and_from as pass_both}
 
 -- ---- places in a row
 
-range_apart : (a n : ℕ) → AllPairs (λ (x : ℕ) (y : ℕ). x ≢ y) (range_with_len a n)
+pub range_apart : (a n : ℕ) → AllPairs (λ (x : ℕ) (y : ℕ). x ≢ y) (range_with_len a n)
 range_apart a n = λ i j d less within same.
     let last : j < n = omega (arith, within, length-range_with_len a n) in
     let first : i < n = omega (arith, less, last) in

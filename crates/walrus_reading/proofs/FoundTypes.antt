@@ -1,37 +1,32 @@
 -- Types that are found or added, over slots and over a list of types.
-use Rattle.std.proofs.Common.{◌≡◌, ℕ, Bool, true, false, List, [], ◌∷◌, ◌++◌, map, refl, sym, ap, subst, ◌∙◌, append_assoc, append-nil}
+use Rattle.std.proofs.Common.{◌≡◌, ℕ, true, false, List, [], ◌∷◌, ◌++◌, map, refl, sym, ap, subst, ◌∙◌, append_assoc}
 use Rattle.std.specs.Prelude.{All, Option, Some, None}
 use Rattle.std.proofs.lemmas.List.{length-map, map-append}
 use Rattle.std.proofs.lemmas.List.Elements.{All-append, All-from_recursion}
 use Rattle.walrus_base.specs.Types.{CompType, comp_names}
-use Rattle.walrus_types.specs.Alone as slots
-use Rattle.walrus_types.specs.Composite.{FunctionType, function_comp}
-use Rattle.walrus_types.specs.PlaceList.{has}
-use Rattle.walrus_types.specs.TypeDef.{TypeDef}
-use Rattle.walrus_types.proofs.ShapesEnd.{has_contained}
+use Rattle.walrus_base.specs.Alone as slots
+use Rattle.walrus_base.specs.Composite.{FunctionType, function_comp}
+use Rattle.walrus_base.specs.PlaceList.{has}
+use Rattle.walrus_base.specs.TypeDef.{TypeDef}
+use Rattle.walrus_base.proofs.ShapesEnd.{has_contained}
 use Rattle.walrus_functions.specs.ReadFunction.{AddsTypes, AndOne, Nothing, Slots, StaysInFront}
 use Rattle.walrus_items.specs.Functions.{FunctionValue}
 use Rattle.walrus_model.specs.Sections.{Said}
-use Rattle.walrus_rules.specs.Chain as chain
-use Rattle.walrus_rules.specs.Chain.{AndThen, AreFoundOrAdded, NoMore}
+use Rattle.walrus_theorem.specs.Chain as chain
+use Rattle.walrus_theorem.specs.Chain.{AndThen, AreFoundOrAdded, NoMore}
 use Rattle.walrus_contents.proofs.ExportedRefs.{contained_has}
-use Rattle.walrus_contents.proofs.Steps.{item_there}
+use Rattle.walrus_model.proofs.PlacedTypes.{item_there}
 use Rattle.walrus_reading.specs.Placed.{InTurn}
 use Rattle.walrus_reading.specs.Taken.{AddsHandlersOf, HoldsHandlers}
+use Rattle.std.proofs.lemmas.Bool.{false_from_ne_true as by_value}
+use Rattle.walrus_functions.proofs.HandlerLemmas.{stays_same}
 
 -- ---- what stays in front
-
-stays_same : {T : Type 0} (old new : List T) → new ≡ old → StaysInFront old new
-stays_same old new same = ([], same ∙ sym (append-nil old))
 
 stays_trans : {T : Type 0} (old middle new : List T) → StaysInFront old middle → StaysInFront middle new → StaysInFront old new
 stays_trans {T} old middle new first next = (first.0 ++ next.0, next.1 ∙ ap (λ (xs : List T). xs ++ next.0) first.1 ∙ append_assoc old first.0 next.0)
 
 -- ---- one type
-
-by_value : (t : Bool) → (t ≡ true → ⊥) → t ≡ false
-by_value true none = absurd (none refl)
-by_value false none = refl
 
 module _ (f : FunctionType) (ts : List TypeDef) (p : ℕ) where
   in_list : slots.StandsAt f (map Some ts) p → chain.IsLoneTypeAt (function_comp f) ts p

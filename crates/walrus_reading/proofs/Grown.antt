@@ -1,12 +1,12 @@
 -- Types that grew behind those that were there: a body is read under them as it was before, and its handlers need the same types.
-use Rattle.std.proofs.Common.{◌≡◌, ℕ, zero, suc, ◌<◌, Bool, true, false, List, [], ◌∷◌, ◌++◌, length, map, refl, sym, ap, ap₂, ◌∙◌, arith}
+use Rattle.std.proofs.Common.{◌≡◌, ℕ, ◌<◌, Bool, true, false, List, [], ◌∷◌, ◌++◌, length, map, refl, sym, ap, ap₂, ◌∙◌}
 use Rattle.std.specs.Prelude.{Option, Some, None, ◌==◌, if◌then◌else◌}
 use Rattle.wasm_forms.specs.Reading.{◌>>=◌}
 use Rattle.wasm_forms.proofs.Bind.{bind_some}
 use Rattle.walrus_base.specs.Arena.{item_at}
 use Rattle.walrus_base.specs.Types.{ValType}
-use Rattle.walrus_types.specs.Operators.{Types, Memories, BlockType, NoResult, OneResult, OfType, Arg, Index, Local, Value, Heap, Block, Access, Op}
-use Rattle.walrus_types.specs.TypeDef.{TypeDef}
+use Rattle.walrus_base.specs.Operators.{Types, Memories, BlockType, NoResult, OneResult, OfType, Arg, Index, Local, Value, Heap, Block, Access, Op}
+use Rattle.walrus_base.specs.TypeDef.{TypeDef}
 use Rattle.walrus_code.specs.Names.{Lookup, named_heap, named_val, named_block, named_arg, named_args, named_op, named_ops}
 use Rattle.walrus_code.specs.FromRaw.{ops_of}
 use Rattle.walrus_bodies.specs.Blocks.{blocks_hold}
@@ -16,14 +16,10 @@ use Rattle.walrus_bodies.specs.declared.features.Features.{Features}
 use Rattle.walrus_functions.specs.Handlers.{OpenBlock, Try, OtherBlock, opens_other, closes, without_innermost, catch_type, catch_all_type, tag_params, opened_results, caught_params, blocks_after, handler_at, handlers_from, handlers_of, params_of, results_of}
 use Rattle.walrus_functions.specs.Laws.{moved_arg, moved_op}
 use Rattle.walrus_functions.specs.ReadFunction.{StaysInFront}
-use Rattle.walrus_functions.proofs.LawNamed.{via, plain}
-use Rattle.walrus_contents.proofs.NamedFound.{blocks_found}
+use Rattle.walrus_bodies.proofs.LawNamed.{via, plain}
+use Rattle.walrus_model.proofs.NamedFound.{blocks_found}
 use Rattle.walrus_reading.specs.Taken.{AreThere}
-
-in_front : {T : Type 0} (old more : List (Option T)) (k : ℕ) → k < length old → item_at (old ++ more) k ≡ item_at old k
-in_front [] more k lt = absurd (omega arith)
-in_front (x ∷ old) more zero lt = refl
-in_front (x ∷ old) more (suc k) lt = in_front old more k (omega (arith, lt))
+use Rattle.walrus_functions.proofs.KnownLemmas.{same_in_front as in_front}
 
 pub same_there : {T : Type 0} (old new : List (Option T)) → StaysInFront old new → (k : ℕ) → k < length old → item_at new k ≡ item_at old k
 same_there old new stays k lt = ap (λ l. item_at l k) stays.1 ∙ in_front old stays.0 k lt

@@ -6,10 +6,10 @@ use Rattle.std.proofs.lemmas.List.{map-append, length-map, get_or-append-add}
 use Rattle.walrus_base.specs.Arena.{item_at, entries_from}
 use Rattle.walrus_base.specs.Id.{place}
 use Rattle.walrus_base.specs.Types.{ValType}
-use Rattle.walrus_types.specs.Locals.{locals, local_type}
-use Rattle.walrus_types.specs.TypeDef.{TypeDef}
-use Rattle.walrus_types.specs.Value.{val_type}
-use Rattle.walrus_types.specs.declared.locals.Local.{Local}
+use Rattle.walrus_base.specs.Locals.{locals, local_type}
+use Rattle.walrus_base.specs.TypeDef.{TypeDef}
+use Rattle.walrus_base.specs.Value.{val_type}
+use Rattle.walrus_base.specs.declared.locals.Local.{Local}
 use Rattle.walrus_items.specs.Function.{function_type, body_of, args_of}
 use Rattle.walrus_items.specs.LocalFunction.{LocalFunction}
 use Rattle.walrus_bodies.specs.declared.features.Features.{Features}
@@ -18,17 +18,18 @@ use Rattle.walrus_functions.specs.Handlers.{params_of}
 use Rattle.walrus_functions.specs.Laws.{moved_op}
 use Rattle.walrus_items.specs.Exports.{ExportValue, exports}
 use Rattle.walrus_items.specs.Functions.{FunctionValue}
-use Rattle.walrus_parts.specs.declared.function_kind.FunctionKind.TheVariants as variants
+use Rattle.walrus_items.specs.declared.function_kind.FunctionKind.TheVariants as variants
 use Rattle.walrus_model.specs.Abstract.{Export}
 use Rattle.walrus_model.specs.Sections.{Said, types_of, export_of}
 use Rattle.walrus_contents.specs.View as view
 use Rattle.walrus_contents.specs.declared.parts.Contents.{Contents}
-use Rattle.walrus_naming.specs.Taken.{place_of, starts_from}
+use Rattle.walrus_reading.specs.TakenNames.{place_of, starts_from}
 use Rattle.walrus_reading.specs.Placed.{AllPlaced}
 use Rattle.walrus_reading.specs.Taken.{HasTaken, HoldsExport, HoldsLocal, HoldFunctions, local_counts, locals_said, starts_of}
 use Rattle.walrus_reading.proofs.LocalStarts.{place_first, place_own}
 use Rattle.wasm_entries.specs.Record as entries
 use Rattle.wasm_frames.specs.Record as wire
+use Rattle.walrus_model.proofs.PlacedTypes.{item_there as item_some}
 
 -- a function holds a body that was read, among locals of these types
 pub record HeldBody (slots : List (Option (ValType ℕ))) (ty : ℕ) (params : List (ValType ℕ)) (body : Said) (f : LocalFunction) : Type 0 where
@@ -48,11 +49,6 @@ pub record HeldFunction (types : ℕ → Option TypeDef) (starts : List ℕ) (sl
   pub places : (x : ℕ) → x < length (locals_said types f) → place_of starts value.id x ≡ Some (body.first + x)
 
 -- ---- lists
-
-item_some : {A : Type 0} (xs : List A) (i : ℕ) → item_at (map Some xs) i ≡ slice_get xs i
-item_some [] i = refl
-item_some (x ∷ xs) zero = refl
-item_some (x ∷ xs) (suc i) = item_some xs i
 
 -- what stands behind a list
 past_front : {A : Type 0} (xs : List (Option A)) (ys : List A) (first x : ℕ) → length xs ≡ first → item_at (xs ++ map Some ys) (first + x) ≡ slice_get ys x

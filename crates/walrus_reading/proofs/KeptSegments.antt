@@ -22,7 +22,8 @@ use Rattle.walrus_reading.specs.Held.{HoldsMemory, HoldsTable, memory_keeps, non
 use Rattle.walrus_reading.specs.Kept.{all_data_kept, AreOnLive, elements_kept, IsOnLive, keep_all, kept_from, memory_keeping, table_keeping}
 use Rattle.walrus_reading.specs.Placed.{AddsPlaced, AllPlaced}
 use Rattle.walrus_reading.specs.Stays.{DataStays, ElementStays, ModeStays, PlaceStays}
-use Rattle.walrus_reading.proofs.Rows.{nothing_more, one_later, placed_length, placed_more}
+use Rattle.walrus_reading.proofs.Rows.{nothing_more, placed_length, placed_more}
+use Rattle.walrus_reading.proofs.Becoming.{different, one_later}
 
 -- ---- one more segment is kept
 
@@ -40,10 +41,6 @@ not_also : (a b c : Bool) → c ≡ false → a ≡ (a || (b && c))
 not_also true b c e = refl
 not_also false true c e = sym e
 not_also false false c e = refl
-
-different : (n m : ℕ) (b : Bool) → (n ≡ m → ⊥) → (n == m) ≡ b → b ≡ false
-different n m true apart e = absurd (apart (eqb-true n m e))
-different n m false apart e = refl
 
 passes_next : {K : Type 0} (test : K → Bool) (xs : List K) (x : K) (e : ℕ) → passes test (slice_get (xs ++ x ∷ []) e) ≡ (passes test (slice_get xs e) || (test x && length xs == e))
 passes_next test [] x zero = also (test x)

@@ -1,11 +1,9 @@
 pub mod Accepting
 pub mod AllHeld
 pub mod BeforeNames
-pub mod BothTests
 pub mod Brought
 pub mod Carrying
 pub mod ChainHandlers
-pub mod CustomsAside
 pub mod DeclaredLocals
 pub mod FoundTypes
 pub mod Grown
@@ -20,7 +18,6 @@ pub mod NamesTaken
 pub mod NamesTold
 pub mod NarrowRules
 pub mod Numbered
-pub mod Parsing
 pub mod Placed
 pub mod ProducersHeld
 pub mod Refusals
@@ -34,3 +31,17 @@ pub mod TakenBefore
 pub mod TakenBody
 pub mod TakenSections
 pub mod Unnamed
+pub mod EditedSlots
+pub mod EditedLocals
+pub mod LocatedOtherwise
+pub mod AfterAll
+pub mod Becoming
+pub mod Filled
+pub mod Finished
+pub mod Locals
+pub mod OwnNames
+pub mod ParsedNamed
+pub mod Put
+pub mod SectionsTaken
+pub mod View
+pub mod Whole

@@ -4,10 +4,10 @@ use Rattle.std.specs.Prelude.{Option, Some, None, nat_lt, replicate, ifâ—Œthenâ—
 use Rattle.std.proofs.lemmas.Bool.{lt-ltb, ltb-false, ltb-true}
 use Rattle.walrus_base.specs.Arena.{IsLive}
 use Rattle.walrus_base.specs.Types.{ValType}
-use Rattle.walrus_types.specs.TypeDef.{TypeDef}
-use Rattle.walrus_types.specs.declared.locals.Local.{Local}
+use Rattle.walrus_base.specs.TypeDef.{TypeDef}
+use Rattle.walrus_base.specs.declared.locals.Local.{Local}
 use Rattle.walrus_model.specs.Sections.{Said}
-use Rattle.walrus_naming.specs.Taken.{place_of, starts_from}
+use Rattle.walrus_reading.specs.TakenNames.{place_of, starts_from}
 use Rattle.walrus_reading.specs.Placed.{AllPlaced}
 use Rattle.walrus_reading.specs.Taken.{AddsLocalsOf, HoldsLocal, local_counts, locals_said, starts_of}
 use Rattle.walrus_reading.proofs.Rows.{placed_append}

@@ -13,9 +13,9 @@ use Rattle.walrus_functions.specs.Handlers.{params_of}
 use Rattle.walrus_model.specs.Abstract.{Function}
 use Rattle.walrus_model.specs.Names.{body_of_function, body_of_kind}
 use Rattle.walrus_model.specs.Sections.{Said, function_with, functions_of, imported, imported_function, types_of}
-use Rattle.walrus_model.proofs.Standing.{some_inj}
-use Rattle.walrus_naming.specs.Taken.{place_of, starts_from}
-use Rattle.walrus_naming.proofs.Locals.{in_front}
+use Rattle.walrus_base.proofs.Standing.{some_inj}
+use Rattle.walrus_reading.specs.TakenNames.{place_of, starts_from}
+use Rattle.walrus_reading.proofs.Locals.{in_front}
 use Rattle.walrus_reading.specs.Parsed.{local_count}
 use Rattle.walrus_reading.specs.Taken.{local_counts, starts_of}
 use Rattle.walrus_reading.proofs.LocalStarts.{joined}

@@ -12,9 +12,11 @@ use Rattle.walrus_functions.specs.Handlers.{params_of}
 use Rattle.walrus_model.specs.Abstract.{Body, Function, ImportedFunction}
 use Rattle.walrus_model.specs.Names.{body_of_function, body_of_kind}
 use Rattle.walrus_model.specs.Sections.{Said, body_with, function_with, functions_of, imported, imported_function, types_of}
-use Rattle.walrus_model.proofs.Standing.{some_inj}
+use Rattle.walrus_base.proofs.Standing.{some_inj}
 use Rattle.walrus_reading.specs.Taken.{local_counts, locals_said}
 use Rattle.walrus_reading.proofs.LocalsCounted.{all_counts, before, count, looked_up, sums}
+use Rattle.walrus_base.proofs.Lookups.{there}
+use Rattle.walrus_theorem.proofs.ManyLocals.{gap as split}
 
 -- ---- places among counts
 
@@ -22,15 +24,6 @@ use Rattle.walrus_reading.proofs.LocalsCounted.{all_counts, before, count, looke
 abbrev total : List ℕ → ℕ
 total [] = 0
 total (n ∷ ns) = n + total ns
-
--- what is behind the first so many
-split : (k p : ℕ) → k ≤ p → (q : ℕ) × (p ≡ k + q)
-split zero p le = (p, omega arith)
-split (suc k) zero le = absurd (omega (arith, le))
-split (suc k) (suc p) le =
-    let s = split k p (omega (arith, le)) in
-    let at : suc p ≡ suc k + s.0 = omega (arith, s.1) in
-    (s.0, at)
 
 -- a function of which a local stands there
 record FoundAt (fs : List Function) (p : ℕ) : Type 0 where
@@ -63,11 +56,6 @@ got_below (f ∷ fs) zero g e = omega arith
 got_below (f ∷ fs) (suc i) g e = let lt : i < length (map count fs) = got_below fs i g e in omega (arith, lt)
 
 -- ---- each local has a type
-
-there : {X : Type 0} (xs : List X) (i : ℕ) → i < length xs → IsSome (slice_get xs i)
-there [] i lt = absurd (omega (arith, lt))
-there (x ∷ xs) zero lt = refl
-there (x ∷ xs) (suc i) lt = there xs i (omega (arith, lt))
 
 -- where a local is counted, the function has a body in which it has a type
 abbrev IsTyped : Function → Type 0

@@ -14,10 +14,10 @@ use Rattle.walrus_reading.specs.declared.module.ReadModule.{ReadModule}
 use Rattle.walrus_reading.specs.Placed.{AllPlaced}
 use Rattle.walrus_reading.specs.Taken.{AddLocated, AreLocatedIn, IsLocated}
 use Rattle.walrus_reading.proofs.Rows.{placed_length}
-use Rattle.walrus_contents.proofs.Steps.{zip_push}
 use Rattle.wasm_frames.specs.declared.record.RawBody.{RawBody}
 use Rattle.wasm_frames.specs.Record as wire
 use Rattle.walrus_items.specs.Function.{locations_of}
+use Rattle.walrus_base.proofs.ZipTurns.{zip_snoc as zip_push}
 
 -- ---- locations that are given in another way
 

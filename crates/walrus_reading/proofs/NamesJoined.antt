@@ -7,7 +7,7 @@ use Rattle.std.specs.Prelude.{codes, nat_lt, replicate, zip, if◌then◌else◌
 use Rattle.std.specs.List.{AllZip}
 use Rattle.wasm_frames.specs.Record as wire
 use Rattle.wasm_payloads.specs.Names.{Named, Names}
-use Rattle.walrus_types.specs.Operators.{Types, Functions, Tables, Memories, Tags, Globals, Elements, DataSegments}
+use Rattle.walrus_base.specs.Operators.{Types, Functions, Tables, Memories, Tags, Globals, Elements, DataSegments}
 use Rattle.walrus_bodies.specs.declared.features.Features.{Features}
 use Rattle.walrus_model.specs.Abstract.{Abstract, Name, ProducerField, Subject, TheModule, AnItem, ALocal}
 use Rattle.walrus_model.specs.Config.{Config}
@@ -15,25 +15,25 @@ use Rattle.walrus_model.specs.Producers.{produced}
 use Rattle.walrus_model.specs.Reads.{ReadsBodyWith}
 use Rattle.walrus_model.specs.Renaming.{Renaming}
 use Rattle.walrus_model.specs.Sections.{Said, customs_of, data_segments_of, elements_of, function_types, imported, imported_function, imported_type, memories_of, tables_of, types_of}
-use Rattle.walrus_rules.specs.Chain.{ParsedAs}
-use Rattle.walrus_rules.specs.Headline.{has_function, payloads}
-use Rattle.walrus_rules.specs.Namings.{is_in_range, names_given, names_in_range}
-use Rattle.walrus_rules.specs.Sections.{items_of, module_of}
+use Rattle.walrus_theorem.specs.Chain.{ParsedAs}
+use Rattle.walrus_theorem.specs.Headline.{has_function, payloads}
+use Rattle.walrus_theorem.specs.Namings.{is_in_range, names_given, names_in_range}
+use Rattle.walrus_theorem.specs.Sections.{items_of, module_of}
 use Rattle.walrus_contents.specs.View.{contents_view}
 use Rattle.walrus_contents.specs.declared.parts.Contents.{Contents}
-use Rattle.walrus_naming.specs.Laws.{IsUnnamed}
-use Rattle.walrus_naming.specs.Shown.{shown}
-use Rattle.walrus_naming.specs.Synthetic.{named_by}
-use Rattle.walrus_naming.specs.Taken.{Bounds, is_known, name_payloads, starts_from}
-use Rattle.walrus_naming.proofs.ParsedNamed.{parsed_in_place}
+use Rattle.walrus_reading.specs.Laws.{IsUnnamed}
+use Rattle.walrus_reading.specs.Shown.{shown}
+use Rattle.walrus_reading.specs.Synthetic.{named_by}
+use Rattle.walrus_reading.specs.TakenNames.{Bounds, is_known, name_payloads, starts_from}
+use Rattle.walrus_reading.proofs.ParsedNamed.{parsed_in_place}
 use Rattle.walrus_reading.specs.Held.{memory_keeps, table_keeps}
 use Rattle.walrus_reading.specs.Named.{AreBounds}
 use Rattle.walrus_reading.specs.Parsed.{LocalsInTurn}
 use Rattle.walrus_reading.specs.Taken.{HasTakenWith, local_counts, locals_said}
 use Rattle.walrus_reading.proofs.BeforeNames.{is_unnamed}
-use Rattle.walrus_reading.proofs.CustomsAside.{customs_aside, renaming_aside, with_customs}
+use Rattle.walrus_theorem.proofs.Aside.{customs_aside, renaming_aside, with_customs}
 use Rattle.walrus_reading.proofs.LocalsCounted.{counted_up_to}
-use Rattle.walrus_reading.proofs.Numbered.{types_many}
+use Rattle.walrus_theorem.proofs.BodiesBack.{as_many_imported as types_many}
 
 -- no table keeps an element segment, and no memory a data segment, past the last of these
 pub record KeepNonePast (r : wire.Module) : Type 0 where

@@ -6,13 +6,13 @@ use Rattle.wasm_frames.specs.Record as wire
 use Rattle.wasm_wire.specs.Rules.{Rules}
 use Rattle.walrus_bodies.specs.declared.features.Features.{Features}
 use Rattle.walrus_contents.specs.declared.parts.Contents.{Contents}
-use Rattle.walrus_naming.specs.Shown.{Shown, shown}
-use Rattle.walrus_naming.specs.Synthetic.{AreNamed}
-use Rattle.walrus_naming.specs.Taken.{Bounds}
-use Rattle.walrus_naming.proofs.Whole.{Renames, names_become, nothing_else}
-use Rattle.walrus_parts.specs.Errors.{out_of_memory}
-use Rattle.walrus_parts.specs.declared.error.Error.{Error}
-use Rattle.walrus_parts.specs.declared.error.Error.TheVariants as Parts
+use Rattle.walrus_reading.specs.Shown.{Shown, shown}
+use Rattle.walrus_reading.specs.Synthetic.{AreNamed}
+use Rattle.walrus_reading.specs.TakenNames.{Bounds}
+use Rattle.walrus_reading.proofs.Whole.{Renames, names_become, nothing_else}
+use Rattle.walrus_items.specs.Errors.{out_of_memory}
+use Rattle.walrus_items.specs.declared.error.Error.{Error}
+use Rattle.walrus_items.specs.declared.error.Error.TheVariants as Parts
 use Rattle.walrus_reading.specs.Named.{HasNames, TakesNamed}
 use Rattle.walrus_reading.specs.Parsed.{TakenFrom}
 use Rattle.walrus_reading.specs.Taken.{TakesSections}

@@ -7,12 +7,12 @@ use Rattle.wasm_frames.specs.Record as wire
 use Rattle.wasm_frames.proofs.Modules.{one_record_lem}
 use Rattle.wasm_payloads.specs.Names.{Named}
 use Rattle.walrus_base.specs.Arena.{item_at}
-use Rattle.walrus_types.specs.Locals.{locals}
-use Rattle.walrus_types.specs.Operators.{Space, Types, Functions, Tables, Memories, Tags, Globals, Elements, DataSegments, Item}
-use Rattle.walrus_types.specs.TypeDef.{name_bytes, type_def, type_name}
-use Rattle.walrus_types.specs.TypeSlots.{defs, names}
-use Rattle.walrus_types.specs.declared.locals.Local.{Local}
-use Rattle.walrus_types.specs.declared.types.Type.{«Type»}
+use Rattle.walrus_base.specs.Locals.{locals}
+use Rattle.walrus_base.specs.Operators.{Space, Types, Functions, Tables, Memories, Tags, Globals, Elements, DataSegments, Item}
+use Rattle.walrus_base.specs.TypeDef.{name_bytes, type_def, type_name}
+use Rattle.walrus_base.specs.TypeSlots.{defs, names}
+use Rattle.walrus_base.specs.declared.locals.Local.{Local}
+use Rattle.walrus_base.specs.declared.types.Type.{«Type»}
 use Rattle.walrus_items.specs.Data.{data_segments}
 use Rattle.walrus_items.specs.Elements.{elements}
 use Rattle.walrus_items.specs.Functions.{functions}
@@ -27,25 +27,26 @@ use Rattle.walrus_model.specs.Names.{last_name, name_of, own_name}
 use Rattle.walrus_model.specs.Reads.{ReadsBodyWith}
 use Rattle.walrus_model.specs.Sections.{Said, types_of}
 use Rattle.walrus_model.proofs.ReadOnce.{bodies_once}
-use Rattle.walrus_model.proofs.Standing.{some_inj}
-use Rattle.walrus_rules.specs.Chain.{IsBehind, ParsedAs}
-use Rattle.walrus_rules.specs.Features.{features_of}
-use Rattle.walrus_rules.specs.Headline.{field_of}
-use Rattle.walrus_rules.specs.Namings.{has}
-use Rattle.walrus_rules.specs.Sections.{module_of}
-use Rattle.walrus_rules.proofs.ReadsOnce.{reads_once_lem}
+use Rattle.walrus_base.proofs.Standing.{some_inj}
+use Rattle.walrus_theorem.specs.Chain.{IsBehind, ParsedAs}
+use Rattle.walrus_theorem.specs.Features.{features_of}
+use Rattle.walrus_theorem.specs.Headline.{field_of}
+use Rattle.walrus_theorem.specs.Namings.{has}
+use Rattle.walrus_theorem.specs.Sections.{module_of}
+use Rattle.walrus_theorem.proofs.ReadsOnce.{reads_once_lem}
 use Rattle.walrus_contents.specs.View as view
 use Rattle.walrus_contents.specs.View.{name_at}
-use Rattle.walrus_naming.specs.Renamed.{nameless}
-use Rattle.walrus_naming.specs.Shown.{IsRenamed, Shown, local_values, shown, mend_function, mend_table, mend_memory, mend_tag, mend_global, mend_element, mend_data, mend_local}
-use Rattle.walrus_naming.proofs.OwnNames.{last_of_one, name_of_value}
-use Rattle.walrus_naming.proofs.View.{as_many_locals}
+use Rattle.walrus_reading.specs.Renamed.{nameless}
+use Rattle.walrus_reading.specs.Shown.{IsRenamed, Shown, local_values, shown, mend_function, mend_table, mend_memory, mend_tag, mend_global, mend_element, mend_data, mend_local}
+use Rattle.walrus_reading.proofs.OwnNames.{last_of_one, name_of_value}
+use Rattle.walrus_reading.proofs.View.{as_many_locals}
 use Rattle.walrus_reading.specs.Parsed.{LocalsInTurn, read_view}
 use Rattle.walrus_reading.specs.Taken.{HoldsLocal, locals_said}
 use Rattle.walrus_reading.specs.Told.{NamesTold}
 use Rattle.walrus_reading.specs.declared.module.ReadModule.{ReadModule}
 use Rattle.walrus_reading.proofs.LocalsStand.{Stands, each_stands}
 use Rattle.walrus_reading.proofs.Rows.{placed_length}
+use Rattle.walrus_theorem.proofs.NeedsBase.{has_live as has_is, live_has as live_is}
 
 -- ---- lists that are the same but for names, with the same names
 
@@ -89,32 +90,12 @@ names_alike (None ∷ a) (Some y ∷ b) e q = absurd (some_none (type_def y) (ap
 names_alike (Some x ∷ a) (None ∷ b) e q = absurd (some_none (type_def x) (sym (ap (λ l. item_at l 0) e)))
 names_alike (Some x ∷ a) (Some y ∷ b) e q = ap₂ (λ (n : Option Name) (l : List (Option (Option Name))). Some n ∷ l) (same_name (type_name y) (type_name x) (q 0)) (names_alike a b (ap others e) (λ i. q (suc i)))
 
-past_end : {X : Type 0} (slots : List (Option X)) (p : ℕ) → length slots ≤ p → item_at slots p ≡ None
+pub past_end : {X : Type 0} (slots : List (Option X)) (p : ℕ) → length slots ≤ p → item_at slots p ≡ None
 past_end [] p le = refl
 past_end (s ∷ slots) zero le = absurd (omega (arith, le))
 past_end (s ∷ slots) (suc p) le = past_end slots p (omega (arith, le))
 
 -- ---- items
-
-live_is : (m : Abstract) (x : Item) → has m x ≡ true → IsLive m x
-live_is m (Types, i) h = h
-live_is m (Functions, i) h = h
-live_is m (Tables, i) h = h
-live_is m (Memories, i) h = h
-live_is m (Tags, i) h = h
-live_is m (Globals, i) h = h
-live_is m (Elements, i) h = h
-live_is m (DataSegments, i) h = h
-
-has_is : (m : Abstract) (x : Item) → IsLive m x → has m x ≡ true
-has_is m (Types, i) h = h
-has_is m (Functions, i) h = h
-has_is m (Tables, i) h = h
-has_is m (Memories, i) h = h
-has_is m (Tags, i) h = h
-has_is m (Globals, i) h = h
-has_is m (Elements, i) h = h
-has_is m (DataSegments, i) h = h
 
 there_below : {X : Type 0} (xs : List X) (i : ℕ) → i < length xs → is_some (slice_get xs i) ≡ true
 there_below [] i lt = absurd (omega (arith, lt))

@@ -1,20 +1,20 @@
 -- What reading needs of the rules on sections.
-use Rattle.std.proofs.Common.{◌≡◌, ℕ, ◌+◌, true, List, ◌++◌, length, get_or, refl, sym, ap, subst, ◌∙◌, arith, length-append}
-use Rattle.std.specs.Prelude.{All, Option, Some, None, slice_get, flat_map, option_map}
-use Rattle.std.proofs.lemmas.List.{get_or-append-add}
+use Rattle.std.proofs.Common.{◌≡◌, ℕ, true, List, get_or, refl, sym, ap, ◌∙◌}
+use Rattle.std.specs.Prelude.{Option, Some, None, slice_get, flat_map, option_map}
 use Rattle.wasm_entries.specs.Record as entries
 use Rattle.wasm_frames.specs.Record as wire
 use Rattle.wasm_wire.specs.Context.{desc_function, imported}
 use Rattle.wasm_wire.specs.Rules as wire_rules
 use Rattle.walrus_base.specs.Types.{SubType}
-use Rattle.walrus_types.specs.TypeDef.{TypeDef}
+use Rattle.walrus_base.specs.TypeDef.{TypeDef}
 use Rattle.walrus_groups.specs.Groups.{comp_of, sub_of, types_from}
 use Rattle.walrus_bodies.specs.FunctionTypes.{is_function_comp, is_function_def}
 use Rattle.walrus_model.specs.Sections.{types_of}
-use Rattle.walrus_contents.proofs.Lookups.{got_map}
-use Rattle.walrus_contents.proofs.TypeLists.{types_subs}
-use Rattle.walrus_model.proofs.Standing.{some_inj}
+use Rattle.walrus_base.proofs.Lookups.{got_map}
+use Rattle.walrus_groups.proofs.TypeLists.{types_subs}
+use Rattle.walrus_base.proofs.Standing.{some_inj}
 use Rattle.walrus_reading.specs.Sections.{Rules}
+use Rattle.walrus_groups.proofs.Kept.{All-back as behind}
 
 -- ---- types by index
 
@@ -42,10 +42,6 @@ function_by (Some x) (Some s) e h =
     ap (λ (y : SubType ℕ). is_function_comp y.comp) same ∙ comp_function s.comp h
 
 -- ---- what reading needs
-
--- what holds of all holds of those behind
-behind : {A : Type 0} (P : A → Type 0) (xs ys : List A) → All P (xs ++ ys) → All P ys
-behind P xs ys h = λ i d lt. subst P (get_or-append-add xs ys i d) (h (length xs + i) d (omega (arith, lt, length-append xs ys)))
 
 pub narrow_rules : (m : wire.Module) → wire_rules.Rules m → Rules m
 narrow_rules m h =

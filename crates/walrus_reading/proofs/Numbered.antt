@@ -1,19 +1,17 @@
 -- Each index leads to the item of its number, once each space has as many indices as it has items; and so does all that sections name.
 use Rattle.wasm_frames.specs.Record as wire
-use Rattle.std.proofs.Common.{◌≡◌, ℕ, ◌+◌, ◌<◌, Bool, true, false, List, [], ◌∷◌, ◌++◌, length, map, get_or, refl, sym, ap, subst, ◌∙◌, arith, length-append}
-use Rattle.std.specs.Prelude.{All, Option, Some, None, option_to_list, slice_get, nat_lt, if◌then◌else◌, unwrap_or}
+use Rattle.std.proofs.Common.{◌≡◌, ℕ, ◌+◌, ◌<◌, List, [], ◌++◌, length, map, get_or, refl, sym, ap, subst, ◌∙◌, arith, length-append}
+use Rattle.std.specs.Prelude.{All, Option, Some, slice_get, nat_lt, unwrap_or}
 use Rattle.std.specs.List.{range_with_len}
 use Rattle.std.proofs.lemmas.List.{length-map}
 use mathlib.Core.Path.{fun_ext}
-use borrow.Author.Tests.{ltb-true, ltb-false}
-use Rattle.wasm_entries.specs.declared.record.RawDesc.{RawDesc}
 use Rattle.wasm_entries.specs.declared.record.RawDesc.TheVariants as descs
 use Rattle.wasm_entries.specs.Record as entries
 use Rattle.wasm_wire.specs.Context as context
 use Rattle.wasm_wire.specs.Context.{context_of, counts_of, desc_global}
 use Rattle.wasm_wire.specs.Indices.{IndicesHold}
-use Rattle.walrus_types.specs.Operators.{Space, Types, Functions, Tables, Memories, Tags, Globals, Elements, DataSegments}
-use Rattle.walrus_types.specs.TypeDef.{TypeDef}
+use Rattle.walrus_base.specs.Operators.{Space, Types, Functions, Tables, Memories, Tags, Globals, Elements, DataSegments}
+use Rattle.walrus_base.specs.TypeDef.{TypeDef}
 use Rattle.walrus_code.specs.Indices.{places_in, ids_at}
 use Rattle.walrus_code.specs.Names.{Lookup}
 use Rattle.walrus_code.specs.declared.indices.IndicesToIds.{IndicesToIds}
@@ -22,10 +20,9 @@ use Rattle.walrus_groups.specs.Reading.{TypesInPlace}
 use Rattle.walrus_model.specs.Abstract as abstract
 use Rattle.walrus_model.specs.Reads.{below, declared}
 use Rattle.walrus_model.specs.Sections.{element_of, elements_of, function_types, global_of, globals_of, global_type_of, imported, imported_function, imported_global, imported_memory, imported_table, imported_tag, imported_type, memory_of, memories_of, memory_type_of, table_of, tables_of, table_type_of, tag_of, tags_of}
-use Rattle.walrus_contents.proofs.Lookups.{as_long}
-use Rattle.walrus_contents.proofs.Steps.{own_index}
-use Rattle.walrus_contents.proofs.Taking.{get_own, get_past}
-use Rattle.walrus_records.proofs.Images.{function_types_look, globals_look, memories_look, tables_look, tags_look, types_look}
+use Rattle.walrus_base.proofs.Lookups.{as_long}
+use Rattle.walrus_model.proofs.PlacedTypes.{own_index, below_by}
+use Rattle.walrus_theorem.proofs.Images.{function_types_look, globals_look, memories_look, tables_look, tags_look, types_look}
 use Rattle.walrus_items.specs.Functions.{functions}
 use Rattle.walrus_items.specs.Globals.{globals}
 use Rattle.walrus_items.specs.Memories.{memories}
@@ -38,6 +35,7 @@ use Rattle.walrus_reading.specs.Placed.{AllPlaced}
 use Rattle.walrus_reading.specs.Stays.{AllStay, AreNumbered, DescStays}
 use Rattle.walrus_reading.proofs.Rows.{placed_length}
 use Rattle.walrus_reading.proofs.StaysByRules.{all_stay, desc_stays}
+use Rattle.walrus_theorem.proofs.BodiesBack.{as_many_imported as types_many}
 
 -- ---- the look-up of indices is what sections declare
 
@@ -51,10 +49,6 @@ pub record HasIndices (r : wire.Module) (places : Space → List ℕ) : Type 0 w
   pub globals : places Globals ≡ range_with_len 0 (length (globals_of r))
   pub elements : places Elements ≡ range_with_len 0 (length (elements_of r))
   pub data_segments : places DataSegments ≡ range_with_len 0 (unwrap_or r.data_count 0)
-
-below_by : (n i : ℕ) (b : Bool) → nat_lt i n ≡ b → slice_get (range_with_len 0 n) i ≡ (if b then Some i else None)
-below_by n i true e = get_own n i (ltb-true i n e)
-below_by n i false e = get_past 0 n i (ltb-false i n e)
 
 in_place : (places : Space → List ℕ) (space : Space) (n i : ℕ) → places space ≡ range_with_len 0 n → slice_get (places space) i ≡ below n i
 in_place places space n i numbered = ap (λ l. slice_get l i) numbered ∙ below_by n i (nat_lt i n) refl
@@ -82,24 +76,6 @@ pub none_in_place : (indices : IndicesToIds) (slots : List (Option TypeDef)) →
 none_in_place indices slots none empty = none ∙ ap (λ (l : List (Option TypeDef)). range_with_len 0 (length l)) (sym empty)
 
 -- ---- how many items are declared: those that imports brought, and those that sections define
-
-one_type : (i : ℕ) (d : RawDesc) → length (option_to_list (imported_type i d)) ≡ length (option_to_list (imported_function i d))
-one_type i (descs.Function ty) = refl
-one_type i (descs.Table t) = refl
-one_type i (descs.Memory l) = refl
-one_type i (descs.Global g) = refl
-one_type i (descs.Tag ty) = refl
-
-pub types_many : (i : ℕ) (xs : List entries.Import) → length (imported imported_type i xs) ≡ length (imported imported_function i xs)
-types_many i [] = refl
-types_many i (x ∷ xs) =
-    omega (
-      arith,
-      length-append (option_to_list (imported_type i x.desc)) (imported imported_type (i + 1) xs),
-      length-append (option_to_list (imported_function i x.desc)) (imported imported_function (i + 1) xs),
-      one_type i x.desc,
-      types_many (i + 1) xs,
-    )
 
 counted : {X Y T : Type 0} (R : ℕ → X → T → Type 0) (brought : List X) (slots : List T) (make : Y → X) (ys : List Y) (first own : ℕ) → AllPlaced R 0 brought slots → first ≡ length slots → own ≡ length ys → first + own ≡ length (brought ++ map make ys)
 counted R brought slots make ys first own held at same = omega (arith, at, placed_length R 0 brought slots held, same, length-append brought (map make ys), length-map ys make)

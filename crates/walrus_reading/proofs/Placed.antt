@@ -8,18 +8,18 @@ use Rattle.walrus_base.specs.Id.{place}
 use Rattle.walrus_base.specs.Types.{ValType}
 use Rattle.walrus_base.specs.declared.id.Id.{Id}
 use Rattle.walrus_base.specs.declared.keys.LocalKey.{LocalKey}
-use Rattle.walrus_types.specs.Locals.{locals, local_place, new_local}
-use Rattle.walrus_types.specs.TypeDef.{TypeDef}
-use Rattle.walrus_types.specs.Value.{val_type}
-use Rattle.walrus_types.specs.declared.locals.Local.{Local}
-use Rattle.walrus_types.specs.declared.value.ValType.{ValType as DeclaredValType}
+use Rattle.walrus_base.specs.Locals.{locals, local_place, new_local}
+use Rattle.walrus_base.specs.TypeDef.{TypeDef}
+use Rattle.walrus_base.specs.Value.{val_type}
+use Rattle.walrus_base.specs.declared.locals.Local.{Local}
+use Rattle.walrus_base.specs.declared.value.ValType.{ValType as DeclaredValType}
 use Rattle.walrus_bodies.specs.BodyRead.{new_locals}
 use Rattle.walrus_bodies.specs.declared.features.Features.{Features}
 use Rattle.walrus_items.specs.Data.{DataValue, data_segments}
 use Rattle.walrus_items.specs.Elements.{ElementValue, elements}
 use Rattle.walrus_items.specs.Exports.{ExportValue, exports}
 use Rattle.walrus_items.specs.Functions.{FunctionValue, functions}
-use Rattle.walrus_parts.specs.declared.function_kind.FunctionKind.TheVariants as variants
+use Rattle.walrus_items.specs.declared.function_kind.FunctionKind.TheVariants as variants
 use Rattle.walrus_items.specs.Imports.{ImportValue, imports}
 use Rattle.walrus_items.specs.Globals.{GlobalValue, globals}
 use Rattle.walrus_items.specs.Memories.{MemoryValue, memories}
@@ -28,16 +28,17 @@ use Rattle.walrus_items.specs.Tags.{TagValue, tags}
 use Rattle.walrus_model.specs.Abstract.{DataSegment, Element, Function, Global, Import, Memory, Table, Tag}
 use Rattle.walrus_model.specs.Sections.{Said, imported, imported_function, imports_after, types_of, data_segments_of, elements_of, globals_of, memories_of, tables_of, tags_of}
 use Rattle.walrus_reading.specs.Held.{HoldsData, HoldsElement, HoldsGlobal, HoldsImport, HoldsImportedFunction, HoldsMemory, HoldsTable, HoldsTag, memory_keeps, table_keeps}
-use Rattle.walrus_model.proofs.Standing.{some_inj}
+use Rattle.walrus_base.proofs.Standing.{some_inj}
 use Rattle.walrus_contents.specs.declared.parts.Contents.{Contents}
-use Rattle.walrus_contents.proofs.Lookups.{heads}
-use Rattle.walrus_reading.proofs.Rows.{nothing_more, one_later, placed_own, placed_push}
+use Rattle.walrus_base.proofs.Lookups.{heads}
+use Rattle.walrus_reading.proofs.Rows.{nothing_more, placed_own, placed_push}
 use Rattle.walrus_reading.specs.Parsed.{ItemsAtOwnIds}
 use Rattle.walrus_reading.specs.Placed.{AllPlaced}
 use Rattle.walrus_reading.specs.Taken.{AddsExport, HasTaken, HoldsExport, HoldsFunction, HoldsFunctions, HoldsLocal, HoldFunctions, locals_said}
 use Rattle.wasm_entries.specs.Record as entries
 use Rattle.wasm_entries.specs.declared.record.RawExport.{RawExport}
 use Rattle.wasm_frames.specs.Record as wire
+use Rattle.walrus_reading.proofs.Becoming.{one_later}
 
 -- ---- locals
 

@@ -15,7 +15,7 @@ use Rattle.walrus_producers.specs.Seen.{pair_value, producers}
 use Rattle.walrus_producers.specs.declared.producers.ModuleProducers.{ModuleProducers}
 use Rattle.walrus_model.specs.Producers.{ProducerField, ProducerValue, produced}
 use Rattle.walrus_model.proofs.AlongRecords.{zip_append}
-use Rattle.walrus_rules.specs.Headline.{field_of, payloads, value_of}
+use Rattle.walrus_theorem.specs.Headline.{field_of, payloads, value_of}
 use Rattle.walrus_reading.specs.Producers.{AddsSections, HoldsProducers, only_customs}
 
 -- ---- the fields of one section

@@ -12,14 +12,14 @@ use Rattle.wasm_frames.proofs.Modules.{one_record_lem}
 use Rattle.walrus_bodies.specs.declared.features.Features.{Features}
 use Rattle.walrus_model.specs.Config.{Config}
 use Rattle.walrus_model.specs.Reads.{ReadsBodyWith}
-use Rattle.walrus_records.proofs.Agree.{reads_agree}
+use Rattle.walrus_theorem.proofs.RulesAgree.{reads_agree}
 use Rattle.walrus_reading.specs.Numbers.{HasRoomFor}
 use Rattle.walrus_reading.specs.Named.{TakesNamed}
 use Rattle.walrus_reading.specs.Parsed.{IsReadWith, RefusesBytes, RefusesModule}
 use Rattle.walrus_reading.proofs.Rooms.{has_room}
-use Rattle.walrus_parts.specs.Errors.{error_of_wire}
-use Rattle.walrus_parts.specs.declared.error.Error.{Error}
-use Rattle.walrus_parts.specs.declared.error.Error.TheVariants as Parts
+use Rattle.walrus_items.specs.Errors.{error_of_wire}
+use Rattle.walrus_items.specs.declared.error.Error.{Error}
+use Rattle.walrus_items.specs.declared.error.Error.TheVariants as Parts
 
 pub frames_refused : {T : Type 0} (c : Features) (bytes : List ℕ) (e : WireError) → ((m : wire.Module) → Frames bytes m → Refuses e (Some m)) → (◌≡◌ {A = Result T WireError} (Err e) (Err Wire.TooLarge) → ⊥) → RefusesModule c bytes (error_of_wire e)
 frames_refused c bytes Wire.Malformed only small = λ a. let n : ◌≡◌ {A = Option wire.Module} (Some a.sections) None = only a.sections a.framed in let no : ⊥ = cc in no

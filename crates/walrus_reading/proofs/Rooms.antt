@@ -1,6 +1,6 @@
 -- A module has fewer than 2 ^ 32 items of each kind: each takes a byte or more of a section of fewer bytes, two or more where imports bring some too.
 use Rattle.std.proofs.Common.{◌≡◌, ℕ, ◌+◌, ◌≤◌, ◌<◌, ◌^◌, List, [], ◌∷◌, ◌++◌, length, map, ap, arith, length-append}
-use Rattle.std.specs.Prelude.{Option, Some, None, option_to_list, zip}
+use Rattle.std.specs.Prelude.{Option, option_to_list, zip}
 use Rattle.std.specs.List.{AllZip}
 use Rattle.std.proofs.lemmas.List.{length-map}
 use Rattle.wasm_forms.specs.Grammar.{◌then◌, U32}
@@ -14,15 +14,12 @@ use Rattle.walrus_bodies.specs.Body.{declarations}
 use Rattle.walrus_bodies.specs.declared.features.Features.{Features}
 use Rattle.walrus_model.specs.Reads.{ReadsBodyWith}
 use Rattle.walrus_model.specs.Sections.{Said, element_of, global_of, imported, imported_global, imported_memory, imported_table, imported_tag, imported_type, memory_of, table_of, tag_of}
-use Rattle.walrus_rules.proofs.LeastLengths.{few_elements, few_globals, few_imports, few_memories, few_tables, few_tags, number_long, vector_long}
-use Rattle.walrus_rules.proofs.SectionRows.{rows}
+use Rattle.walrus_model.proofs.LeastLengths.{few_elements, few_globals, few_imports, few_memories, few_tables, few_tags, number_long, vector_long}
+use Rattle.wasm_frames.proofs.SectionRows.{rows}
 use Rattle.walrus_reading.specs.Numbers.{FitsIndices, HasRoomFor}
+use Rattle.walrus_theorem.proofs.ReadFits.{one_long}
 
 -- ---- imports bring at most one item each
-
-one_long : {X : Type 0} (o : Option X) → length (option_to_list o) ≤ 1
-one_long None = omega arith
-one_long (Some x) = omega arith
 
 imported_long : {X : Type 0} (get : ℕ → RawDesc → Option X) (i : ℕ) (xs : List Import) → length (imported get i xs) ≤ length xs
 imported_long get i [] = omega arith

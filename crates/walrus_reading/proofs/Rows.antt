@@ -3,8 +3,9 @@ use Rattle.std.proofs.Common.{◌≡◌, ℕ, zero, suc, ◌+◌, ◌<◌, ◌�
 use Rattle.std.specs.Prelude.{All, Option, Some}
 use Rattle.std.proofs.lemmas.List.{take_more, take_all, map-append}
 use Rattle.walrus_base.specs.Arena.{item_at}
-use Rattle.walrus_contents.proofs.Taking.{mapped_all}
+use Rattle.walrus_base.proofs.Taking.{mapped_all}
 use Rattle.walrus_reading.specs.Placed.{AddsPlaced, AllPlaced, InTurn}
+use Rattle.walrus_reading.proofs.Becoming.{one_later}
 
 -- ---- what stands
 
@@ -23,9 +24,6 @@ placed_append R k next (x ∷ xs) (y ∷ ys) us vs at h more = (h.0, placed_appe
 -- one more
 pub placed_push : {A B : Type 0} (R : ℕ → A → B → Type 0) (xs : List A) (ys : List B) (x : A) (y : B) → AllPlaced R 0 xs ys → R (length ys) x y → AllPlaced R 0 (xs ++ x ∷ []) (ys ++ y ∷ [])
 placed_push R xs ys x y h one = placed_append R 0 (length ys) xs ys (x ∷ []) (y ∷ []) (omega arith) h (one, tt)
-
-pub one_later : (a b : ℕ) → a + 1 + b ≡ a + suc b
-one_later a b = omega arith
 
 pub nothing_more : (a : ℕ) → a ≡ a + 0
 nothing_more a = omega arith

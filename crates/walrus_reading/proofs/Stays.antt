@@ -5,16 +5,14 @@ use Rattle.wasm_forms.specs.Reading.{◌>>=◌}
 use Rattle.wasm_forms.specs.declared.types.RawRef.{RawRef}
 use Rattle.wasm_entries.specs.Record as entries
 use Rattle.walrus_base.specs.Types.{HeapType, RefType, Ref}
-use Rattle.walrus_types.specs.Operators.{Op}
+use Rattle.walrus_base.specs.Operators.{Op}
 use Rattle.walrus_code.specs.Names.{Lookup, named_heap, named_val}
 use Rattle.walrus_constants.specs.Named.{named_const, named_initialiser, named_ref}
 use Rattle.walrus_model.specs.Abstract.{Global, Table}
 use Rattle.walrus_model.specs.Constants.{consts_of}
 use Rattle.walrus_model.specs.Sections.{global_of, ref_of, table_of}
 use Rattle.walrus_reading.specs.Stays.{ConstStays, GlobalStays, RefStays, TableStays, ValStays}
-
-same : {X : Type 0} (x y : X) → Some x ≡ Some y → x ≡ y
-same x y e = cc
+use Rattle.wasm_forms.proofs.Bind.{some_same as same}
 
 -- ---- two steps, and what is made of what both found
 

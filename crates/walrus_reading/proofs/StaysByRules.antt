@@ -19,7 +19,7 @@ use Rattle.wasm_frames.specs.Record as wire
 use Rattle.wasm_wire.specs.Indices.{HeapHolds, ValueHolds, ConstHolds, ExpressionHolds, ElementHolds, ElementModeHolds, ItemsHold, DataModeHolds, InitialHolds, TableHolds, GlobalHolds, DescHolds, IndicesHold, StartExists, count_of, with_globals}
 use Rattle.wasm_wire.specs.declared.rules.counts.Counts.{Counts}
 use Rattle.walrus_base.specs.Types.{HeapType, Concrete, RefType, ValType, Ref}
-use Rattle.walrus_types.specs.Operators.{Space, Types, Functions, Globals, Arg, Index, Number, Byte, Heap, Op}
+use Rattle.walrus_base.specs.Operators.{Space, Types, Functions, Globals, Arg, Index, Number, Byte, Heap, Op}
 use Rattle.walrus_code.specs.FromRaw.{heap_of}
 use Rattle.walrus_code.specs.Names.{Lookup, named_args, named_heap}
 use Rattle.walrus_constants.specs.Named.{named_const_op, named_initialiser}

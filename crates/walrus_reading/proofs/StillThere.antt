@@ -4,20 +4,20 @@ use Rattle.std.specs.Prelude.{Option, Some, None, option_map}
 use Rattle.std.specs.List.{AllZip}
 use Rattle.wasm_frames.specs.Record as wire
 use Rattle.walrus_base.specs.Arena.{item_at}
-use Rattle.walrus_types.specs.Locals.{locals, local_place}
-use Rattle.walrus_types.specs.declared.locals.Local.{Local}
+use Rattle.walrus_base.specs.Locals.{locals, local_place}
+use Rattle.walrus_base.specs.declared.locals.Local.{Local}
 use Rattle.walrus_items.specs.OwnIds.{AtOwnIds}
 use Rattle.walrus_items.specs.Exports.{ModuleExports, exports}
 use Rattle.walrus_items.specs.Imports.{ModuleImports, imports}
 use Rattle.walrus_items.specs.Functions.{FunctionValue, functions}
 use Rattle.walrus_model.specs.Abstract.{Name}
 use Rattle.walrus_model.specs.Sections.{imported, imported_function}
-use Rattle.walrus_model.proofs.Standing.{some_inj}
+use Rattle.walrus_base.proofs.Standing.{some_inj}
 use Rattle.walrus_code.specs.declared.location.InstrLocId.{InstrLocId}
 use Rattle.walrus_contents.specs.declared.parts.Contents.{Contents}
-use Rattle.walrus_naming.specs.Renamed.{renamed_from}
-use Rattle.walrus_naming.specs.Shown.{LocalValue, local_value, local_values, mend_data, mend_element, mend_function, mend_global, mend_local, mend_memory, mend_table, mend_tag, shown}
-use Rattle.walrus_naming.proofs.Whole.{Renames}
+use Rattle.walrus_reading.specs.Renamed.{renamed_from}
+use Rattle.walrus_reading.specs.Shown.{LocalValue, local_value, local_values, mend_data, mend_element, mend_function, mend_global, mend_local, mend_memory, mend_table, mend_tag, shown}
+use Rattle.walrus_reading.proofs.Whole.{Renames}
 use Rattle.walrus_producers.specs.declared.producers.ModuleProducers.{ModuleProducers}
 use Rattle.walrus_reading.specs.Parsed.{ItemsAtOwnIds}
 use Rattle.walrus_reading.specs.Producers.{HoldsProducers}

@@ -1,5 +1,5 @@
 -- The types of tags by their places, and that they are among the types that were read.
-use Rattle.std.proofs.Common.{◌≡◌, ℕ, zero, suc, ◌+◌, ◌<◌, Bool, true, false, List, [], ◌∷◌, length, map, refl, sym, ap, ap₂, subst, ◌∙◌, arith}
+use Rattle.std.proofs.Common.{◌≡◌, ℕ, ◌+◌, ◌<◌, Bool, true, false, List, [], ◌∷◌, length, map, refl, sym, ap, ap₂, subst, ◌∙◌, arith}
 use Rattle.std.specs.Prelude.{Option, Some, None, option_map, option_to_list, nat_lt, slice_get, if◌then◌else◌}
 use Rattle.std.specs.List.{AllByRecursion}
 use Rattle.std.proofs.lemmas.List.{length-map}
@@ -15,21 +15,22 @@ use Rattle.walrus_base.specs.Arena.{entries_from, items}
 use Rattle.walrus_base.specs.Id.{place}
 use Rattle.walrus_base.specs.declared.id.Id.{Id}
 use Rattle.walrus_base.specs.declared.keys.TypeKey.{TypeKey}
-use Rattle.walrus_types.specs.Operators.{Types}
-use Rattle.walrus_types.specs.TypeDef.{TypeDef}
+use Rattle.walrus_base.specs.Operators.{Types}
+use Rattle.walrus_base.specs.TypeDef.{TypeDef}
 use Rattle.walrus_code.specs.Names.{Lookup}
 use Rattle.walrus_functions.specs.Signatures.{tag_places}
-use Rattle.walrus_functions.proofs.LawNamed.{each_append}
+use Rattle.walrus_bodies.proofs.LawNamed.{each_append}
 use Rattle.walrus_groups.specs.Groups.{types_from}
 use Rattle.walrus_items.specs.Tags.{TagValue}
 use Rattle.walrus_model.specs.Abstract.{Tag}
 use Rattle.walrus_model.specs.Reads.{below, declared}
 use Rattle.walrus_model.specs.Sections.{imported, imported_tag, tag_of, tags_of}
-use Rattle.walrus_model.proofs.Standing.{some_inj}
+use Rattle.walrus_base.proofs.Standing.{some_inj}
 use Rattle.walrus_reading.specs.Held.{HoldsTag}
 use Rattle.walrus_reading.specs.Placed.{AllPlaced}
 use Rattle.walrus_reading.specs.Stays.{AllStay, DescStays, TypeStays}
 use Rattle.walrus_reading.specs.Taken.{AreThere, tag_types_of}
+use Rattle.walrus_theorem.proofs.TextShaped.{all_at as each_at}
 
 -- ---- those that are held are those that were read
 
@@ -48,11 +49,6 @@ same_tag_types r ids slots listed held = fun_ext (λ (tag : ℕ).
     ∙ slice_get-map (λ (t : Tag). t.ty) (tags_of r) tag)
 
 -- ---- they are there
-
-each_at : {X : Type 0} (P : X → Type 0) (xs : List X) (i : ℕ) (x : X) → AllByRecursion P xs → slice_get xs i ≡ Some x → P x
-each_at P [] i x all e = absurd (cc)
-each_at P (y ∷ xs) zero x all e = subst P (some_inj y x e) all.0
-each_at P (y ∷ xs) (suc i) x all e = each_at P xs i x all.1 e
 
 below_count : (count i found : ℕ) (t : Bool) → nat_lt i count ≡ t → (if t then Some i else None) ≡ Some found → found < count
 below_count count i found true lt e = subst (λ (n : ℕ). n < count) (some_inj i found e) (ltb-true i count lt)

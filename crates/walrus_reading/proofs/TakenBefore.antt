@@ -3,9 +3,9 @@ use Rattle.std.proofs.Common.{◌≡◌, ℕ, ◌+◌, List, ◌++◌, length, s
 use Rattle.std.specs.Prelude.{Option, Some, Err}
 use Rattle.std.specs.List.{range_with_len}
 use Rattle.walrus_base.specs.Arena.{item_at}
-use Rattle.walrus_types.specs.Operators.{Types}
-use Rattle.walrus_types.specs.TypeDef.{TypeDef}
-use Rattle.walrus_types.specs.declared.locals.Local.{Local}
+use Rattle.walrus_base.specs.Operators.{Types}
+use Rattle.walrus_base.specs.TypeDef.{TypeDef}
+use Rattle.walrus_base.specs.declared.locals.Local.{Local}
 use Rattle.walrus_code.specs.FromRaw.{ops_of}
 use Rattle.walrus_code.specs.Names.{Lookup}
 use Rattle.walrus_bodies.specs.Body.{BodyReads, Context, context}
@@ -16,8 +16,8 @@ use Rattle.walrus_functions.specs.ReadFunction.{AddsTypes, Slots, StaysInFront, 
 use Rattle.walrus_items.specs.Functions.{FunctionValue}
 use Rattle.walrus_model.specs.Sections.{Said}
 use Rattle.walrus_contents.specs.View.{handlers_at}
-use Rattle.walrus_parts.specs.declared.error.Error.{Error}
-use Rattle.walrus_parts.specs.declared.error.Error.TheVariants as Parts
+use Rattle.walrus_items.specs.declared.error.Error.{Error}
+use Rattle.walrus_items.specs.declared.error.Error.TheVariants as Parts
 use Rattle.walrus_reading.specs.Taken.{AddsLocalsOf, AreThere, IsTaken, SaysUnder, TakesFunction}
 use Rattle.walrus_reading.proofs.Grown.{handlers_same, read_after, read_before, same_there}
 use Rattle.wasm_frames.specs.Record as wire

@@ -6,10 +6,10 @@ use Rattle.std.proofs.lemmas.Grind.{flat_map-append}
 use Rattle.std.proofs.lemmas.List.{length-map, get_or-map, map-append}
 use Rattle.walrus_base.specs.Arena.{item_at}
 use Rattle.walrus_base.specs.Types.{ValType}
-use Rattle.walrus_types.specs.TypeDef.{TypeDef}
-use Rattle.walrus_types.specs.Value.{val_type}
-use Rattle.walrus_types.specs.declared.locals.Local.{Local}
-use Rattle.walrus_types.specs.declared.locals.ModuleLocals.{ModuleLocals}
+use Rattle.walrus_base.specs.TypeDef.{TypeDef}
+use Rattle.walrus_base.specs.Value.{val_type}
+use Rattle.walrus_base.specs.declared.locals.Local.{Local}
+use Rattle.walrus_base.specs.declared.locals.ModuleLocals.{ModuleLocals}
 use Rattle.walrus_items.specs.Function.{body_of, handlers_in}
 use Rattle.walrus_code.specs.declared.error.IrError.{IrError}
 use Rattle.walrus_code.specs.declared.error.IrError.TheVariants.{Malformed, Memory, NoIndex, NotWritable, TooLarge}
@@ -21,13 +21,13 @@ use Rattle.walrus_functions.specs.Laws.{moved_op}
 use Rattle.walrus_functions.specs.ReadFunction.{AddsTypes, FunctionIsRead, ReadsFunction, Slots, locals_from}
 use Rattle.walrus_functions.proofs.LawMoves.{there, back}
 use Rattle.walrus_items.specs.Functions.{FunctionValue}
-use Rattle.walrus_parts.specs.declared.function_kind.FunctionKind.TheVariants as kind
+use Rattle.walrus_items.specs.declared.function_kind.FunctionKind.TheVariants as kind
 use Rattle.walrus_model.specs.Sections.{Said}
 use Rattle.walrus_contents.specs.View.{handlers_at}
-use Rattle.walrus_contents.proofs.Steps.{zip_push, zip_at, pair_at, pairs_long, pairs_more, pairs_all}
-use Rattle.walrus_parts.specs.Errors.{error_of_ir}
-use Rattle.walrus_parts.specs.declared.error.Error.{Error}
-use Rattle.walrus_parts.specs.declared.error.Error.TheVariants as Parts
+use Rattle.walrus_model.proofs.PlacedTypes.{zip_at, pair_at, pairs_long, pairs_more, pairs_all}
+use Rattle.walrus_items.specs.Errors.{error_of_ir}
+use Rattle.walrus_items.specs.declared.error.Error.{Error}
+use Rattle.walrus_items.specs.declared.error.Error.TheVariants as Parts
 use Rattle.walrus_reading.specs.Placed.{AllPlaced}
 use Rattle.walrus_reading.specs.Taken.{AddsHandlersOf, AddsLocalsOf, AreTaken, HoldsLocal, IsSaid, IsTaken, SaysUnder, TakesFunction, TakesFunctions, locals_said}
 use Rattle.walrus_reading.proofs.Grown.{handlers_moved}
@@ -36,6 +36,7 @@ use Rattle.walrus_reading.proofs.Rows.{in_turn_append, placed_append, placed_len
 use Rattle.walrus_reading.proofs.LocalStarts.{one_more_start}
 use Rattle.wasm_frames.specs.declared.record.RawBody.{RawBody}
 use Rattle.wasm_frames.specs.Record as wire
+use Rattle.walrus_base.proofs.ZipTurns.{zip_snoc as zip_push}
 
 -- ---- a function that is read
 

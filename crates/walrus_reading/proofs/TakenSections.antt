@@ -4,10 +4,10 @@ use Rattle.std.specs.Prelude.{Option, Some, Result, Err, Vec, All, flat_map, opt
 use Rattle.std.specs.declared.alloc.Global.{Global}
 use Rattle.walrus_base.specs.Arena.{item_at}
 use Rattle.walrus_base.specs.Id.{place}
-use Rattle.walrus_types.specs.ModuleTypes.{type_slots}
-use Rattle.walrus_types.specs.TypeDef.{TypeDef}
-use Rattle.walrus_types.specs.declared.locals.ModuleLocals.{ModuleLocals}
-use Rattle.walrus_types.specs.declared.module_types.ModuleTypes.{ModuleTypes}
+use Rattle.walrus_base.specs.ModuleTypes.{type_slots}
+use Rattle.walrus_base.specs.TypeDef.{TypeDef}
+use Rattle.walrus_base.specs.declared.locals.ModuleLocals.{ModuleLocals}
+use Rattle.walrus_base.specs.declared.module_types.ModuleTypes.{ModuleTypes}
 use Rattle.walrus_code.specs.Indices.{ids_at}
 use Rattle.walrus_code.specs.declared.indices.IndicesToIds.{IndicesToIds}
 use Rattle.walrus_bodies.specs.Body.{Context, context}
@@ -15,7 +15,7 @@ use Rattle.walrus_bodies.specs.FunctionTypes.{is_function_at}
 use Rattle.walrus_bodies.specs.declared.features.Features.{Features}
 use Rattle.walrus_functions.specs.ReadFunction.{Slots}
 use Rattle.walrus_functions.specs.Signatures.{slots_of}
-use Rattle.walrus_types.specs.Locals.{locals}
+use Rattle.walrus_base.specs.Locals.{locals}
 use Rattle.walrus_items.specs.Data.{data_segments}
 use Rattle.walrus_items.specs.Elements.{elements}
 use Rattle.walrus_items.specs.Exports.{exports}
@@ -33,12 +33,12 @@ use Rattle.walrus_reading.specs.Held.{HoldsData, HoldsElement, HoldsGlobal, Hold
 use Rattle.walrus_reading.specs.Imported.{HoldsImported}
 use Rattle.walrus_reading.specs.Placed.{AddsPlaced, AllPlaced, InTurn}
 use Rattle.walrus_reading.specs.Taken.{AddsFunctions, AreTaken, HasTaken, HasTakenWith, HoldsExport, HoldsHandlers, HoldsLocal, TakesFunctions, TakesSections, locals_said, starts_of, tag_types_of}
-use Rattle.walrus_contents.proofs.Steps.{same_types, same_functions}
+use Rattle.walrus_model.proofs.PlacedTypes.{same_types, same_functions}
 use Rattle.walrus_reading.proofs.FoundTypes.{all_found, all_unnamed}
 use Rattle.walrus_reading.proofs.Rows.{placed_length, placed_more}
 use Rattle.walrus_reading.proofs.TakenBody.{saids_of}
-use Rattle.walrus_parts.specs.declared.error.Error.{Error}
-use Rattle.walrus_parts.specs.declared.error.Error.TheVariants as Parts
+use Rattle.walrus_items.specs.declared.error.Error.{Error}
+use Rattle.walrus_items.specs.declared.error.Error.TheVariants as Parts
 use Rattle.wasm_frames.specs.Record as wire
 
 module _ (c : Features) (r : wire.Module) (indices : IndicesToIds) (ts : ModuleTypes) (names : ids_at indices ≡ declared r) (typed : type_slots ts ≡ map Some (types_from 0 r.types)) where

@@ -3,11 +3,11 @@ use Rattle.std.proofs.Common.{◌≡◌, ℕ, zero, suc, ◌+◌, List, [], ◌�
 use Rattle.std.specs.Prelude.{Option, Some, None, All, flat_map, option_to_list, zip}
 use Rattle.std.proofs.lemmas.List.Elements.{All-head, All-tail}
 use Rattle.walrus_base.specs.Arena.{item_at}
-use Rattle.walrus_types.specs.Locals.{locals}
-use Rattle.walrus_types.specs.ModuleTypes.{type_names}
-use Rattle.walrus_types.specs.Operators.{Types, Functions, Tables, Memories, Tags, Globals, Elements, DataSegments}
-use Rattle.walrus_types.specs.TypeDef.{TypeDef, name_bytes}
-use Rattle.walrus_types.specs.declared.locals.Local.{Local}
+use Rattle.walrus_base.specs.Locals.{locals}
+use Rattle.walrus_base.specs.ModuleTypes.{type_names}
+use Rattle.walrus_base.specs.Operators.{Types, Functions, Tables, Memories, Tags, Globals, Elements, DataSegments}
+use Rattle.walrus_base.specs.TypeDef.{TypeDef, name_bytes}
+use Rattle.walrus_base.specs.declared.locals.Local.{Local}
 use Rattle.walrus_bodies.specs.declared.features.Features.{Features}
 use Rattle.walrus_items.specs.Data.{DataValue, data_segments}
 use Rattle.walrus_items.specs.Elements.{ElementValue, elements}

@@ -3,7 +3,7 @@ use Rattle.std.specs.Prelude.{List, filter, not}
 use Rattle.std.specs.String.{string_bytes}
 use Rattle.wasm_frames.specs.Record as wire
 use Rattle.walrus_model.specs.Sections.{is_apart}
-use Rattle.walrus_parts.specs.declared.raw_section.RawCustomSection.{RawCustomSection}
+use Rattle.walrus_items.specs.declared.raw_section.RawCustomSection.{RawCustomSection}
 
 -- a section that is kept: its name, and the bytes behind that
 abbrev pub section_seen : RawCustomSection → wire.Custom

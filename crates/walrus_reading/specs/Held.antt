@@ -1,7 +1,7 @@
 -- What a slot holds of an item that was read: the item as the sections say it, under the slot's own id, and nothing that they don't say: no
 -- name, and no segments that are kept as long as the item is but those that are active in a table or a memory.
 use Rattle.std.specs.Prelude.{ℕ, Bool, true, false, All, List, Option, Some, None, IfSome, slice_get, ◌≡◌, ⊤}
-use Rattle.walrus_types.specs.declared.locals.ModuleLocals.{ModuleLocals}
+use Rattle.walrus_base.specs.declared.locals.ModuleLocals.{ModuleLocals}
 use Rattle.walrus_items.specs.Functions.{FunctionValue}
 use Rattle.walrus_items.specs.Imports.{ImportValue}
 use Rattle.walrus_items.specs.Data.{DataValue}
@@ -13,12 +13,12 @@ use Rattle.walrus_items.specs.Tags.{TagValue}
 use Rattle.walrus_model.specs.Abstract.{DataSegment, Element, Function, Global, Import, Memory, Table, Tag}
 use Rattle.walrus_model.specs.Sections.{is_on_memory, is_on_table, passes}
 use Rattle.walrus_constants.specs.Short.{is_short}
-use Rattle.walrus_parts.specs.declared.segments.DataKind.TheVariants as data_kinds
-use Rattle.walrus_parts.specs.declared.segments.DataKind.{DataKind}
-use Rattle.walrus_parts.specs.declared.segments.ElementItems.TheVariants as element_contents
-use Rattle.walrus_parts.specs.declared.segments.ElementItems.{ElementItems}
-use Rattle.walrus_parts.specs.declared.segments.ElementKind.TheVariants as element_kinds
-use Rattle.walrus_parts.specs.declared.segments.ElementKind.{ElementKind}
+use Rattle.walrus_items.specs.declared.segments.DataKind.TheVariants as data_kinds
+use Rattle.walrus_items.specs.declared.segments.DataKind.{DataKind}
+use Rattle.walrus_items.specs.declared.segments.ElementItems.TheVariants as element_contents
+use Rattle.walrus_items.specs.declared.segments.ElementItems.{ElementItems}
+use Rattle.walrus_items.specs.declared.segments.ElementKind.TheVariants as element_kinds
+use Rattle.walrus_items.specs.declared.segments.ElementKind.{ElementKind}
 use Rattle.walrus_contents.specs.View as view
 
 -- which of these element segments a table keeps: those that are active in it

@@ -4,9 +4,9 @@ use Rattle.wasm_entries.specs.declared.record.RawDesc.{RawDesc}
 use Rattle.wasm_entries.specs.declared.record.RawDesc.TheVariants as descs
 use Rattle.wasm_entries.specs.Record as entries
 use Rattle.wasm_frames.specs.Record as wire
-use Rattle.walrus_types.specs.Locals.{locals}
-use Rattle.walrus_types.specs.ModuleTypes.{type_names, type_slots}
-use Rattle.walrus_types.specs.Operators.{Functions, Tables, Memories, Tags, Globals, Item}
+use Rattle.walrus_base.specs.Locals.{locals}
+use Rattle.walrus_base.specs.ModuleTypes.{type_names, type_slots}
+use Rattle.walrus_base.specs.Operators.{Functions, Tables, Memories, Tags, Globals, Item}
 use Rattle.walrus_groups.specs.Groups.{types_from}
 use Rattle.walrus_producers.specs.Seen.{producers}
 use Rattle.walrus_items.specs.Data.{data_segments}

@@ -11,3 +11,9 @@ pub mod Sections
 pub mod Stays
 pub mod Taken
 pub mod Told
+pub mod Laws
+pub mod Renamed
+pub mod Shown
+pub mod Sink
+pub mod Synthetic
+pub mod TakenNames

@@ -7,11 +7,11 @@ use Rattle.walrus_groups.specs.Groups.{types_from}
 use Rattle.walrus_model.specs.Reads.{ReadsBodyWith}
 use Rattle.walrus_model.specs.Sections.{Said}
 use Rattle.walrus_contents.specs.declared.parts.Contents.{Contents}
-use Rattle.walrus_naming.specs.Shown.{shown}
-use Rattle.walrus_naming.specs.Synthetic.{AreNamed}
-use Rattle.walrus_naming.specs.Taken.{Bounds}
-use Rattle.walrus_parts.specs.declared.error.Error.{Error}
-use Rattle.walrus_parts.specs.declared.error.Error.TheVariants.{Memory, InvalidWasm}
+use Rattle.walrus_reading.specs.Shown.{shown}
+use Rattle.walrus_reading.specs.Synthetic.{AreNamed}
+use Rattle.walrus_reading.specs.TakenNames.{Bounds}
+use Rattle.walrus_items.specs.declared.error.Error.{Error}
+use Rattle.walrus_items.specs.declared.error.Error.TheVariants.{Memory, InvalidWasm}
 use Rattle.walrus_reading.specs.Taken.{HasTakenWith}
 
 -- so many types were read, and the locals of each function begin there

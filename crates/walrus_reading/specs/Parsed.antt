@@ -5,9 +5,9 @@ use Rattle.walrus_code.specs.declared.location.InstrLocId.{InstrLocId}
 use Rattle.walrus_groups.specs.Groups.{types_from}
 use Rattle.walrus_model.specs.Abstract.{Abstract, Body}
 use Rattle.walrus_model.specs.Config.{Config}
-use Rattle.walrus_rules.specs.Chain.{ParsedAs}
-use Rattle.walrus_rules.specs.Features.{features_of}
-use Rattle.walrus_rules.specs.Headline.{Accepts, ReadsModule}
+use Rattle.walrus_theorem.specs.Chain.{ParsedAs}
+use Rattle.walrus_theorem.specs.Features.{features_of}
+use Rattle.walrus_theorem.specs.Headline.{Accepts, ReadsModule}
 use Rattle.walrus_model.specs.Reads.{ReadsBodyWith}
 use Rattle.walrus_bodies.specs.declared.features.Features.{Features}
 use Rattle.walrus_model.specs.Sections.{Said, custom_of}
@@ -28,13 +28,13 @@ use Rattle.walrus_contents.specs.View.{contents_view}
 use Rattle.walrus_contents.specs.declared.parts.Contents.{Contents}
 use Rattle.walrus_reading.specs.Customs.{kept_customs, section_seen}
 use Rattle.walrus_reading.specs.declared.module.ReadModule.{ReadModule}
-use Rattle.walrus_naming.specs.Shown.{IsRenamed, shown}
+use Rattle.walrus_reading.specs.Shown.{IsRenamed, shown}
 use Rattle.walrus_reading.specs.Taken.{AreLocatedIn, HasTaken}
 use Rattle.wasm_frames.specs.Frames.{Frames}
 use Rattle.wasm_wire.specs.Rules.{Rules}
-use Rattle.walrus_parts.specs.declared.error.Error.{Error}
-use Rattle.walrus_parts.specs.declared.error.Error.TheVariants.{Memory, InvalidWasm}
-use Rattle.walrus_parts.specs.declared.raw_section.RawCustomSection.{RawCustomSection}
+use Rattle.walrus_items.specs.declared.error.Error.{Error}
+use Rattle.walrus_items.specs.declared.error.Error.TheVariants.{Memory, InvalidWasm}
+use Rattle.walrus_items.specs.declared.raw_section.RawCustomSection.{RawCustomSection}
 
 -- a configuration with these features that says whether what has no name is given one
 pub record IsReadWith (c : Config) (features : Features) (synthetic : Bool) : Type 0 where

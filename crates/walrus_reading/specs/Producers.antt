@@ -6,7 +6,7 @@ use Rattle.wasm_payloads.specs.Producers.{Field, Fields}
 use Rattle.walrus_producers.specs.Seen.{producers}
 use Rattle.walrus_producers.specs.declared.producers.ModuleProducers.{ModuleProducers}
 use Rattle.walrus_model.specs.Producers.{ProducerField, produced}
-use Rattle.walrus_rules.specs.Headline.{field_of, payloads}
+use Rattle.walrus_theorem.specs.Headline.{field_of, payloads}
 
 -- The fields of each section that is called `producers`, those of one section behind those of another: of each the fields that stand whole
 -- before its first fault. With them, this program.

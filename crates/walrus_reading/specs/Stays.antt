@@ -8,7 +8,7 @@ use Rattle.wasm_entries.specs.Record as entries
 use Rattle.wasm_frames.specs.Record as wire
 use Rattle.wasm_wire.specs.Indices.{IndicesHold}
 use Rattle.wasm_wire.specs.declared.rules.counts.Counts.{Counts}
-use Rattle.walrus_types.specs.Operators.{Types, Functions, Tables, Memories, Tags, Globals}
+use Rattle.walrus_base.specs.Operators.{Types, Functions, Tables, Memories, Tags, Globals}
 use Rattle.walrus_code.specs.FromRaw.{val_of}
 use Rattle.walrus_code.specs.Names.{Lookup, named_val}
 use Rattle.walrus_constants.specs.Named.{named_const, named_global, named_ref, named_table}

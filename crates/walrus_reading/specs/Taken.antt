@@ -5,15 +5,15 @@ use Rattle.std.specs.declared.alloc.Global.{Global}
 use Rattle.walrus_base.specs.Arena.{item_at}
 use Rattle.walrus_base.specs.Id.{place}
 use Rattle.walrus_base.specs.Types.{ValType}
-use Rattle.walrus_types.specs.Locals.{locals, local_place, local_type}
-use Rattle.walrus_types.specs.Composite.{function_comp}
-use Rattle.walrus_types.specs.ModuleTypes.{type_names, type_slots}
-use Rattle.walrus_types.specs.Operators.{Types}
-use Rattle.walrus_types.specs.TypeDef.{TypeDef}
-use Rattle.walrus_types.specs.Value.{val_type}
-use Rattle.walrus_types.specs.declared.locals.Local.{Local as LocalItem}
-use Rattle.walrus_types.specs.declared.locals.ModuleLocals.{ModuleLocals}
-use Rattle.walrus_types.specs.declared.module_types.ModuleTypes.{ModuleTypes}
+use Rattle.walrus_base.specs.Locals.{locals, local_place, local_type}
+use Rattle.walrus_base.specs.Composite.{function_comp}
+use Rattle.walrus_base.specs.ModuleTypes.{type_names, type_slots}
+use Rattle.walrus_base.specs.Operators.{Types}
+use Rattle.walrus_base.specs.TypeDef.{TypeDef}
+use Rattle.walrus_base.specs.Value.{val_type}
+use Rattle.walrus_base.specs.declared.locals.Local.{Local as LocalItem}
+use Rattle.walrus_base.specs.declared.locals.ModuleLocals.{ModuleLocals}
+use Rattle.walrus_base.specs.declared.module_types.ModuleTypes.{ModuleTypes}
 use Rattle.walrus_items.specs.Function.{function_type, name_of, body_of, locations_of, args_of}
 use Rattle.walrus_items.specs.LocalFunction.{LocalFunction}
 use Rattle.walrus_code.specs.Location.{location, location_at}
@@ -30,7 +30,7 @@ use Rattle.walrus_code.specs.Indices.{ids_at}
 use Rattle.walrus_code.specs.Names.{Lookup}
 use Rattle.walrus_items.specs.Exports.{ExportValue, exports}
 use Rattle.walrus_items.specs.Functions.{FunctionValue, functions}
-use Rattle.walrus_parts.specs.declared.function_kind.FunctionKind.TheVariants.{Local}
+use Rattle.walrus_items.specs.declared.function_kind.FunctionKind.TheVariants.{Local}
 use Rattle.walrus_groups.specs.Groups.{types_from}
 use Rattle.walrus_model.specs.Reads.{ReadsBodyWith}
 use Rattle.walrus_items.specs.Imports.{imports}
@@ -43,16 +43,16 @@ use Rattle.walrus_items.specs.Tags.{tags}
 use Rattle.walrus_model.specs.Abstract.{Function}
 use Rattle.walrus_model.specs.Sections.{Said, imported, imported_function, imports_after, types_of, export_of, tables_of, memories_of, tags_of, globals_of, elements_of, data_segments_of}
 use Rattle.walrus_reading.specs.Held.{HoldsData, HoldsElement, HoldsGlobal, HoldsImport, HoldsImportedFunction, HoldsMemory, HoldsTable, HoldsTag, memory_keeps, table_keeps}
-use Rattle.walrus_rules.specs.Chain.{AreFoundOrAdded}
-use Rattle.walrus_naming.specs.Taken.{starts_from}
+use Rattle.walrus_theorem.specs.Chain.{AreFoundOrAdded}
+use Rattle.walrus_reading.specs.TakenNames.{starts_from}
 use Rattle.walrus_contents.specs.View as view
 use Rattle.walrus_contents.specs.declared.parts.Contents.{Contents}
 use Rattle.walrus_reading.specs.Placed.{AddsPlaced, AllPlaced, InTurn}
-use Rattle.walrus_reading.specs.declared.contents.Under.{Under}
+use Rattle.walrus_reading.specs.declared.functions.Under.{Under}
 use Rattle.wasm_entries.specs.Record as entries
 use Rattle.wasm_frames.specs.Record as wire
-use Rattle.walrus_parts.specs.declared.error.Error.{Error}
-use Rattle.walrus_parts.specs.declared.error.Error.TheVariants.{Memory, InvalidWasm}
+use Rattle.walrus_items.specs.declared.error.Error.{Error}
+use Rattle.walrus_items.specs.declared.error.Error.TheVariants.{Memory, InvalidWasm}
 
 -- ---- what is held of what was read; nothing is deleted, each item sits at its own id, and nothing of these has a name
 

@@ -1,8 +1,8 @@
 -- No name of what was read is left open.
 use Rattle.std.specs.Prelude.{ℕ, List, ◌≡◌}
 use Rattle.walrus_model.specs.Config.{Config}
-use Rattle.walrus_rules.specs.Features.{features_of}
-use Rattle.walrus_naming.specs.Shown.{IsRenamed, shown}
+use Rattle.walrus_theorem.specs.Features.{features_of}
+use Rattle.walrus_reading.specs.Shown.{IsRenamed, shown}
 use Rattle.walrus_reading.specs.Parsed.{IsParsed, TakenFrom, read_view}
 use Rattle.walrus_reading.specs.declared.module.ReadModule.{ReadModule}
 

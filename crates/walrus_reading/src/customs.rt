@@ -2,12 +2,13 @@
 ghost use Rattle.std.specs.Prelude.{◌≡◌, map, not, IfOk, IsOkUnless};
 ghost use Rattle.wasm_frames.specs.Record.{custom_record};
 ghost use Rattle.walrus_model.specs.Sections.{is_apart};
-ghost use Rattle.walrus_parts.specs.Errors.{out_of_memory};
+ghost use Rattle.walrus_items.specs.Errors.{out_of_memory};
 ghost use Rattle.walrus_reading.specs.Customs.{kept_customs, section_seen};
 
 use std::alloc::Global;
-use walrus_parts::{RawCustomSection, Result};
-use wasm_wire::{CustomGroup, RawCustom, is_debug};
+use walrus_items::{RawCustomSection, Result};
+use wasm_frames::RawCustom;
+use wasm_wire::{CustomGroup, is_debug};
 
 // Whether a section of this name is kept as it was read: one of names, producers or debug information isn't.
 fn is_kept(name: &str) -> bool

@@ -3,8 +3,8 @@ ghost use Rattle.std.specs.Prelude.{◌≡◌, ◌==◌, ◌∷◌, [], length, 
 ghost use Rattle.wasm_entries.specs.Record.{element_entry, element_mode, expression, items_of};
 ghost use Rattle.walrus_base.specs.Arena.{IsLive};
 ghost use Rattle.walrus_base.specs.Id.{place};
-ghost use Rattle.walrus_types.specs.ConstOps.{const_ops};
-ghost use Rattle.walrus_types.specs.Operators.{Tables};
+ghost use Rattle.walrus_base.specs.ConstOps.{const_ops};
+ghost use Rattle.walrus_base.specs.Operators.{Tables};
 ghost use Rattle.walrus_code.specs.Indices.{ids_at};
 ghost use Rattle.walrus_constants.specs.Short.{is_short};
 ghost use Rattle.walrus_contents.specs.View.{element_items_of, element_kind_of};
@@ -13,19 +13,20 @@ ghost use Rattle.walrus_items.specs.Tables.{tables};
 ghost use Rattle.walrus_model.specs.Abstract.{ActiveElements};
 ghost use Rattle.walrus_model.specs.Constants.{consts_of};
 ghost use Rattle.walrus_model.specs.Sections as said;
-ghost use Rattle.walrus_parts.specs.Errors.{out_of_memory};
+ghost use Rattle.walrus_items.specs.Errors.{out_of_memory};
 ghost use Rattle.walrus_reading.specs.Held.{AreShort, HaveShortOffset, HoldsElement};
 ghost use Rattle.walrus_reading.specs.Kept.{AreOnLive, element_kept, elements_kept, kept_from, table_keeping};
 ghost use Rattle.walrus_reading.specs.Placed.{AddsPlaced};
 ghost use Rattle.walrus_reading.specs.Stays.{ConstStays, ElementStays, FunctionStays, ItemsStay, PlaceStays};
 
-use crate::entities::{read_initialiser, read_reference};
+use crate::globals::read_initialiser;
+use crate::tables::read_reference;
 use std::alloc::Global;
+use walrus_base::{ConstExpr, ElementId, FunctionId, TableId};
+use walrus_code::{IndicesToIds, IrError};
 use walrus_constants::read_consts;
-use walrus_ir::{ConstExpr, ElementId, FunctionId, IndicesToIds, IrError, TableId};
-use walrus_items::{ElementItems, ElementKind, ModuleElements, ModuleTables};
-use walrus_parts::{Error, Result};
-use wasm_wire::{RawConst, RawElement, RawElementMode, RawExpression, RawItems};
+use walrus_items::{ElementItems, ElementKind, Error, ModuleElements, ModuleTables, Result};
+use wasm_entries::{RawConst, RawElement, RawElementMode, RawExpression, RawItems};
 
 // Elements that are active in the table of this index.
 fn read_active(

@@ -6,7 +6,7 @@ ghost use Rattle.wasm_entries.specs.declared.record.RawDesc.TheVariants as descs
 ghost use Rattle.walrus_base.specs.Id.{place};
 ghost use Rattle.walrus_code.specs.Indices.{ids_at};
 ghost use Rattle.walrus_items.specs.Functions.{functions};
-ghost use Rattle.walrus_parts.specs.Kinds.{imported};
+ghost use Rattle.walrus_items.specs.Kinds.{imported};
 ghost use Rattle.walrus_items.specs.Imports.{imports};
 ghost use Rattle.walrus_items.specs.Globals.{globals};
 ghost use Rattle.walrus_items.specs.Memories.{memories};
@@ -14,20 +14,21 @@ ghost use Rattle.walrus_items.specs.Tables.{tables};
 ghost use Rattle.walrus_items.specs.Tags.{tags};
 ghost use Rattle.walrus_model.specs.Sections.{imported_function, imported_global, imported_memory, imported_table, imported_tag};
 ghost use Rattle.walrus_contents.specs.View.{HoldsNoOthers};
-ghost use Rattle.walrus_parts.specs.Errors.{out_of_memory};
+ghost use Rattle.walrus_items.specs.Errors.{out_of_memory};
 ghost use Rattle.walrus_reading.specs.Held.{HoldsGlobal, HoldsImportedFunction, HoldsMemory, HoldsTable, HoldsTag, none_kept};
 ghost use Rattle.walrus_reading.specs.Imported.{AddsImport, Brings, HoldsImports, SameOthers, next_item};
 ghost use Rattle.walrus_reading.specs.Placed.{AddsPlaced};
 ghost use Rattle.walrus_reading.specs.Stays.{DescStays, RefStays, TypeStays, ValStays};
 
-use crate::entities::{read_reference, read_value};
+use crate::globals::read_value;
+use crate::tables::read_reference;
+use walrus_base::{FunctionId, GlobalId, ImportId, MemoryId, TableId, TagId};
+use walrus_code::IndicesToIds;
 use walrus_contents::Contents;
-use walrus_ir::{FunctionId, GlobalId, ImportId, IndicesToIds, MemoryId, TableId, TagId};
 use walrus_items::{
-    ImportKind, ModuleFunctions, ModuleGlobals, ModuleMemories, ModuleTables, ModuleTags,
+    ImportKind, ModuleFunctions, ModuleGlobals, ModuleMemories, ModuleTables, ModuleTags, Result,
 };
-use walrus_parts::Result;
-use wasm_wire::{RawDesc, RawGlobalType, RawImport, RawLimits, RawTableType};
+use wasm_entries::{RawDesc, RawGlobalType, RawImport, RawLimits, RawTableType};
 
 // A function of the type of this index, which the import brings.
 fn import_function(

@@ -1,18 +1,30 @@
-//! The contents of a module that bytes are: from bytes to records, and from records to items.
+//! The contents of a module that bytes are: from bytes to records, and from records to items, which get their names.
 #![tactic(auto)]
 
+mod bodies;
 mod contents;
 mod customs;
+mod data;
 mod elements;
-mod entities;
+mod exports;
+mod functions;
+mod globals;
 mod imports;
 pub mod law;
+mod memories;
 mod module;
-mod naming;
+mod names;
+pub mod names_law;
 mod numbers;
 mod producers;
-mod segments;
-mod starts;
-mod texts;
+mod renaming;
+mod sink;
+mod start;
+mod synthetic;
+mod tables;
+mod tags;
+mod types;
 
 pub use module::{ReadModule, read};
+pub use names::add_names;
+pub use sink::NameBounds;

@@ -6,13 +6,15 @@ ghost use Rattle.walrus_functions.specs.ReadFunction.{GivenIf};
 ghost use Rattle.walrus_reading.specs.Parsed.{AreLocated, HasTypesRead, IsParsed, IsReadWith, ItemsAtOwnIds, KeepsCustoms, RefusesBytes, TakenFrom, read_view};
 
 use crate::customs::keep_sections;
-use crate::naming::read_named;
+use crate::names::read_named;
 use crate::numbers::check_room;
 use std::alloc::Global;
+use walrus_bodies::Features;
+use walrus_code::InstrLocId;
 use walrus_contents::Contents;
-use walrus_ir::{Features, InstrLocId};
-use walrus_parts::{RawCustomSection, Result};
-use wasm_wire::{check, read_module};
+use walrus_items::{RawCustomSection, Result};
+use wasm_frames::read_module;
+use wasm_wire::check;
 
 /// What is read of a module ("Binary Format > Modules").
 #[derive(Drop)]

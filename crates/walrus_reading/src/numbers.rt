@@ -3,20 +3,21 @@ ghost use Rattle.std.specs.Prelude.{◌≡◌, ◌≢◌, ◌+◌, ◌<◌, ◌^
 ghost use Rattle.std.specs.List.{range_with_len};
 ghost use Rattle.wasm_frames.specs.Record.{sections};
 ghost use Rattle.wasm_wire.specs.Rules.{Checks};
-ghost use Rattle.walrus_types.specs.Operators.{Space, Types};
+ghost use Rattle.walrus_base.specs.Operators.{Space, Types};
 ghost use Rattle.walrus_code.specs.Indices.{ids_at, places_in, places_of};
 ghost use Rattle.walrus_groups.specs.Groups.{types_from};
 ghost use Rattle.walrus_model.specs.Reads.{declared};
-ghost use Rattle.walrus_parts.specs.Errors.{out_of_memory};
+ghost use Rattle.walrus_items.specs.Errors.{out_of_memory};
 ghost use Rattle.walrus_reading.specs.Imported.{HoldsImports};
 ghost use Rattle.walrus_reading.specs.Numbers.{FitsIndices, HasRoomFor};
 
 use std::alloc::Global;
 use std::result;
+use walrus_code::{IndexSpace, IndicesToIds};
 use walrus_contents::Contents;
-use walrus_ir::{IndexSpace, IndicesToIds};
-use walrus_parts::Result;
-use wasm_wire::{Raw, WireError};
+use walrus_items::Result;
+use wasm_forms::WireError;
+use wasm_frames::Raw;
 
 /// Whether there are indices for all functions that a module imports and defines. There are for all else: of what takes two bytes or more a
 /// section has fewer than 2^31.

@@ -4,14 +4,16 @@ ghost use Rattle.wasm_frames.specs.Record.{custom_record};
 ghost use Rattle.wasm_payloads.specs.Producers.{field_record};
 ghost use Rattle.walrus_producers.specs.Seen.{producers};
 ghost use Rattle.walrus_model.specs.Producers.{produced};
-ghost use Rattle.walrus_rules.specs.Headline.{field_of};
-ghost use Rattle.walrus_parts.specs.Errors.{out_of_memory};
+ghost use Rattle.walrus_theorem.specs.Headline.{field_of};
+ghost use Rattle.walrus_items.specs.Errors.{out_of_memory};
 ghost use Rattle.walrus_reading.specs.Producers.{AddsSections, HoldsProducers, only_customs};
 
 use std::alloc::Global;
-use walrus_parts::Result;
+use walrus_items::Result;
 use walrus_producers::ModuleProducers;
-use wasm_wire::{CustomGroup, RawCustom, RawField, read_producers};
+use wasm_frames::RawCustom;
+use wasm_payloads::{RawField, read_producers};
+use wasm_wire::CustomGroup;
 
 // These fields go behind the others.
 fn push_fields(fields: &[RawField<'_>], made: &mut ModuleProducers) -> Result<()>

@@ -1,7 +1,7 @@
 //! Custom sections that scenes add: a raw one, and one of a caller's own.
 ghost use Rattle.std.specs.Prelude.{true, [], ◌∷◌, codes};
 ghost use Rattle.walrus_base.specs.Id.{place};
-ghost use Rattle.walrus_types.specs.Operators.{Functions};
+ghost use Rattle.walrus_base.specs.Operators.{Functions};
 
 use std::alloc::Global;
 use walrus::{

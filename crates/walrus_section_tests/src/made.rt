@@ -1,4 +1,4 @@
-//! The modules that these tests begin with, and what gc leaves of one.
+//! The modules that the tests of custom sections and names begin with, and what gc leaves of one.
 
 use crate::noted::{Noted, Refuses};
 use std::alloc::Global;

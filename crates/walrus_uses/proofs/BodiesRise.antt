@@ -3,9 +3,9 @@ use Rattle.std.proofs.Common.{◌≡◌, ℕ, zero, suc, ◌+◌, ◌<◌, ◌�
 use Rattle.std.specs.Prelude.{Some, slice_get}
 use Rattle.wasm_frames.specs.Record as wire
 use Rattle.wasm_frames.specs.Frames.{Section, CustomSection, Types, Imports, Functions, Tables, Memories, Globals, Exports, Start, Elements, Code, DataSegments, DataCount, Tags, AreBodies, IsSection, AreSections, with_section, gathered_onto, Frames}
-use Rattle.walrus_types.specs.Operators.{Op}
-use Rattle.walrus_model.proofs.Standing.{some_inj}
-use Rattle.walrus_rules.proofs.Agree.{Compared, compared}
+use Rattle.walrus_base.specs.Operators.{Op}
+use Rattle.walrus_base.proofs.Standing.{some_inj}
+use Rattle.walrus_base.proofs.Agree.{Compared, compared}
 use Rattle.walrus_uses.specs.Moves.{StandsIn}
 use Rattle.walrus_uses.proofs.PlacedOps.{begins_within}
 

@@ -13,14 +13,14 @@ use Rattle.wasm_operators.specs.Standing.{spells}
 use Rattle.wasm_operators.specs.Table.{kinds_of}
 use Rattle.wasm_operators.proofs.Stands.{operator_stands}
 use Rattle.walrus_base.specs.Types.{ValType}
-use Rattle.walrus_types.specs.Operators.{Functions, Arg, Index, Op}
+use Rattle.walrus_base.specs.Operators.{Functions, Arg, Index, Op}
 use Rattle.walrus_code.specs.FromRaw.{op_of, ops_of}
 use Rattle.walrus_code.specs.Names.{Lookup, named_op, named_ops}
 use Rattle.walrus_bodies.specs.declared.features.Features.{Features}
 use Rattle.walrus_bodies.specs.Body.{BodyReads, context}
-use Rattle.walrus_builder.specs.Instructions.{call_op}
+use Rattle.walrus_ir.specs.Instructions.{call_op}
 use Rattle.walrus_model.specs.Abstract.{Body}
-use Rattle.walrus_rules.specs.WellMade.{IsCounted}
+use Rattle.walrus_theorem.specs.WellMade.{IsCounted}
 
 -- the body with a call of function n in front
 abbrev pub with_call : ℕ → Body → Body

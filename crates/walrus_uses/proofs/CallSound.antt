@@ -2,19 +2,19 @@
 use Rattle.std.proofs.Common.{◌≡◌, ℕ, List, [], ◌∷◌, sym, ◌∙◌, subst, inl, inr, ⊎_elim, arith}
 use Rattle.std.specs.Prelude.{Option, Some, Contains, ◌⊎◌}
 use Rattle.walrus_base.specs.Types.{Func, comp_heaps}
-use Rattle.walrus_types.specs.Operators.{Types, Functions, Item, function_item, type_item}
+use Rattle.walrus_base.specs.Operators.{Types, Functions, Item, function_item, type_item}
 use Rattle.walrus_model.specs.Abstract.{Abstract, Body, Function, ImportedFunction, LocalFunction, TypeDef}
 use Rattle.walrus_model.specs.Config.{Config}
 use Rattle.walrus_model.specs.Live.{IsLive}
 use Rattle.walrus_model.specs.Refers.{Refers, body_names, function_names, named_by, type_names, written_in}
 use Rattle.walrus_model.specs.Rules.{IsFunctionType}
 use Rattle.walrus_model.specs.WellMade.{heaps_by, kind_heaps}
-use Rattle.walrus_model.proofs.Lists.{Contains-head, Contains-none, Contains-tail, Contains-uncons}
-use Rattle.walrus_rules.specs.Chain.{alone}
-use Rattle.walrus_rules.specs.EditLaws.{AddsLive, LeadsToLive}
-use Rattle.walrus_rules.specs.Sound.{FunctionHolds, IsSound, TypeHolds}
-use Rattle.walrus_rules.specs.WellMade.{IsWellFormed}
-use Rattle.walrus_rules.proofs.EditKept.{some_is, some_there}
+use Rattle.walrus_base.proofs.Lists.{Contains-head, Contains-none, Contains-tail, Contains-uncons}
+use Rattle.walrus_theorem.specs.Chain.{alone}
+use Rattle.walrus_theorem.specs.EditLaws.{AddsLive, LeadsToLive}
+use Rattle.walrus_theorem.specs.Sound.{FunctionHolds, IsSound, TypeHolds}
+use Rattle.walrus_theorem.specs.WellMade.{IsWellFormed}
+use Rattle.walrus_theorem.proofs.EditKept.{some_is, some_there}
 use Rattle.walrus_uses.proofs.CallBody.{with_call}
 
 only_one : (x y : Item) → Contains (x ∷ []) y → y ≡ x

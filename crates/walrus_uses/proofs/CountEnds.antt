@@ -5,13 +5,13 @@ use Rattle.walrus_base.specs.Id.{place}
 use Rattle.walrus_base.specs.declared.id.Id.{Id}
 use Rattle.walrus_base.specs.declared.keys.FunctionKey.{FunctionKey}
 use Rattle.walrus_model.specs.Config.{Config}
-use Rattle.walrus_parts.specs.Errors.{out_of_memory}
-use Rattle.walrus_parts.specs.declared.custom.CustomSection.{Ghosts}
-use Rattle.walrus_parts.specs.declared.error.Error.{Error}
+use Rattle.walrus_items.specs.Errors.{out_of_memory}
+use Rattle.walrus_items.specs.declared.custom.CustomSection.{Ghosts}
+use Rattle.walrus_items.specs.declared.error.Error.{Error}
 use Rattle.walrus_items.specs.Functions.{functions}
 use Rattle.walrus_contents.specs.View.{contents_view}
 use Rattle.walrus_contents.specs.declared.parts.Contents.{Contents}
-use Rattle.walrus_rules.specs.EditLaws.{IsWholeModule}
+use Rattle.walrus_theorem.specs.EditLaws.{IsWholeModule}
 use Rattle.walrus_module.specs.Parsed.{IsParsed}
 use Rattle.walrus_module.specs.Settings.{settings}
 use Rattle.walrus_module.specs.View.{contents_of, held_view, view}

@@ -7,11 +7,11 @@ use Rattle.std.proofs.lemmas.List.{length-map}
 use Rattle.std.proofs.lemmas.Slice.Zip.{AllZip-long, length-zip}
 use Rattle.wasm_forms.proofs.Bind.{some_same}
 use Rattle.wasm_frames.specs.Record as wire
-use Rattle.walrus_types.specs.Operators.{Types, Functions, Tables, Memories, Tags, Globals, Elements, DataSegments, Op, type_item}
+use Rattle.walrus_base.specs.Operators.{Types, Functions, Tables, Memories, Tags, Globals, Elements, DataSegments, Op, type_item}
 use Rattle.walrus_code.specs.Names.{Lookup}
 use Rattle.walrus_bodies.specs.Body.{BodyReads, context}
 use Rattle.walrus_bodies.specs.FunctionTypes.{is_function_def}
-use Rattle.walrus_builder.specs.Instructions.{call_op}
+use Rattle.walrus_ir.specs.Instructions.{call_op}
 use Rattle.walrus_model.specs.Abstract.{Abstract, Body, Function, ImportedFunction, LocalFunction, TypeDef}
 use Rattle.walrus_model.specs.BlockHandlers.{params_of}
 use Rattle.walrus_model.specs.Config.{Config}
@@ -21,25 +21,27 @@ use Rattle.walrus_model.specs.Reads.{below, declared}
 use Rattle.walrus_model.specs.Rules.{Holds}
 use Rattle.walrus_model.specs.Same.{SameFunction}
 use Rattle.walrus_model.specs.Sections.{Said, body_with, function_types, function_with, imported, imported_function, imported_type, types_of}
-use Rattle.walrus_rules.specs.Chain.{IsWholeBody, ParsedAs}
-use Rattle.walrus_rules.specs.Features.{features_of}
-use Rattle.walrus_rules.specs.Headline.{ReadsBody, ReadsModule}
-use Rattle.walrus_rules.specs.WellMade.{IsWellFormed}
-use Rattle.walrus_rules.proofs.MovedBody.{ops_are}
-use Rattle.walrus_rules.proofs.ParsedWell.{Was, was}
-use Rattle.walrus_rules.proofs.ReadBodies.{IsRead, SaidIn, is_read}
-use Rattle.walrus_rules.proofs.ReadFits.{read_fits}
-use Rattle.walrus_rules.proofs.SpelledReads.{all_such}
-use Rattle.walrus_rules.proofs.StepParsed.{function_of_v, in_place, types_stay}
-use Rattle.walrus_rules.proofs.StepPlain.{IsPlain}
-use Rattle.walrus_rules.proofs.StepRead.{read_is_plain}
-use Rattle.walrus_rules.proofs.TextShaped.{all_append, all_at, local_same}
-use Rattle.walrus_rules.proofs.WellFormedWhole.{slice_there, well_formed}
-use Rattle.walrus_rules.proofs.WellStays.{function_has, reads_in}
+use Rattle.walrus_theorem.specs.Chain.{IsWholeBody, ParsedAs}
+use Rattle.walrus_theorem.specs.Features.{features_of}
+use Rattle.walrus_theorem.specs.Headline.{ReadsBody, ReadsModule}
+use Rattle.walrus_theorem.specs.WellMade.{IsWellFormed}
+use Rattle.walrus_model.proofs.MovedBody.{ops_are}
+use Rattle.walrus_theorem.proofs.ParsedWell.{Was, was}
+use Rattle.walrus_theorem.proofs.ReadBodies.{IsRead, SaidIn, is_read}
+use Rattle.walrus_theorem.proofs.ReadFits.{read_fits}
+use Rattle.walrus_theorem.proofs.SpelledReads.{all_such}
+use Rattle.walrus_theorem.proofs.StepParsed.{function_of_v, in_place, types_stay}
+use Rattle.walrus_model.proofs.StepPlain.{IsPlain}
+use Rattle.walrus_theorem.proofs.StepRead.{read_is_plain}
+use Rattle.walrus_theorem.proofs.TextShaped.{all_at, local_same}
+use Rattle.walrus_theorem.proofs.WellFormedWhole.{well_formed}
+use Rattle.walrus_theorem.proofs.WellStays.{function_has, reads_in}
 use Rattle.walrus_reading.proofs.AllHeld.{IsImported, all_imported}
-use Rattle.walrus_reading.proofs.Numbered.{types_many}
 use Rattle.walrus_uses.proofs.CallBody.{call_reads, counted_call, text_with, with_call}
-use Rattle.walrus_uses.proofs.MoreNames.{KnowsMore, reads_on}
+use Rattle.walrus_bodies.proofs.MoreNames.{KnowsMore, reads_on}
+use Rattle.walrus_base.proofs.Lookups.{there as slice_there}
+use Rattle.walrus_bodies.proofs.LawNamed.{each_append as all_append}
+use Rattle.walrus_theorem.proofs.BodiesBack.{as_many_imported as types_many}
 
 -- ---- a look-up that has one function more
 

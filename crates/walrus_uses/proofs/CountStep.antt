@@ -11,36 +11,36 @@ use Rattle.walrus_base.specs.Id.{place}
 use Rattle.walrus_base.specs.Types.{Func}
 use Rattle.walrus_base.specs.declared.id.Id.{Id}
 use Rattle.walrus_base.specs.declared.keys.TypeKey.{TypeKey}
-use Rattle.walrus_types.specs.Composite.{function_of}
-use Rattle.walrus_types.specs.Locals.{locals}
-use Rattle.walrus_types.specs.Operators.{Types, Functions, Tables, Memories, Tags, Globals, Elements, DataSegments, Item, Op, function_item, locals_of}
-use Rattle.walrus_types.specs.PlaceList.{has}
-use Rattle.walrus_types.specs.declared.locals.ModuleLocals.{ModuleLocals}
+use Rattle.walrus_base.specs.Composite.{function_of}
+use Rattle.walrus_base.specs.Locals.{locals}
+use Rattle.walrus_base.specs.Operators.{Types, Functions, Tables, Memories, Tags, Globals, Elements, DataSegments, Item, Op, function_item, locals_of}
+use Rattle.walrus_base.specs.PlaceList.{has}
+use Rattle.walrus_base.specs.declared.locals.ModuleLocals.{ModuleLocals}
 use Rattle.walrus_items.specs.Function.{args_of, body_of, function_type}
 use Rattle.walrus_items.specs.LocalFunction.{LocalFunction}
-use Rattle.walrus_builder.specs.Instructions.{call_op}
+use Rattle.walrus_ir.specs.Instructions.{call_op}
 use Rattle.walrus_model.specs.Abstract as abstract
 use Rattle.walrus_model.specs.Config.{Config}
 use Rattle.walrus_model.specs.EmittedBody.{types_of as local_types}
 use Rattle.walrus_model.specs.Live.{IsLive}
 use Rattle.walrus_model.specs.Rules.{IsFunctionType}
-use Rattle.walrus_parts.specs.declared.function_kind.FunctionKind.{FunctionKind}
-use Rattle.walrus_parts.specs.declared.function_kind.FunctionKind.TheVariants.{Import, Local, Uninitialized}
+use Rattle.walrus_items.specs.declared.function_kind.FunctionKind.{FunctionKind}
+use Rattle.walrus_items.specs.declared.function_kind.FunctionKind.TheVariants.{Import, Local, Uninitialized}
 use Rattle.walrus_items.specs.Functions.{FunctionValue, functions}
 use Rattle.walrus_items.specs.Imports.{imports}
 use Rattle.walrus_contents.specs.View.{body, contents_view, function, handlers_at}
 use Rattle.walrus_contents.specs.declared.parts.Contents.{Contents}
-use Rattle.walrus_rules.specs.Chain.{alone}
-use Rattle.walrus_rules.specs.EditLaws.{AddsLive, IsWholeModule, LeadsToLive}
-use Rattle.walrus_rules.specs.Edits.{GainsImported, GainsItem, SwapsBodies}
-use Rattle.walrus_rules.specs.Sound.{IsSound}
-use Rattle.walrus_rules.specs.WellMade.{IsWellFormed}
-use Rattle.walrus_rules.proofs.EditSound.{well_made_is_sound}
-use Rattle.walrus_model.proofs.Standing.{some_of}
-use Rattle.walrus_rules.proofs.EditKept.{none_isnt, some_is, some_there}
-use Rattle.walrus_rules.proofs.EditFunctions.{bodies_swapped}
-use Rattle.walrus_rules.proofs.EditItems.{imported_gained, item_gained}
-use Rattle.walrus_rules.proofs.EditLeads.{leads_live, leads_to_type}
+use Rattle.walrus_theorem.specs.Chain.{alone}
+use Rattle.walrus_theorem.specs.EditLaws.{AddsLive, IsWholeModule, LeadsToLive}
+use Rattle.walrus_theorem.specs.Edits.{GainsImported, GainsItem, SwapsBodies}
+use Rattle.walrus_theorem.specs.Sound.{IsSound}
+use Rattle.walrus_theorem.specs.WellMade.{IsWellFormed}
+use Rattle.walrus_theorem.proofs.EditSound.{well_made_is_sound}
+use Rattle.walrus_base.proofs.Standing.{some_of}
+use Rattle.walrus_theorem.proofs.EditKept.{none_isnt, some_is, some_there}
+use Rattle.walrus_theorem.proofs.EditFunctions.{bodies_swapped}
+use Rattle.walrus_theorem.proofs.EditItems.{imported_gained, item_gained}
+use Rattle.walrus_theorem.proofs.EditLeads.{leads_live, leads_to_type}
 use Rattle.walrus_module.specs.Edits.{BodySet, HasType}
 use Rattle.walrus_module.specs.Replaced.{with_body}
 use Rattle.walrus_module.specs.View.{contents_of, held_view}
@@ -48,7 +48,7 @@ use Rattle.walrus_module.specs.declared.module.Module.{Module}
 use Rattle.walrus_module.proofs.CountedBodies.{held_counted}
 use Rattle.walrus_module.proofs.EditedFunctions.{bodies_written, function_imported}
 use Rattle.walrus_module.proofs.EditedItems.{type_found}
-use Rattle.walrus_module.proofs.EditedSlots.{comes_behind}
+use Rattle.walrus_reading.proofs.EditedSlots.{comes_behind}
 use Rattle.walrus_uses.proofs.CallBody.{with_call}
 use Rattle.walrus_uses.proofs.CallSound.{call_leads, call_sound, imported_refers, imported_sound, type_sound}
 use Rattle.walrus_uses.specs.Count.{CallsFirst, ImportsIn, KindCalls, SlotCalls}

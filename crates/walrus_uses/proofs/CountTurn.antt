@@ -4,12 +4,12 @@ use Rattle.std.specs.List.{AllZip}
 use Rattle.std.proofs.lemmas.Bool.{cases_lt}
 use Rattle.std.proofs.lemmas.List.{get_or-set_other, length-set, map-set}
 use Rattle.walrus_base.specs.Arena.{item_at}
-use Rattle.walrus_parts.specs.declared.function_kind.FunctionKind.{FunctionKind}
+use Rattle.walrus_items.specs.declared.function_kind.FunctionKind.{FunctionKind}
 use Rattle.walrus_items.specs.Functions.{FunctionValue, function_value}
 use Rattle.walrus_items.specs.declared.functions.Function.{Function}
-use Rattle.walrus_rules.proofs.EditKept.{some_there}
-use Rattle.walrus_module.proofs.EditedSlots.{set_here}
-use Rattle.walrus_rules.proofs.EditSpace.{equal_or}
+use Rattle.walrus_theorem.proofs.EditKept.{some_there}
+use Rattle.walrus_reading.proofs.EditedSlots.{set_here}
+use Rattle.walrus_theorem.proofs.EditSpace.{equal_or}
 use Rattle.walrus_uses.specs.Count.{KindCalls, PlaceCalls, SlotCalls}
 
 -- at the first k places each function begins with the call, behind them all is as it was

@@ -1,16 +1,16 @@
 -- Each operator of a function that is kept has a place in the output.
 use Rattle.std.proofs.Common.{◌≡◌, ℕ, List, sym, ap, ◌∙◌, subst}
 use Rattle.std.specs.Prelude.{Some, slice_get}
-use Rattle.walrus_types.specs.Operators.{Functions, Op}
+use Rattle.walrus_base.specs.Operators.{Functions, Op}
 use Rattle.walrus_code.specs.FromRaw.{op_of}
 use Rattle.walrus_model.specs.Abstract.{Body}
 use Rattle.walrus_model.specs.Config.{Config}
 use Rattle.walrus_model.specs.Kept.{Kept}
 use Rattle.walrus_model.specs.Names.{body_of}
 use Rattle.walrus_model.specs.Renaming.{Renaming, renamed_op}
-use Rattle.walrus_rules.specs.Headline.{ComesTo}
+use Rattle.walrus_theorem.specs.Headline.{ComesTo}
 use Rattle.walrus_uses.specs.Moves.{Moves, OperatorStands, StandsIn}
-use Rattle.walrus_uses.proofs.Looked.{at_map, map_at}
+use Rattle.walrus_model.proofs.Looked.{at_map, map_at}
 use Rattle.walrus_uses.proofs.OneNumber.{comes_out, out_numbers}
 use Rattle.walrus_uses.proofs.PlacedOps.{place_there, row_in, stands_in}
 use Rattle.walrus_uses.proofs.ReadBodies.{has_bytes, has_function, op_stands, ops_stand}

@@ -3,24 +3,24 @@ use Rattle.std.proofs.Common.{◌≡◌, ℕ, List, [], false, refl, sym, ap, �
 use Rattle.std.specs.Prelude.{Contains, map, Result, Ok, Err, ⊤}
 use Rattle.std.specs.Global.{Vec}
 use Rattle.walrus_base.specs.Arena.{items}
-use Rattle.walrus_types.specs.Operators.{Item}
+use Rattle.walrus_base.specs.Operators.{Item}
 use Rattle.walrus_model.specs.Abstract.{Abstract, Custom}
 use Rattle.walrus_model.specs.Config.{Config}
 use Rattle.walrus_model.specs.Pipeline.{Collected, ReachedIsLive}
-use Rattle.walrus_model.proofs.Lists.{Contains-none}
-use Rattle.walrus_rules.specs.EditLaws.{StaysWhole}
-use Rattle.walrus_rules.specs.WellMade.{IsWellMade}
-use Rattle.walrus_rules.proofs.EditTops.{customs_stay}
-use Rattle.walrus_rules.proofs.SameItems.{with_own}
-use Rattle.walrus_rules.proofs.StepParsed.{live_v}
-use Rattle.walrus_rules.proofs.StepRead.{read_is_plain}
-use Rattle.walrus_rules.proofs.WritableParsed.{parsed_is_well}
-use Rattle.walrus_parts.specs.Errors.{out_of_memory}
-use Rattle.walrus_parts.specs.declared.custom.CustomSection.{Ghosts}
-use Rattle.walrus_parts.specs.declared.error.Error.{Error}
-use Rattle.walrus_parts.specs.declared.error.ErrorKind.{ErrorKind}
-use Rattle.walrus_parts.specs.declared.error.Error.TheVariants as error
-use Rattle.walrus_parts.specs.declared.raw_section.RawCustomSection.{RawCustomSection}
+use Rattle.walrus_base.proofs.Lists.{Contains-none}
+use Rattle.walrus_theorem.specs.EditLaws.{StaysWhole}
+use Rattle.walrus_theorem.specs.WellMade.{IsWellMade}
+use Rattle.walrus_theorem.proofs.EditTops.{customs_stay}
+use Rattle.walrus_theorem.proofs.SameItems.{with_own}
+use Rattle.walrus_theorem.proofs.StepParsed.{live_v}
+use Rattle.walrus_theorem.proofs.StepRead.{read_is_plain}
+use Rattle.walrus_theorem.proofs.WritableParsed.{parsed_is_well}
+use Rattle.walrus_items.specs.Errors.{out_of_memory}
+use Rattle.walrus_items.specs.declared.custom.CustomSection.{Ghosts}
+use Rattle.walrus_items.specs.declared.error.Error.{Error}
+use Rattle.walrus_items.specs.declared.error.ErrorKind.{ErrorKind}
+use Rattle.walrus_items.specs.declared.error.Error.TheVariants as error
+use Rattle.walrus_items.specs.declared.raw_section.RawCustomSection.{RawCustomSection}
 use Rattle.walrus_contents.specs.declared.parts.Contents.{Contents}
 use Rattle.walrus_module.specs.Customs.{sections}
 use Rattle.walrus_module.specs.Flags.{Flags, config_of}

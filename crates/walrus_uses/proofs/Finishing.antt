@@ -8,13 +8,13 @@ use Rattle.walrus_model.specs.Abstract.{Abstract}
 use Rattle.walrus_model.specs.Config.{Config}
 use Rattle.walrus_model.specs.Names.{body_of_function, body_of_kind}
 use Rattle.walrus_model.specs.Pipeline.{Collected}
-use Rattle.walrus_rules.specs.Chain.{Leaves}
-use Rattle.walrus_rules.specs.Refused.{PassesLimits}
-use Rattle.walrus_rules.specs.WellMade.{IsWellMade}
-use Rattle.walrus_rules.proofs.WellStays.{collected_well}
-use Rattle.walrus_parts.specs.declared.custom.CustomSection.{Ghosts}
-use Rattle.walrus_parts.specs.declared.error.Error.{Error}
-use Rattle.walrus_parts.specs.declared.error.Error.TheVariants as error
+use Rattle.walrus_theorem.specs.Chain.{Leaves}
+use Rattle.walrus_theorem.specs.Refused.{PassesLimits}
+use Rattle.walrus_theorem.specs.WellMade.{IsWellMade}
+use Rattle.walrus_theorem.proofs.WellStays.{collected_well}
+use Rattle.walrus_items.specs.declared.custom.CustomSection.{Ghosts}
+use Rattle.walrus_items.specs.declared.error.Error.{Error}
+use Rattle.walrus_items.specs.declared.error.Error.TheVariants as error
 use Rattle.walrus_module.specs.Answered.{IsWellWritten, WritesUnless}
 use Rattle.walrus_module.specs.Asked.{OneAskedMayRefuse, OneMayRefuse}
 use Rattle.walrus_module.specs.Customs.{sections}
@@ -30,7 +30,7 @@ use Rattle.walrus_module.specs.declared.entry.SectionEntry.{SectionEntry}
 use Rattle.walrus_module.specs.declared.module.Module.{Module}
 use Rattle.walrus.specs.Marked.{ReachesUnsound}
 use Rattle.walrus.specs.Used.{RefusesSearch}
-use Rattle.walrus.proofs.RawStays.{leaves_whole, plain_well}
+use Rattle.walrus_module.proofs.RawStays.{leaves_whole, plain_well}
 use Rattle.walrus_uses.specs.Finding.{IsReady}
 use Rattle.walrus_uses.specs.Listing.{Finishes, LeftOf}
 

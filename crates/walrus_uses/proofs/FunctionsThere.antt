@@ -7,20 +7,20 @@ use Rattle.std.proofs.lemmas.List.FromFn.{length-range_with_len}
 use Rattle.std.proofs.lemmas.Option.{slice_get-get_or, slice_get_within}
 use Rattle.wasm_frames.specs.Record as wire
 use Rattle.walrus_base.specs.Arena.{item_at}
-use Rattle.walrus_types.specs.Operators.{Functions}
-use Rattle.walrus_types.specs.declared.locals.ModuleLocals.{ModuleLocals}
+use Rattle.walrus_base.specs.Operators.{Functions}
+use Rattle.walrus_base.specs.declared.locals.ModuleLocals.{ModuleLocals}
 use Rattle.walrus_model.specs.Abstract.{Function}
-use Rattle.walrus_model.proofs.Standing.{some_of, was_some, zip_left}
+use Rattle.walrus_base.proofs.Standing.{some_of, was_some, zip_left}
 use Rattle.walrus_bodies.specs.declared.features.Features.{Features}
 use Rattle.walrus_code.specs.Indices.{ids_at}
 use Rattle.walrus_code.specs.declared.indices.IndicesToIds.{IndicesToIds}
 use Rattle.walrus_items.specs.Functions.{FunctionValue, functions}
 use Rattle.walrus_contents.specs.declared.parts.Contents.{Contents}
-use Rattle.walrus_contents.proofs.Lookups.{still_some}
-use Rattle.walrus_contents.proofs.Taking.{get_own}
+use Rattle.walrus_base.proofs.Lookups.{still_some}
+use Rattle.walrus_base.proofs.Taking.{get_own}
 use Rattle.walrus_reading.specs.Parsed.{TakenFrom}
 use Rattle.walrus_reading.proofs.AllHeld.{Fits, all_fit}
-use Rattle.walrus_rules.proofs.EditKept.{none_isnt, some_is, some_there}
+use Rattle.walrus_theorem.proofs.EditKept.{none_isnt, some_is, some_there}
 use Rattle.walrus_module.specs.OnParse.{IsNumbered}
 
 -- lists of which all but a part of each thing is the same have things at the same places

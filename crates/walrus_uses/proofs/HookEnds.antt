@@ -7,15 +7,15 @@ use Rattle.walrus_base.specs.Id.{place}
 use Rattle.walrus_code.specs.declared.indices.IndicesToIds.{IndicesToIds}
 use Rattle.walrus_code.specs.declared.location.InstrLocId.{InstrLocId}
 use Rattle.walrus_model.specs.Config.{Config}
-use Rattle.walrus_parts.specs.declared.custom.CustomSection.{Ghosts}
-use Rattle.walrus_parts.specs.declared.error.Error.{Error}
-use Rattle.walrus_parts.specs.declared.error.Error.TheVariants.{Caller, InvalidWasm, Memory, NotFound}
+use Rattle.walrus_items.specs.declared.custom.CustomSection.{Ghosts}
+use Rattle.walrus_items.specs.declared.error.Error.{Error}
+use Rattle.walrus_items.specs.declared.error.Error.TheVariants.{Caller, InvalidWasm, Memory, NotFound}
 use Rattle.walrus_items.specs.Exports.{exports}
 use Rattle.walrus_items.specs.Functions.{functions}
 use Rattle.walrus_contents.specs.declared.parts.Contents.{Contents}
 use Rattle.walrus_reading.specs.Parsed.{RefusesBytes}
-use Rattle.walrus_rules.specs.Features.{features_of}
-use Rattle.walrus_rules.proofs.EditKept.{some_there}
+use Rattle.walrus_theorem.specs.Features.{features_of}
+use Rattle.walrus_theorem.proofs.EditKept.{some_there}
 use Rattle.walrus_module.specs.Flags.{Flags, config_of, defaults}
 use Rattle.walrus_module.specs.OnParse.{Effect, HasRun, IsHanded, RunsHook}
 use Rattle.walrus_module.specs.Settings.{settings}

@@ -4,28 +4,28 @@ use Rattle.walrus_base.specs.Arena.{item_at}
 use Rattle.walrus_base.specs.Id.{place}
 use Rattle.walrus_base.specs.declared.id.Id.{Id}
 use Rattle.walrus_base.specs.declared.keys.FunctionKey.{FunctionKey}
-use Rattle.walrus_types.specs.Operators.{Item, Space, function_item}
+use Rattle.walrus_base.specs.Operators.{Item, Space, function_item}
 use Rattle.walrus_model.specs.Abstract.{Abstract}
 use Rattle.walrus_model.specs.Config.{Config}
 use Rattle.walrus_model.specs.Live.{IsLive}
 use Rattle.walrus_model.specs.Refers.{KeepsToo}
-use Rattle.walrus_parts.specs.declared.custom.CustomSection.{Ghosts}
+use Rattle.walrus_items.specs.declared.custom.CustomSection.{Ghosts}
 use Rattle.walrus_items.specs.Exports.{ExportValue, ModuleExports, exports}
 use Rattle.walrus_items.specs.Functions.{functions}
 use Rattle.walrus_contents.specs.View.{export_of, function}
-use Rattle.walrus_contents.proofs.Lookups.{still_some}
-use Rattle.walrus_rules.specs.EditLaws.{LeadsToLive, StaysWhole}
-use Rattle.walrus_rules.specs.Edits.{GainsExport}
-use Rattle.walrus_rules.specs.WellMade.{IsWellMade}
-use Rattle.walrus_rules.proofs.EditKept.{by_space}
-use Rattle.walrus_rules.proofs.EditTops.{export_gained}
-use Rattle.walrus_rules.proofs.WritableParsed.{parsed_is_well}
+use Rattle.walrus_base.proofs.Lookups.{still_some}
+use Rattle.walrus_theorem.specs.EditLaws.{LeadsToLive, StaysWhole}
+use Rattle.walrus_theorem.specs.Edits.{GainsExport}
+use Rattle.walrus_theorem.specs.WellMade.{IsWellMade}
+use Rattle.walrus_theorem.proofs.EditKept.{by_space}
+use Rattle.walrus_theorem.proofs.EditTops.{export_gained}
+use Rattle.walrus_theorem.proofs.WritableParsed.{parsed_is_well}
 use Rattle.walrus_module.specs.Parsed.{IsParsed}
 use Rattle.walrus_module.specs.View.{contents_of, held_view, view}
 use Rattle.walrus_module.specs.declared.entry.SectionEntry.{SectionEntry}
 use Rattle.walrus_module.specs.declared.module.Module.{Module}
 use Rattle.walrus_module.proofs.EditedExports.{export_added}
-use Rattle.walrus_module.proofs.EditedKeeps.{kept_on}
+use Rattle.walrus_theorem.proofs.EditedKeeps.{kept_on}
 use Rattle.walrus_uses.proofs.ListedReached.{all_lead, keeps_live}
 use Rattle.walrus_uses.proofs.RenameSteps.{no_other}
 use Rattle.walrus_uses.specs.Edited.{IsWhole}

@@ -9,7 +9,6 @@ mod CountTurn
 mod EachMoves
 mod EditEnds
 mod Finishing
-mod FirstRaw
 mod FunctionsThere
 mod HookEnds
 mod HookSteps
@@ -18,16 +17,13 @@ mod ListedBytes
 mod ListedEnds
 mod ListedReached
 mod ListedWritten
-mod Looked
 mod Matched
 mod MetadataEnds
-mod MoreNames
 mod MovesEnds
 mod MovesOnce
 mod MovesRuns
 mod MovesTrue
 mod OneNumber
-mod OwnOps
 mod PlacedEnds
 mod PlacedOps
 mod PlacedSlots

@@ -3,9 +3,9 @@ use Rattle.std.proofs.Common.{◌≡◌, ℕ, ◌<◌, ◌^◌, List, [], ◌∷
 use Rattle.std.specs.Prelude.{Contains, Option, Err}
 use Rattle.std.proofs.lemmas.Grind.{flat_map-append}
 use Rattle.std.proofs.lemmas.List.{append-nil, append_assoc}
-use Rattle.walrus_model.proofs.Lists.{Contains-head, Contains-none, Contains-tail, Contains-uncons}
-use Rattle.walrus_rules.proofs.StepHandlers.{Contains-split}
-use Rattle.walrus_parts.specs.declared.error.Error.{Error}
+use Rattle.walrus_base.proofs.Lists.{Contains-head, Contains-none, Contains-tail, Contains-uncons}
+use Rattle.walrus_theorem.proofs.StepHandlers.{Contains-split}
+use Rattle.walrus_items.specs.declared.error.Error.{Error}
 use Rattle.walrus_items.specs.Functions.{FunctionValue}
 use Rattle.walrus_uses.specs.Finding.{BeginsWith, FindsFirst, FindsListed, IsThere}
 use Rattle.walrus.specs.Listed.{index_bytes, list_bytes}

@@ -5,27 +5,27 @@ use Rattle.std.specs.Global.{Vec}
 use Rattle.std.specs.String.{string_bytes}
 use Rattle.std.proofs.lemmas.List.{map-append}
 use Rattle.walrus_base.specs.Arena.{item_at, items}
-use Rattle.walrus_types.specs.Operators.{Functions, Item, function_item}
+use Rattle.walrus_base.specs.Operators.{Functions, Item, function_item}
 use Rattle.walrus_model.specs.Abstract.{Abstract, Custom}
 use Rattle.walrus_model.specs.Config.{Config}
 use Rattle.walrus_model.specs.Live.{IsLive}
 use Rattle.walrus_model.specs.Pipeline.{ReachedIsLive}
-use Rattle.walrus_model.proofs.Lists.{Contains-append_1, Contains-append_2, Contains-head, Contains-none, Contains-tail, Contains-uncons}
+use Rattle.walrus_base.proofs.Lists.{Contains-append_1, Contains-append_2, Contains-head, Contains-none, Contains-tail, Contains-uncons}
 use Rattle.walrus_model.proofs.PipelineOps.{from_map}
-use Rattle.walrus_model.proofs.Standing.{was_some}
-use Rattle.walrus_rules.specs.WellMade.{IsWellMade}
-use Rattle.walrus_rules.proofs.SameItems.{with_own}
-use Rattle.walrus_rules.proofs.StepHandlers.{Contains-split}
-use Rattle.walrus_rules.proofs.StepParsed.{live_v}
-use Rattle.walrus_rules.proofs.StepRead.{read_is_plain}
-use Rattle.walrus_rules.proofs.WritableParsed.{parsed_is_well}
-use Rattle.walrus_parts.specs.declared.custom.CustomSection.{Ghosts}
-use Rattle.walrus_parts.specs.declared.error.Error.{Error}
-use Rattle.walrus_parts.specs.declared.error.Error.TheVariants as error
-use Rattle.walrus_parts.specs.declared.raw_section.RawCustomSection.{RawCustomSection}
+use Rattle.walrus_base.proofs.Standing.{was_some}
+use Rattle.walrus_theorem.specs.WellMade.{IsWellMade}
+use Rattle.walrus_theorem.proofs.SameItems.{with_own}
+use Rattle.walrus_theorem.proofs.StepHandlers.{Contains-split}
+use Rattle.walrus_theorem.proofs.StepParsed.{live_v}
+use Rattle.walrus_theorem.proofs.StepRead.{read_is_plain}
+use Rattle.walrus_theorem.proofs.WritableParsed.{parsed_is_well}
+use Rattle.walrus_items.specs.declared.custom.CustomSection.{Ghosts}
+use Rattle.walrus_items.specs.declared.error.Error.{Error}
+use Rattle.walrus_items.specs.declared.error.Error.TheVariants as error
+use Rattle.walrus_items.specs.declared.raw_section.RawCustomSection.{RawCustomSection}
 use Rattle.walrus_items.specs.Functions.{FunctionValue, functions}
 use Rattle.walrus_contents.specs.View.{function}
-use Rattle.walrus_contents.proofs.Lookups.{still_some}
+use Rattle.walrus_base.proofs.Lookups.{still_some}
 use Rattle.walrus_module.specs.Asked.{OneMayRefuse}
 use Rattle.walrus_module.specs.Customs.{sections}
 use Rattle.walrus_module.specs.Entry.{raw_of}
@@ -40,7 +40,7 @@ use Rattle.walrus_module.specs.declared.entry.SectionEntry.{SectionEntry}
 use Rattle.walrus_module.specs.declared.entry.SectionEntry.TheVariants.{Raw}
 use Rattle.walrus_module.specs.declared.module.Module.{Module}
 use Rattle.walrus_module.proofs.KeptRaw.{none_refuses, raw_means}
-use Rattle.walrus_uses.proofs.FirstRaw.{FoundRaw, IsFirstRaw, found, gone_at, mean_left}
+use Rattle.walrus_module.proofs.FirstRaw.{FoundRaw, IsFirstRaw, found, gone_at, mean_left}
 use Rattle.walrus_uses.proofs.ListedReached.{listed_made, reached_there}
 use Rattle.walrus_uses.proofs.ListedWritten.{lists_again}
 use Rattle.walrus_uses.specs.Finding.{FindsListed, IsReady, IsThere}

@@ -1,22 +1,21 @@
 -- A module that was parsed, with functions more that sections ask to keep: what is reached is there.
 use Rattle.std.proofs.Common.{ℕ, List, refl, sym, ap, ◌∙◌, subst, inl, inr}
 use Rattle.std.specs.Prelude.{Contains, IsTrue, is_some}
-use Rattle.walrus_types.specs.Operators.{Types, Functions, Tables, Memories, Tags, Globals, Elements, DataSegments, Item}
+use Rattle.walrus_base.specs.Operators.{Types, Functions, Tables, Memories, Tags, Globals, Elements, DataSegments, Item}
 use Rattle.walrus_model.specs.Abstract.{Abstract, Custom}
 use Rattle.walrus_model.specs.Config.{Config}
 use Rattle.walrus_model.specs.Live.{IsLive}
 use Rattle.walrus_model.specs.Pipeline.{ReachedIsLive}
 use Rattle.walrus_model.specs.Refers.{KeepsToo}
-use Rattle.walrus_rules.specs.EditLaws.{LeadsToLive, StaysWhole, further, itself}
-use Rattle.walrus_rules.specs.Sound.{IsFreeName}
-use Rattle.walrus_rules.specs.WellMade.{IsWellMade}
-use Rattle.walrus_rules.proofs.EditTops.{customs_stay}
-use Rattle.walrus_rules.proofs.SameItems.{live_on, with_own}
-use Rattle.walrus_rules.proofs.SameItems.{live_back as live_back_own}
-use Rattle.walrus_rules.proofs.StepParsed.{live_back, live_forth, live_v, places_of}
-use Rattle.walrus_rules.proofs.StepRead.{read_is_plain}
+use Rattle.walrus_theorem.specs.EditLaws.{LeadsToLive, StaysWhole, further, itself}
+use Rattle.walrus_theorem.specs.Sound.{IsFreeName}
+use Rattle.walrus_theorem.specs.WellMade.{IsWellMade}
+use Rattle.walrus_theorem.proofs.EditTops.{customs_stay}
+use Rattle.walrus_theorem.proofs.SameItems.{live_on, with_own, live_back as live_back_own}
+use Rattle.walrus_theorem.proofs.StepParsed.{live_back, live_forth, live_v, places_of}
+use Rattle.walrus_theorem.proofs.StepRead.{read_is_plain}
 use Rattle.walrus_module.specs.Parsed.{IsParsed}
-use Rattle.walrus_module.proofs.EditedKeeps.{kept_on}
+use Rattle.walrus_theorem.proofs.EditedKeeps.{kept_on}
 
 -- where what items keep is there, all that is there leads to what is there
 module _ (c : Config) (m : Abstract) (made : IsWellMade c m) (keeps : (x y : Item) → IsLive m x → KeepsToo m x y → IsLive m y) where

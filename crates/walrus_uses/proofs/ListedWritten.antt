@@ -1,7 +1,7 @@
 -- The functions that a section lists stay, and it lists them in the output by their new indices.
 use Rattle.std.proofs.Common.{◌≡◌, ℕ, List, [], ◌∷◌, ◌++◌, map, flat_map, refl, sym, ap, ap₂, ◌∙◌, subst, inl}
 use Rattle.std.specs.Prelude.{Contains, Option, Some, IsSome}
-use Rattle.walrus_types.specs.Operators.{Functions, Item, function_item}
+use Rattle.walrus_base.specs.Operators.{Functions, Item, function_item}
 use Rattle.walrus_model.specs.Abstract.{Abstract, Custom, Indices}
 use Rattle.walrus_model.specs.Config.{Config}
 use Rattle.walrus_model.specs.Customs.{fixed, written_customs}
@@ -10,8 +10,8 @@ use Rattle.walrus_model.specs.Live.{IsLive}
 use Rattle.walrus_model.specs.Pipeline.{ReachedIsLive}
 use Rattle.walrus_model.specs.Reached.{root}
 use Rattle.walrus_model.specs.Roots.{asked_for}
-use Rattle.walrus_model.proofs.Lists.{Contains-head, Contains-map, Contains-tail}
-use Rattle.walrus_rules.proofs.StepLeaves.{between}
+use Rattle.walrus_base.proofs.Lists.{Contains-head, Contains-map, Contains-tail}
+use Rattle.walrus_theorem.proofs.StepLeaves.{between}
 use Rattle.walrus_uses.proofs.Sections.{stands_among}
 use Rattle.walrus.specs.Listed.{found_bytes, list_bytes}
 use Rattle.walrus_uses.specs.Listed.{HasListing, listing}

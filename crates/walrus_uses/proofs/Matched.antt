@@ -3,33 +3,32 @@ use Rattle.std.proofs.Common.{◌≡◌, ℕ, Bool, true, false, cond, List, [],
 use Rattle.std.specs.Prelude.{Contains, ◌⊎◌}
 use Rattle.walrus_base.specs.Arena.{entries, item_at}
 use Rattle.walrus_base.specs.Id.{place}
-use Rattle.walrus_types.specs.ModuleTypes.{type_slots}
-use Rattle.walrus_types.specs.Operators.{Functions, Item, function_item}
-use Rattle.walrus_types.specs.TypeDef.{TypeDef}
-use Rattle.walrus_types.specs.declared.locals.ModuleLocals.{ModuleLocals}
+use Rattle.walrus_base.specs.ModuleTypes.{type_slots}
+use Rattle.walrus_base.specs.Operators.{Functions, Item, function_item}
+use Rattle.walrus_base.specs.TypeDef.{TypeDef}
+use Rattle.walrus_base.specs.declared.locals.ModuleLocals.{ModuleLocals}
 use Rattle.walrus_model.specs.Abstract as abstract
 use Rattle.walrus_model.specs.Config.{Config}
-use Rattle.walrus_model.specs.WellMade.{import_in, kind_import}
-use Rattle.walrus_model.specs.WellMade.{import_of as import_of_item}
-use Rattle.walrus_parts.specs.FunctionKinds.{kind_type}
-use Rattle.walrus_parts.specs.Kinds.{imported}
-use Rattle.walrus_parts.specs.declared.function_kind.FunctionKind.{FunctionKind}
-use Rattle.walrus_parts.specs.declared.function_kind.FunctionKind.TheVariants.{Import, Local, Uninitialized}
-use Rattle.walrus_parts.specs.declared.function_kind.ImportedFunction.{ImportedFunction}
-use Rattle.walrus_parts.proofs.ItemLemmas.{is_item-same, same-is_item}
+use Rattle.walrus_model.specs.WellMade.{import_in, kind_import, import_of as import_of_item}
+use Rattle.walrus_items.specs.FunctionKinds.{kind_type}
+use Rattle.walrus_items.specs.Kinds.{imported}
+use Rattle.walrus_items.specs.declared.function_kind.FunctionKind.{FunctionKind}
+use Rattle.walrus_items.specs.declared.function_kind.FunctionKind.TheVariants.{Import, Local, Uninitialized}
+use Rattle.walrus_items.specs.declared.function_kind.ImportedFunction.{ImportedFunction}
+use Rattle.walrus_items.proofs.ItemLemmas.{is_item-same, same-is_item}
 use Rattle.walrus_items.specs.Functions.{FunctionValue, functions}
 use Rattle.walrus_items.specs.Imports.{ImportValue, imports, imports_item}
 use Rattle.walrus_items.specs.Searches.{first}
-use Rattle.walrus_items.proofs.Found.{found-item, found-passes}
+use Rattle.walrus_base.proofs.SearchFound.{found-item, found-passes}
 use Rattle.walrus_contents.specs.View.{contents_view, function, import_of, kind_of}
 use Rattle.walrus_contents.specs.declared.parts.Contents.{Contents}
-use Rattle.walrus_contents.proofs.Slots.{entry_in}
-use Rattle.walrus_rules.specs.WellMade.{IsWellMade}
-use Rattle.walrus_model.proofs.Lists.{Contains-none, Contains-uncons}
-use Rattle.walrus_model.proofs.Shapes.{made_of}
+use Rattle.walrus_model.proofs.Slots.{entry_in}
+use Rattle.walrus_theorem.specs.WellMade.{IsWellMade}
+use Rattle.walrus_base.proofs.Lists.{Contains-none, Contains-uncons}
 use Rattle.walrus_uses.proofs.StubTurn.{Theirs}
-use Rattle.walrus_rules.proofs.EditKept.{none_isnt, some_is}
+use Rattle.walrus_theorem.proofs.EditKept.{none_isnt, some_is}
 use Rattle.walrus_uses.specs.Stub.{import_place}
+use Rattle.walrus_base.proofs.ShapesKept.{made_of}
 
 -- a search that finds nothing passes over nothing
 pub finds : {X : Type 0} (p : X → Bool) (xs : List X) (x : X) → Contains xs x → p x ≡ true → find p xs ≡ None → ⊥

@@ -1,5 +1,5 @@
 -- What was parsed, given a raw section more, then written or refused: what the whole way comes to.
-use Rattle.std.proofs.Common.{◌≡◌, ℕ, Bool, true, false, List, [], ◌∷◌, ◌++◌, append-nil, Some, refl, sym, ap, ap₂, ◌∙◌, subst}
+use Rattle.std.proofs.Common.{◌≡◌, ℕ, false, List, [], ◌∷◌, ◌++◌, append-nil, Some, refl, sym, ap, ap₂, ◌∙◌, subst}
 use Rattle.std.specs.Prelude.{Contains, Result, Ok, Err, codes, ◌≢◌, ◌||◌, bytes_eq}
 use Rattle.std.specs.Global.{Vec}
 use Rattle.std.specs.String.{string_bytes}
@@ -8,20 +8,20 @@ use Rattle.walrus_model.specs.Abstract.{Abstract, Custom}
 use Rattle.walrus_model.specs.Config.{Config}
 use Rattle.walrus_model.specs.Customs.{is_debug_name}
 use Rattle.walrus_model.specs.Sections.{is_apart}
-use Rattle.walrus_model.proofs.Lists.{Contains-append_2, Contains-head}
-use Rattle.walrus_rules.specs.Chain.{Leaves}
-use Rattle.walrus_rules.specs.Edits.{GainsCustom}
-use Rattle.walrus_rules.specs.Refused.{PassesLimits}
-use Rattle.walrus_rules.specs.Sound.{IsFreeName}
-use Rattle.walrus_rules.specs.WellMade.{IsWellMade}
-use Rattle.walrus_rules.proofs.EditTops.{custom_gained}
-use Rattle.walrus_rules.proofs.SameItems.{with_own}
-use Rattle.walrus_rules.proofs.StepLeaves.{between}
-use Rattle.walrus_rules.proofs.WritableParsed.{parsed_is_well}
-use Rattle.walrus_parts.specs.declared.custom.CustomSection.{Ghosts}
-use Rattle.walrus_parts.specs.declared.error.Error.{Error}
-use Rattle.walrus_parts.specs.declared.error.Error.TheVariants as error
-use Rattle.walrus_parts.specs.declared.raw_section.RawCustomSection.{RawCustomSection}
+use Rattle.walrus_base.proofs.Lists.{Contains-append_2, Contains-head}
+use Rattle.walrus_theorem.specs.Chain.{Leaves}
+use Rattle.walrus_theorem.specs.Edits.{GainsCustom}
+use Rattle.walrus_theorem.specs.Refused.{PassesLimits}
+use Rattle.walrus_theorem.specs.Sound.{IsFreeName}
+use Rattle.walrus_theorem.specs.WellMade.{IsWellMade}
+use Rattle.walrus_theorem.proofs.EditTops.{custom_gained}
+use Rattle.walrus_theorem.proofs.SameItems.{with_own}
+use Rattle.walrus_theorem.proofs.StepLeaves.{between}
+use Rattle.walrus_theorem.proofs.WritableParsed.{parsed_is_well}
+use Rattle.walrus_items.specs.declared.custom.CustomSection.{Ghosts}
+use Rattle.walrus_items.specs.declared.error.Error.{Error}
+use Rattle.walrus_items.specs.declared.error.Error.TheVariants as error
+use Rattle.walrus_items.specs.declared.raw_section.RawCustomSection.{RawCustomSection}
 use Rattle.walrus_module.specs.Answered.{IsWellWritten, WritesUnless}
 use Rattle.walrus_module.specs.Asked.{OneAskedMayRefuse}
 use Rattle.walrus_module.specs.Customs.{sections}
@@ -38,16 +38,13 @@ use Rattle.walrus_module.specs.declared.entry.SectionEntry.TheVariants.{Raw}
 use Rattle.walrus_module.specs.declared.module.Module.{Module}
 use Rattle.walrus_module.proofs.EditedCustoms.{custom_added}
 use Rattle.walrus_module.proofs.KeptRaw.{none_asked_refuses}
-use Rattle.walrus.proofs.RawStays.{all_raw, leaves_whole, plain_well}
-use Rattle.walrus_uses.proofs.Looked.{differs}
+use Rattle.walrus_module.proofs.RawStays.{all_raw, leaves_whole, plain_well}
+use Rattle.walrus_model.proofs.Looked.{differs}
 use Rattle.walrus_uses.proofs.Sections.{is_written}
 use Rattle.walrus_uses.specs.Metadata.{CarriesMetadata, GainsSection, section_of, with_section}
+use Rattle.std.proofs.lemmas.Bool.{or_parts as or_left}
 
 -- ---- names
-
-pub or_left : (a b : Bool) → (a || b) ≡ false → (a ≡ false) × (b ≡ false)
-or_left true b h = absurd (let no_such : true ≡ false = h in cc)
-or_left false b h = (refl, h)
 
 module _ (name : List ℕ) (free : is_apart name ≡ false) where
   abbrev parts : (bytes_eq name (codes "name") ≡ false) × ((bytes_eq name (codes "producers") || is_debug_name name) ≡ false)

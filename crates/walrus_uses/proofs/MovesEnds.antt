@@ -6,7 +6,7 @@ use Rattle.wasm_frames.specs.Record as wire
 use Rattle.wasm_frames.specs.Frames.{Frames}
 use Rattle.wasm_frames.proofs.Modules.{one_record_lem}
 use Rattle.walrus_base.specs.Arena.{item_at}
-use Rattle.walrus_types.specs.declared.locals.ModuleLocals.{ModuleLocals}
+use Rattle.walrus_base.specs.declared.locals.ModuleLocals.{ModuleLocals}
 use Rattle.walrus_code.specs.Location.{location, location_at}
 use Rattle.walrus_code.specs.Transform.{Transform}
 use Rattle.walrus_items.specs.Function.{locations_of as locations_in_body}
@@ -15,15 +15,15 @@ use Rattle.walrus_model.specs.Names.{body_of_function}
 use Rattle.walrus_model.specs.Pipeline.{Collected}
 use Rattle.walrus_model.specs.Sections.{imported, imported_function}
 use Rattle.walrus_model.specs.Transform.{IsLocalFunction}
-use Rattle.walrus_model.proofs.Standing.{got_in, some_inj, zip_right}
-use Rattle.walrus_rules.specs.Chain.{Leaves}
-use Rattle.walrus_rules.specs.Refused.{HasNoCause, IsSayable, RefusesToWrite}
-use Rattle.walrus_rules.proofs.FitsTold.{ok_fits}
-use Rattle.walrus_rules.proofs.Runs.{runs_fine}
-use Rattle.walrus_rules.proofs.WrittenReads.{written_reads}
+use Rattle.walrus_base.proofs.Standing.{got_in, some_inj, zip_right}
+use Rattle.walrus_theorem.specs.Chain.{Leaves}
+use Rattle.walrus_theorem.specs.Refused.{HasNoCause, IsSayable, RefusesToWrite}
+use Rattle.walrus_theorem.proofs.FitsTold.{ok_fits}
+use Rattle.walrus_theorem.proofs.Runs.{runs_fine}
+use Rattle.walrus_theorem.proofs.WrittenReads.{written_reads}
 use Rattle.walrus_items.specs.Functions.{FunctionValue, functions, local_at}
-use Rattle.walrus_parts.specs.declared.custom.CustomSection.{Ghosts}
-use Rattle.walrus_parts.specs.declared.function_kind.FunctionKind.{FunctionKind}
+use Rattle.walrus_items.specs.declared.custom.CustomSection.{Ghosts}
+use Rattle.walrus_items.specs.declared.function_kind.FunctionKind.{FunctionKind}
 use Rattle.walrus_contents.specs.View.{function}
 use Rattle.walrus_reading.specs.Parsed.{AreLocated}
 use Rattle.walrus_reading.specs.Taken.{AreLocatedIn, IsLocated}

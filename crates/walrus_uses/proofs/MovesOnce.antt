@@ -3,18 +3,18 @@ use Rattle.std.proofs.Common.{◌≡◌, ℕ, List, sym, ap, ◌∙◌, subst}
 use Rattle.std.specs.Prelude.{Contains, Some, slice_get}
 use Rattle.wasm_frames.specs.Record as wire
 use Rattle.wasm_frames.proofs.Modules.{one_record_lem}
-use Rattle.walrus_types.specs.Operators.{Functions, Op}
+use Rattle.walrus_base.specs.Operators.{Functions, Op}
 use Rattle.walrus_model.specs.Abstract.{Abstract, Body}
 use Rattle.walrus_model.specs.Config.{Config}
 use Rattle.walrus_model.specs.Kept.{Kept}
 use Rattle.walrus_model.specs.Names.{body_of}
 use Rattle.walrus_model.specs.Renaming.{Renaming, renamed_op, renamed_ops}
-use Rattle.walrus_model.proofs.Standing.{some_inj}
-use Rattle.walrus_rules.specs.Headline.{ComesTo, ReadsModule}
-use Rattle.walrus_rules.proofs.ReadsOnce.{reads_once_lem}
-use Rattle.walrus_writing.proofs.RisingLists.{same_members}
+use Rattle.walrus_base.proofs.Standing.{some_inj}
+use Rattle.walrus_theorem.specs.Headline.{ComesTo, ReadsModule}
+use Rattle.walrus_theorem.proofs.ReadsOnce.{reads_once_lem}
+use Rattle.walrus_model.proofs.RisingLists.{same_members}
 use Rattle.walrus_uses.specs.Moves.{Moves, MovesOnce, OperatorStands, TellsMoves}
-use Rattle.walrus_uses.proofs.Looked.{map_at}
+use Rattle.walrus_model.proofs.Looked.{map_at}
 use Rattle.walrus_uses.proofs.OneNumber.{Numbers, comes_out, numbers_one, out_numbers}
 use Rattle.walrus_uses.proofs.ReadBodies.{has_function, op_stands}
 

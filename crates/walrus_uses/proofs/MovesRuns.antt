@@ -4,11 +4,11 @@ use Rattle.std.specs.Prelude.{IfOk, IsErrAnd, Option, None, Result, Err}
 use Rattle.walrus_items.specs.Functions.{ModuleFunctions}
 use Rattle.walrus_model.specs.Config.{Config}
 use Rattle.walrus_model.specs.Pipeline.{Collected}
-use Rattle.walrus_rules.specs.Refused.{RefusesToWrite}
-use Rattle.walrus_parts.specs.declared.custom.CustomSection.{Ghosts}
-use Rattle.walrus_parts.specs.declared.error.Error.{Error}
-use Rattle.walrus_parts.specs.declared.error.Error.TheVariants as error
-use Rattle.walrus_parts.specs.declared.raw_section.RawCustomSection.{RawCustomSection}
+use Rattle.walrus_theorem.specs.Refused.{RefusesToWrite}
+use Rattle.walrus_items.specs.declared.custom.CustomSection.{Ghosts}
+use Rattle.walrus_items.specs.declared.error.Error.{Error}
+use Rattle.walrus_items.specs.declared.error.Error.TheVariants as error
+use Rattle.walrus_items.specs.declared.raw_section.RawCustomSection.{RawCustomSection}
 use Rattle.walrus_module.specs.Asked.{OneMayRefuse}
 use Rattle.walrus_module.specs.Customs.{sections}
 use Rattle.walrus_module.specs.Emitted.{IsEmitted, told}
@@ -28,7 +28,7 @@ use Rattle.walrus.specs.Headline.{RunsOn}
 use Rattle.walrus.specs.Marked.{ReachesUnsound}
 use Rattle.walrus.specs.Used.{RefusesSearch}
 use Rattle.walrus.proofs.HeadlineLemmas.{answers_gc, answers_kept}
-use Rattle.walrus.proofs.RawStays.{leaves_whole, none_refuses_then}
+use Rattle.walrus_module.proofs.RawStays.{leaves_whole, none_refuses_then}
 
 -- ---- the configuration
 

@@ -3,7 +3,7 @@ use Rattle.std.proofs.Common.{◌≡◌, inl, inr, ℕ, ◌+◌, ◌-◌, ◌^�
 use Rattle.std.specs.Prelude.{Option, Some, None, IsSome, is_some, Contains, AllPairs, slice_get}
 use Rattle.wasm_frames.specs.Record as wire
 use Rattle.wasm_frames.proofs.Modules.{one_record_lem}
-use Rattle.walrus_types.specs.Operators.{Functions, Op}
+use Rattle.walrus_base.specs.Operators.{Functions, Op}
 use Rattle.walrus_code.specs.FromRaw.{op_of}
 use Rattle.walrus_code.specs.Location.{location_at}
 use Rattle.walrus_code.specs.Transform.{Transform}
@@ -14,16 +14,16 @@ use Rattle.walrus_model.specs.Pipeline.{Collected}
 use Rattle.walrus_model.specs.Renaming.{Renaming, renamed_op, renamed_ops}
 use Rattle.walrus_model.specs.Rules.{Holds}
 use Rattle.walrus_model.specs.Transform.{IsBodyOf, IsLocalFunction, IsPlaceOf, TrueOf}
-use Rattle.walrus_model.proofs.Lists.{Contains-none}
-use Rattle.walrus_model.proofs.Standing.{got_where, some_inj}
-use Rattle.walrus_rules.specs.Chain.{Leaves, ParsedAs}
-use Rattle.walrus_rules.specs.Headline.{ComesTo, ReadsModule}
-use Rattle.walrus_rules.proofs.StepRead.{steps_come_out_lem}
+use Rattle.walrus_base.proofs.Lists.{Contains-none}
+use Rattle.walrus_base.proofs.Standing.{got_where, some_inj}
+use Rattle.walrus_theorem.specs.Chain.{Leaves, ParsedAs}
+use Rattle.walrus_theorem.specs.Headline.{ComesTo, ReadsModule}
+use Rattle.walrus_theorem.proofs.StepRead.{steps_come_out_lem}
 use Rattle.walrus_writing.specs.Transform.{CountStandsAt, IsTransformOf, OperatorsStandAt, imported_functions}
 use Rattle.walrus_uses.specs.Moves.{Moves, StandsIn, TellsMoves}
 use Rattle.walrus_uses.proofs.BodiesRise.{one_body}
 use Rattle.walrus_uses.proofs.EachMoves.{each_moves}
-use Rattle.walrus_uses.proofs.Looked.{at_map, got_contains, map_at}
+use Rattle.walrus_model.proofs.Looked.{at_map, got_contains, map_at}
 use Rattle.walrus_uses.proofs.OneNumber.{Stays, comes_out, one_number, out_numbers, stays_back, stays_on}
 use Rattle.walrus_uses.proofs.PlacedOps.{RowIn, Text, fits_place, in_row, one_op, real_place, stands_in, text_there, written_in}
 use Rattle.walrus_uses.proofs.ReadBodies.{HasBytes, has_bytes, has_function, ops_stand}

@@ -2,7 +2,7 @@
 use Rattle.std.proofs.Common.{◌≡◌, inl, inr, ◌⊎◌, ℕ, ◌+◌, ◌<◌, ◌≤◌, List, length, refl, sym, ap, ◌∙◌, subst, arith, ⊎_elim}
 use Rattle.std.proofs.lemmas.List.{length-map}
 use Rattle.std.specs.Prelude.{Option, Some, None, IsSome, is_some, option_map}
-use Rattle.walrus_types.specs.Operators.{Functions}
+use Rattle.walrus_base.specs.Operators.{Functions}
 use Rattle.walrus_model.specs.Abstract.{Abstract, Body, Function, FunctionKind, ImportedFunction, LocalFunction, Uninitialised}
 use Rattle.walrus_model.specs.Config.{Config}
 use Rattle.walrus_model.specs.Kept.{Kept}
@@ -13,17 +13,18 @@ use Rattle.walrus_model.specs.Pipeline.{Collected}
 use Rattle.walrus_model.specs.Renaming.{Renaming, renamed_op, renamed_ops}
 use Rattle.walrus_model.specs.Rules.{Holds}
 use Rattle.walrus_model.specs.Same.{BothAnd, SameBody, SameFunction}
-use Rattle.walrus_model.proofs.PipelineOps.{kind_body_back, kind_body_on}
-use Rattle.walrus_model.proofs.Standing.{some_inj}
-use Rattle.walrus_rules.specs.Chain.{Leaves, ParsedAs}
-use Rattle.walrus_rules.specs.Headline.{ReadsModule}
-use Rattle.walrus_rules.specs.Pinned.{IsWrittenAs}
-use Rattle.walrus_rules.proofs.Agree.{Compared, Ordered, agree, compared}
-use Rattle.walrus_rules.proofs.StepLeaves.{between}
-use Rattle.walrus_rules.proofs.StepParsed.{kept_back, kept_on, live_back}
-use Rattle.walrus_rules.proofs.StepRead.{read_is_plain}
+use Rattle.walrus_model.proofs.PipelineOps.{kind_body_back, kind_body_on, larger_stays as same_sizes}
+use Rattle.walrus_base.proofs.Standing.{some_inj}
+use Rattle.walrus_theorem.specs.Chain.{Leaves, ParsedAs}
+use Rattle.walrus_theorem.specs.Headline.{ReadsModule}
+use Rattle.walrus_theorem.specs.Pinned.{IsWrittenAs}
+use Rattle.walrus_base.proofs.Agree.{Ordered, agree, compared}
+use Rattle.walrus_theorem.proofs.StepLeaves.{between}
+use Rattle.walrus_theorem.proofs.StepParsed.{kept_back, kept_on, live_back}
+use Rattle.walrus_theorem.proofs.StepRead.{read_is_plain}
 use Rattle.walrus_writing.specs.Transform.{imported_functions}
 use Rattle.walrus_uses.proofs.ReadBodies.{has_bytes, own_before}
+use Rattle.walrus_theorem.proofs.Numbers.{locals as by_size}
 
 -- ---- bodies under a renaming
 
@@ -50,16 +51,6 @@ module _ (r : Renaming) (f : ℕ) where
 
 abbrev kind_of : Option Function → Option FunctionKind
 kind_of o = option_map (λ f. f.kind) o
-
-by_size : (i j : ℕ) (a b : Body) → Compared (size a) (size b) → LargerFirst i j a b ⊎ ((i ≡ j) ⊎ LargerFirst j i b a)
-by_size i j a b (inl h) = inr (inr (inl h))
-by_size i j a b (inr (inl h)) = by (compared i j)
-  where
-    by : Compared i j → LargerFirst i j a b ⊎ ((i ≡ j) ⊎ LargerFirst j i b a)
-    by (inl k) = inl (inr (h, k))
-    by (inr (inl k)) = inr (inl k)
-    by (inr (inr k)) = inr (inr (inr (sym h, k)))
-by_size i j a b (inr (inr h)) = inl (inl h)
 
 -- the order of two functions with these bodies, in a module of indices and in memory
 module _ (i j : ℕ) (a b : Body) where
@@ -98,10 +89,6 @@ module _ (i j : ℕ) (a b : Body) where
       kinds Uninitialised l g k = absurd (cc)
   by_import (Some x) None e f h = absurd (cc)
   by_import None p e f h = absurd (cc)
-
-same_sizes : (i j : ℕ) (a b c d : Body) → size c ≡ size a → size d ≡ size b → LargerFirst i j a b → LargerFirst i j c d
-same_sizes i j a b c d e f (inl h) = inl (omega (arith, e, f, h))
-same_sizes i j a b c d e f (inr h) = inr (e ∙ h.0 ∙ sym f, h.1)
 
 -- ---- what a renaming says of functions
 

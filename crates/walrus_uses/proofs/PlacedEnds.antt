@@ -5,35 +5,35 @@ use Rattle.std.specs.Global.{Vec}
 use Rattle.std.proofs.lemmas.List.{map-append}
 use Rattle.walrus_base.specs.Arena.{items}
 use Rattle.walrus_code.specs.Transform.{Transform}
-use Rattle.walrus_types.specs.Operators.{Item}
+use Rattle.walrus_base.specs.Operators.{Item}
 use Rattle.walrus_model.specs.Abstract.{Abstract, Custom}
 use Rattle.walrus_model.specs.Config.{Config}
 use Rattle.walrus_model.specs.Sections.{is_apart}
-use Rattle.walrus_model.proofs.Lists.{Contains-append_2, Contains-head, Contains-none, Contains-uncons}
+use Rattle.walrus_base.proofs.Lists.{Contains-append_2, Contains-head, Contains-none, Contains-uncons}
 use Rattle.walrus_model.proofs.PipelineOps.{from_map}
-use Rattle.walrus_rules.specs.Chain.{Leaves}
-use Rattle.walrus_rules.specs.Edits.{GainsCustom}
-use Rattle.walrus_rules.specs.Refused.{IsSayable, PassesLimits}
-use Rattle.walrus_rules.specs.Sound.{IsFreeName}
-use Rattle.walrus_rules.specs.WellMade.{IsWellMade}
-use Rattle.walrus_rules.proofs.EditTops.{custom_gained}
-use Rattle.walrus_rules.proofs.SameItems.{with_own}
-use Rattle.walrus_rules.proofs.StepHandlers.{Contains-split}
-use Rattle.walrus_rules.proofs.StepLeaves.{between}
-use Rattle.walrus_rules.proofs.WellStays.{leaves_well}
-use Rattle.walrus_rules.proofs.WritableParsed.{parsed_is_well}
+use Rattle.walrus_theorem.specs.Chain.{Leaves}
+use Rattle.walrus_theorem.specs.Edits.{GainsCustom}
+use Rattle.walrus_theorem.specs.Refused.{IsSayable, PassesLimits}
+use Rattle.walrus_theorem.specs.Sound.{IsFreeName}
+use Rattle.walrus_theorem.specs.WellMade.{IsWellMade}
+use Rattle.walrus_theorem.proofs.EditTops.{custom_gained}
+use Rattle.walrus_theorem.proofs.SameItems.{with_own}
+use Rattle.walrus_theorem.proofs.StepHandlers.{Contains-split}
+use Rattle.walrus_theorem.proofs.StepLeaves.{between}
+use Rattle.walrus_theorem.proofs.WellStays.{leaves_well}
+use Rattle.walrus_theorem.proofs.WritableParsed.{parsed_is_well}
 use Rattle.walrus_items.specs.Functions.{ModuleFunctions}
-use Rattle.walrus_parts.specs.declared.custom.CustomSection.{Ghosts}
-use Rattle.walrus_parts.specs.declared.error.Error.{Error}
-use Rattle.walrus_parts.specs.declared.error.Error.TheVariants as error
-use Rattle.walrus_parts.specs.declared.raw_section.RawCustomSection.{RawCustomSection}
+use Rattle.walrus_items.specs.declared.custom.CustomSection.{Ghosts}
+use Rattle.walrus_items.specs.declared.error.Error.{Error}
+use Rattle.walrus_items.specs.declared.error.Error.TheVariants as error
+use Rattle.walrus_items.specs.declared.raw_section.RawCustomSection.{RawCustomSection}
 use Rattle.walrus_writing.specs.Transform.{IsTransformOf}
 use Rattle.walrus_module.specs.Answered.{IsWellWritten, WritesUnless}
 use Rattle.walrus_module.specs.Asked.{OneAskedMayRefuse, is_dylink_name, is_in_turn}
 use Rattle.walrus_module.specs.Customs.{sections}
 use Rattle.walrus_module.specs.Emitted.{told as answer}
 use Rattle.walrus_module.specs.Flags.{Flags, config_of}
-use Rattle.walrus_module.specs.Following.{EachComes, Follows, FollowsBy, LeavesCustoms, MayFollow, OneMayRefuseThen}
+use Rattle.walrus_module.specs.Following.{EachComes, Follows, LeavesCustoms, MayFollow, OneMayRefuseThen}
 use Rattle.walrus_module.specs.Left.{ChangesElements, LeavesBy, but_customs}
 use Rattle.walrus_module.specs.Located.{IsPlace}
 use Rattle.walrus_module.specs.Meaning.{Meaning, meaning, raw_meaning}
@@ -44,7 +44,7 @@ use Rattle.walrus_module.specs.declared.customs.ModuleCustomSections.{ModuleCust
 use Rattle.walrus_module.specs.declared.entry.SectionEntry.{SectionEntry}
 use Rattle.walrus_module.specs.declared.module.Module.{Module}
 use Rattle.walrus_module.proofs.EditedCustoms.{custom_added}
-use Rattle.walrus_module.proofs.EditedSlots.{items_added}
+use Rattle.walrus_reading.proofs.EditedSlots.{items_added}
 use Rattle.walrus_module.proofs.KeptRaw.{raw_means}
 use Rattle.walrus_module.proofs.OwnSections.{leaves_on}
 use Rattle.walrus.specs.Places.{pairs_state, moved_by, last_place}
@@ -55,19 +55,13 @@ use Rattle.walrus_uses.proofs.PlacedSlots.{Behind, SaysPlaces, TypeSaysPlaces, a
 use Rattle.walrus_uses.proofs.Sections.{is_written}
 use Rattle.walrus_uses.specs.Metadata.{section_of, with_section}
 use Rattle.walrus_uses.specs.Placed.{CarriesPlaces, IsWithPlaces, carried, given}
+use Rattle.walrus_module.proofs.FollowedSlots.{by_turn as state_of}
+use Rattle.walrus_module.proofs.WrittenSections.{one_name as name_of}
 
 -- ---- the name
 
 in_second_turn : (name : List ℕ) → is_apart name ≡ false → is_dylink_name name ≡ false → is_in_turn false name ≡ true
 in_second_turn name free own = ap₂ (λ (a b : Bool). not (a || b)) own (no_debug name free)
-
-state_of : (x : Transform) (s t : Meaning) (b : Bool) → b ≡ true → FollowsBy b x s t → t.state ≡ s.state_after x
-state_of x s t true on h = h.1
-state_of x s t false on h = absurd (let no_such : false ≡ true = on in cc)
-
-name_of : (x : Transform) (s t : Meaning) (b : Bool) → FollowsBy b x s t → t.name ≡ s.name
-name_of x s t true h = h.0
-name_of x s t false h = ap (λ (m : Meaning). m.name) h
 
 may_name : (x : Transform) (s t : Meaning) → MayFollow x s t → t.name ≡ s.name
 may_name x s t (inl h) = name_of x s t (is_in_turn false s.name) h

@@ -10,16 +10,16 @@ use Rattle.wasm_frames.specs.Record as wire
 use Rattle.wasm_operators.specs.Operators as operators
 use Rattle.wasm_operators.specs.Forms.{operator}
 use Rattle.wasm_operators.specs.Spelling.{op_bytes}
-use Rattle.walrus_types.specs.Operators.{Op}
+use Rattle.walrus_base.specs.Operators.{Op}
 use Rattle.walrus_code.specs.FromRaw.{op_of}
 use Rattle.walrus_code.specs.Location.{location, location_at}
 use Rattle.walrus_code.specs.declared.location.InstrLocId.{InstrLocId}
 use Rattle.walrus_bodies.specs.Body.{Located, declarations}
 use Rattle.walrus_bodies.specs.BodyRead.{BodyLocated}
 use Rattle.walrus_bodies.specs.Emitting.{AllStand, places_from}
-use Rattle.walrus_model.proofs.Standing.{some_inj}
+use Rattle.walrus_base.proofs.Standing.{some_inj}
 use Rattle.walrus_module.specs.Located.{IsPlace}
-use Rattle.walrus_rules.proofs.Agree.{Compared, compared}
+use Rattle.walrus_base.proofs.Agree.{Compared, compared}
 use Rattle.walrus_writing.specs.Transform.{OperatorsStandAt}
 use Rattle.walrus_uses.specs.Moves.{StandsIn}
 

@@ -5,8 +5,8 @@ use Rattle.std.specs.Prelude.{Option}
 use Rattle.walrus_base.specs.Arena.{item_at}
 use Rattle.walrus_model.specs.Abstract.{Indices}
 use Rattle.walrus_code.specs.Names.{Lookup}
-use Rattle.walrus_parts.specs.declared.custom.CustomSection.{Ghosts}
-use Rattle.walrus_parts.specs.declared.raw_section.RawCustomSection.{RawCustomSection}
+use Rattle.walrus_items.specs.declared.custom.CustomSection.{Ghosts}
+use Rattle.walrus_items.specs.declared.raw_section.RawCustomSection.{RawCustomSection}
 use Rattle.walrus_module.specs.Following.{SameKind, SlotComes}
 use Rattle.walrus_module.specs.Meaning.{Meaning, meaning, meaning_by}
 use Rattle.walrus_module.specs.Raws.{raw_sections}

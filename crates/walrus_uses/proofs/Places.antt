@@ -6,7 +6,7 @@ use Rattle.std.proofs.lemmas.Bool.{cases_lt, lt-ltb, ltb_from_iff}
 use Rattle.walrus_base.specs.Arena.{item_at}
 use Rattle.walrus_items.specs.Imports.{ImportValue}
 use Rattle.walrus_reading.proofs.Carrying.{item_within}
-use Rattle.walrus_rules.proofs.EditSpace.{equal_or}
+use Rattle.walrus_theorem.proofs.EditSpace.{equal_or}
 use Rattle.walrus_uses.specs.Stub.{comes_from, function_from}
 
 not_below : (p n : ℕ) → n ≤ p → nat_lt p n ≡ false

@@ -4,27 +4,26 @@ use Rattle.std.proofs.lemmas.Option.{slice_get_within, slice_get-get_or}
 use Rattle.std.specs.Prelude.{Option, Some, None, slice_get, zip}
 use Rattle.wasm_frames.specs.Record as wire
 use Rattle.walrus_bodies.specs.Body.{BodyReads}
-use Rattle.walrus_contents.proofs.Lookups.{got_both}
-use Rattle.walrus_contents.proofs.TypeLists.{got_either}
+use Rattle.walrus_base.proofs.Lookups.{got_both}
+use Rattle.walrus_model.proofs.TypeLists.{got_either, got_right as behind}
 use Rattle.walrus_model.specs.Abstract.{Abstract, Body, Function}
 use Rattle.walrus_model.specs.Config.{Config}
 use Rattle.walrus_model.specs.Names.{body_of, body_of_function, body_of_kind}
 use Rattle.walrus_model.specs.ReadFunction.{locals_from}
 use Rattle.walrus_model.specs.Reads.{context_with}
 use Rattle.walrus_model.specs.Sections.{Said, imported, imported_function, function_with, functions_of}
-use Rattle.walrus_model.proofs.Standing.{some_inj, zip_left, zip_right}
-use Rattle.walrus_rules.specs.Features.{features_of}
-use Rattle.walrus_rules.specs.Headline.{ReadsBody, ReadsModule}
-use Rattle.walrus_rules.proofs.TextShaped.{all_at}
-use Rattle.walrus_rules.proofs.UsedLocals.{behind}
+use Rattle.walrus_base.proofs.Standing.{some_inj, zip_left, zip_right}
+use Rattle.walrus_theorem.specs.Features.{features_of}
+use Rattle.walrus_theorem.specs.Headline.{ReadsBody, ReadsModule}
+use Rattle.walrus_theorem.proofs.TextShaped.{all_at}
 use Rattle.walrus_reading.proofs.AllHeld.{IsImported, all_imported}
 use Rattle.walrus_writing.specs.Transform.{imported_functions}
 use Rattle.walrus_uses.specs.Moves.{OperatorStands, StandsIn}
-use Rattle.walrus_uses.proofs.Looked.{at_map, map_at, unzipped}
-use Rattle.walrus_uses.proofs.OwnOps.{declared_itself, locals_itself, ops_itself}
+use Rattle.walrus_model.proofs.Looked.{at_map, map_at, unzipped}
+use Rattle.walrus_model.proofs.OwnOps.{declared_itself, locals_itself, ops_itself}
 use Rattle.walrus_uses.proofs.PlacedOps.{RowIn, Text, in_row, row_in, same_texts}
 use Rattle.walrus_code.specs.FromRaw.{op_of}
-use Rattle.walrus_types.specs.Operators.{Op}
+use Rattle.walrus_base.specs.Operators.{Op}
 
 -- ---- a function with its body's bytes
 

@@ -4,20 +4,20 @@ use Rattle.std.specs.Prelude.{Contains, IsSome, Ok, Err, String, string_bytes}
 use Rattle.std.specs.Global.{Vec}
 use Rattle.std.specs.declared.alloc.Global.{Global}
 use Rattle.walrus_base.specs.Arena.{item_at, items}
-use Rattle.walrus_types.specs.Operators.{Item, function_item}
+use Rattle.walrus_base.specs.Operators.{Item, function_item}
 use Rattle.walrus_model.specs.Abstract.{Abstract, Custom}
 use Rattle.walrus_model.specs.Config.{Config}
 use Rattle.walrus_model.specs.Pipeline.{Collected}
-use Rattle.walrus_rules.specs.Chain.{Leaves}
-use Rattle.walrus_rules.specs.Refused.{IsSayable, PassesLimits}
-use Rattle.walrus_rules.specs.WellMade.{IsWellMade}
-use Rattle.walrus_rules.proofs.WellStays.{collected_well}
-use Rattle.walrus_parts.specs.declared.custom.CustomSection.{Ghosts}
-use Rattle.walrus_parts.specs.declared.error.Error.{Error}
-use Rattle.walrus_parts.specs.declared.error.Error.TheVariants as error
-use Rattle.walrus_parts.specs.declared.raw_section.RawCustomSection.{RawCustomSection}
-use Rattle.walrus_parts.specs.Transform.{transform_of}
-use Rattle.walrus_parts.specs.declared.transform.CodeTransform.{CodeTransform}
+use Rattle.walrus_theorem.specs.Chain.{Leaves}
+use Rattle.walrus_theorem.specs.Refused.{IsSayable, PassesLimits}
+use Rattle.walrus_theorem.specs.WellMade.{IsWellMade}
+use Rattle.walrus_theorem.proofs.WellStays.{collected_well}
+use Rattle.walrus_items.specs.declared.custom.CustomSection.{Ghosts}
+use Rattle.walrus_items.specs.declared.error.Error.{Error}
+use Rattle.walrus_items.specs.declared.error.Error.TheVariants as error
+use Rattle.walrus_items.specs.declared.raw_section.RawCustomSection.{RawCustomSection}
+use Rattle.walrus_items.specs.Transform.{transform_of}
+use Rattle.walrus_items.specs.declared.transform.CodeTransform.{CodeTransform}
 use Rattle.walrus_items.specs.Functions.{functions}
 use Rattle.walrus_contents.specs.declared.parts.Contents.{Contents}
 use Rattle.walrus_module.specs.Answered.{IsWellWritten, WritesUnless}

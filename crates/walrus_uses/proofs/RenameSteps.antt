@@ -7,12 +7,12 @@ use Rattle.walrus_model.specs.Abstract.{Export}
 use Rattle.walrus_model.specs.Config.{Config}
 use Rattle.walrus_model.proofs.Reach.{Contains-unmap}
 use Rattle.walrus_items.specs.Exports.{ExportValue, ModuleExports, exports, is_named}
-use Rattle.walrus_items.proofs.Found.{IsFound, found-item}
+use Rattle.walrus_base.proofs.SearchFound.{IsFound, found-item}
 use Rattle.walrus_contents.specs.View.{contents_view, export_of}
 use Rattle.walrus_contents.specs.declared.parts.Contents.{Contents}
-use Rattle.walrus_contents.proofs.Slots.{entry_in, item_seen}
-use Rattle.walrus_rules.proofs.EditKept.{none_isnt}
-use Rattle.walrus_rules.proofs.EditTops.{export_lost, export_renamed}
+use Rattle.walrus_model.proofs.Slots.{entry_in, item_seen}
+use Rattle.walrus_theorem.proofs.EditKept.{none_isnt}
+use Rattle.walrus_theorem.proofs.EditTops.{export_lost, export_renamed}
 use Rattle.walrus_module.specs.View.{contents_of, held_view}
 use Rattle.walrus_module.specs.declared.module.Module.{Module}
 use Rattle.walrus_module.proofs.EditedExports.{export_deleted, export_set}

@@ -3,8 +3,8 @@ use Rattle.std.proofs.Common.{◌≡◌, ℕ, Bool, true, false, List, map, filt
 use Rattle.std.specs.Prelude.{Contains, not, ◌||◌}
 use Rattle.walrus_model.specs.Abstract.{Custom, Indices}
 use Rattle.walrus_model.specs.Customs.{fixed, is_debug_name, is_dylink, no_indices, written_customs}
-use Rattle.walrus_model.proofs.Lists.{Contains-append_1, Contains-append_2, Contains-map}
-use Rattle.walrus_contents.proofs.Filters.{in_filter}
+use Rattle.walrus_base.proofs.Lists.{Contains-append_1, Contains-append_2, Contains-map}
+use Rattle.walrus_base.proofs.Filters.{in_filter}
 use Rattle.walrus_uses.specs.Metadata.{section_of}
 
 -- a section that is no debug information and none of dynamic linking is written under the indices

@@ -7,41 +7,41 @@ use Rattle.walrus_base.specs.Arena.{entries, item_at, items}
 use Rattle.walrus_base.specs.Id.{place}
 use Rattle.walrus_base.specs.declared.id.Id.{Id}
 use Rattle.walrus_base.specs.declared.keys.FunctionKey.{FunctionKey}
-use Rattle.walrus_types.specs.Operators.{Functions, Tables, Memories, Tags, Globals, Item, function_item}
+use Rattle.walrus_base.specs.Operators.{Functions, Tables, Memories, Tags, Globals, Item, function_item}
 use Rattle.walrus_items.specs.Function.{function_type}
 use Rattle.walrus_items.specs.LocalFunction.{LocalFunction}
 use Rattle.walrus_model.specs.Abstract as abstract
 use Rattle.walrus_model.specs.Config.{Config}
 use Rattle.walrus_model.specs.Live.{IsLive}
-use Rattle.walrus_model.proofs.Lists.{Contains-map}
-use Rattle.walrus_parts.specs.Errors.{out_of_memory}
-use Rattle.walrus_parts.specs.Kinds.{exported}
-use Rattle.walrus_parts.specs.declared.error.Error.{Error}
-use Rattle.walrus_parts.specs.declared.error.Error.TheVariants as error
-use Rattle.walrus_parts.specs.declared.function_kind.FunctionKind.{FunctionKind}
-use Rattle.walrus_parts.specs.declared.function_kind.FunctionKind.TheVariants.{Import, Local, Uninitialized}
-use Rattle.walrus_parts.specs.declared.kinds.ExportItem.{ExportItem}
-use Rattle.walrus_parts.specs.declared.kinds.ExportItem.TheVariants as kinds
-use Rattle.walrus_parts.proofs.ItemLemmas.{is_item-same, same-is_item}
+use Rattle.walrus_base.proofs.Lists.{Contains-map}
+use Rattle.walrus_items.specs.Errors.{out_of_memory}
+use Rattle.walrus_items.specs.Kinds.{exported}
+use Rattle.walrus_items.specs.declared.error.Error.{Error}
+use Rattle.walrus_items.specs.declared.error.Error.TheVariants as error
+use Rattle.walrus_items.specs.declared.function_kind.FunctionKind.{FunctionKind}
+use Rattle.walrus_items.specs.declared.function_kind.FunctionKind.TheVariants.{Import, Local, Uninitialized}
+use Rattle.walrus_items.specs.declared.kinds.ExportItem.{ExportItem}
+use Rattle.walrus_items.specs.declared.kinds.ExportItem.TheVariants as kinds
+use Rattle.walrus_items.proofs.ItemLemmas.{is_item-same, same-is_item}
 use Rattle.walrus_items.specs.Exports.{ExportValue, exported_function, exports, exports_item, function_named, is_function, is_function_named}
 use Rattle.walrus_items.specs.Functions.{FunctionValue, functions}
 use Rattle.walrus_items.specs.Searches.{first}
-use Rattle.walrus_items.proofs.Found.{found-item, found-passes}
+use Rattle.walrus_base.proofs.SearchFound.{found-item, found-passes}
 use Rattle.walrus_contents.specs.View.{export_of, function, kind_of}
-use Rattle.walrus_contents.proofs.PlainBodies.{both}
-use Rattle.walrus_contents.proofs.Slots.{entry_in}
+use Rattle.walrus_model.proofs.Slots.{entry_in}
 use Rattle.walrus_module.specs.Replaced.{IsReplaced, RefusesBody, ReplacesExported, ReplacesFound, ReplacesKind}
 use Rattle.walrus_module.specs.View.{contents_of, held_view}
 use Rattle.walrus_module.specs.declared.module.Module.{Module}
-use Rattle.walrus_uses.proofs.Looked.{differs}
+use Rattle.walrus_model.proofs.Looked.{differs}
 use Rattle.walrus_uses.proofs.Matched.{finds}
 use Rattle.walrus_uses.proofs.SnipStep.{snip_whole}
 use Rattle.walrus_uses.proofs.StubCall.{traps}
-use Rattle.walrus_rules.proofs.EditKept.{none_isnt, some_is}
+use Rattle.walrus_theorem.proofs.EditKept.{none_isnt, some_is}
 use Rattle.walrus_uses.specs.Edited.{IsWhole}
 use Rattle.walrus_uses.specs.Snip.{Exports, IsKept, NamedBefore, SnipsIn}
 use Rattle.walrus_uses.specs.Snipped.{FindsNamed, IsNamedBefore, IsNamedFirst, RefusesSnip, Snips, SnipsHeld, first_named}
 use Rattle.walrus_uses.specs.Stubbed.{PutsTrap}
+use Rattle.std.proofs.lemmas.Bool.{and_parts as both}
 
 same_refusal : (x y : Error) → ◌≡◌ {A = Result (Id FunctionKey) Error} (Err x) (Err y) → x ≡ y
 same_refusal x y e = cc

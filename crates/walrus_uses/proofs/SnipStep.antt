@@ -5,7 +5,7 @@ use Rattle.walrus_base.specs.Arena.{item_at}
 use Rattle.walrus_base.specs.Id.{place}
 use Rattle.walrus_base.specs.declared.id.Id.{Id}
 use Rattle.walrus_base.specs.declared.keys.FunctionKey.{FunctionKey}
-use Rattle.walrus_types.specs.Operators.{Functions}
+use Rattle.walrus_base.specs.Operators.{Functions}
 use Rattle.walrus_model.specs.Abstract as abstract
 use Rattle.walrus_model.specs.Config.{Config}
 use Rattle.walrus_model.specs.Roots.{IsRoot}
@@ -14,20 +14,20 @@ use Rattle.walrus_items.specs.Exports.{ExportValue, exports}
 use Rattle.walrus_items.specs.Function.{args_of, body_of, function_type}
 use Rattle.walrus_items.specs.Functions.{FunctionValue, functions}
 use Rattle.walrus_items.specs.LocalFunction.{LocalFunction}
-use Rattle.walrus_parts.specs.declared.function_kind.FunctionKind.{FunctionKind}
-use Rattle.walrus_parts.specs.declared.function_kind.FunctionKind.TheVariants.{Local}
-use Rattle.walrus_rules.specs.EditLaws.{LeadsToLive, StaysWhole}
-use Rattle.walrus_rules.specs.Edits.{GainsItem, SwapsExport}
-use Rattle.walrus_rules.specs.WellMade.{IsWellFormed}
-use Rattle.walrus_rules.proofs.EditKept.{some_there}
-use Rattle.walrus_rules.proofs.EditItems.{item_gained}
-use Rattle.walrus_rules.proofs.EditTops.{export_turned}
+use Rattle.walrus_items.specs.declared.function_kind.FunctionKind.{FunctionKind}
+use Rattle.walrus_items.specs.declared.function_kind.FunctionKind.TheVariants.{Local}
+use Rattle.walrus_theorem.specs.EditLaws.{LeadsToLive, StaysWhole}
+use Rattle.walrus_theorem.specs.Edits.{GainsItem, SwapsExport}
+use Rattle.walrus_theorem.specs.WellMade.{IsWellFormed}
+use Rattle.walrus_theorem.proofs.EditKept.{some_there}
+use Rattle.walrus_theorem.proofs.EditItems.{item_gained}
+use Rattle.walrus_theorem.proofs.EditTops.{export_turned}
 use Rattle.walrus_module.specs.Replaced.{IsReplaced, naming}
 use Rattle.walrus_module.specs.View.{held_view}
 use Rattle.walrus_module.specs.declared.module.Module.{Module}
 use Rattle.walrus_module.proofs.CountedBodies.{held_counted}
 use Rattle.walrus_module.proofs.EditedReplaced.{gained, turned, with_new}
-use Rattle.walrus_module.proofs.EditedSlots.{comes_behind}
+use Rattle.walrus_reading.proofs.EditedSlots.{comes_behind}
 use Rattle.walrus_uses.proofs.TrapSound.{trap_leads, trap_sound}
 use Rattle.walrus_uses.specs.Edited.{IsWhole}
 use Rattle.walrus_uses.specs.Stubbed.{PutsTrap}

@@ -7,22 +7,22 @@ use Rattle.walrus_base.specs.declared.id.Id.{Id}
 use Rattle.walrus_base.specs.declared.keys.FunctionKey.{FunctionKey}
 use Rattle.walrus_base.specs.declared.keys.LocalKey.{LocalKey}
 use Rattle.walrus_base.specs.declared.keys.TypeKey.{TypeKey}
-use Rattle.walrus_types.specs.Locals.{locals}
-use Rattle.walrus_types.specs.Operators.{Op, function_item}
-use Rattle.walrus_types.specs.TypeDef.{TypeDef}
+use Rattle.walrus_base.specs.Locals.{locals}
+use Rattle.walrus_base.specs.Operators.{Op, function_item}
+use Rattle.walrus_base.specs.TypeDef.{TypeDef}
 use Rattle.walrus_items.specs.Function.{body_of}
 use Rattle.walrus_items.specs.LocalFunction.{LocalFunction}
-use Rattle.walrus_builder.specs.Instructions.{end_op, unreachable_op}
-use Rattle.walrus_builder.specs.Sequence.{built}
+use Rattle.walrus_ir.specs.Instructions.{end_op, unreachable_op}
+use Rattle.walrus_ir.specs.Sequence.{built}
 use Rattle.walrus_model.specs.BodyRead.{new_locals}
 use Rattle.walrus_model.specs.Config.{Config}
 use Rattle.walrus_model.specs.ReadFunction.{StaysInFront}
-use Rattle.walrus_parts.specs.Errors.{out_of_memory}
-use Rattle.walrus_parts.specs.Kinds.{imported}
-use Rattle.walrus_parts.specs.declared.error.Error.{Error}
-use Rattle.walrus_parts.specs.declared.function_kind.FunctionKind.{FunctionKind}
-use Rattle.walrus_parts.specs.declared.kinds.ImportKind.{ImportKind}
-use Rattle.walrus_parts.specs.declared.kinds.ImportKind.TheVariants as kinds
+use Rattle.walrus_items.specs.Errors.{out_of_memory}
+use Rattle.walrus_items.specs.Kinds.{imported}
+use Rattle.walrus_items.specs.declared.error.Error.{Error}
+use Rattle.walrus_items.specs.declared.function_kind.FunctionKind.{FunctionKind}
+use Rattle.walrus_items.specs.declared.kinds.ImportKind.{ImportKind}
+use Rattle.walrus_items.specs.declared.kinds.ImportKind.TheVariants as kinds
 use Rattle.walrus_items.specs.Functions.{FunctionValue, functions}
 use Rattle.walrus_items.specs.Imports.{ImportValue, imported_function, imports, imports_item}
 use Rattle.walrus_items.specs.Searches.{first}
@@ -33,7 +33,7 @@ use Rattle.walrus_uses.proofs.Matched.{IsBroughtBy, brought_by, first_brings, is
 use Rattle.walrus_uses.proofs.Places.{all_below, none_below, not_yet, now_hit, passes_over, same_below}
 use Rattle.walrus_uses.proofs.StubStep.{stub_whole}
 use Rattle.walrus_uses.proofs.StubTurn.{stubs_more, stubs_none}
-use Rattle.walrus_rules.proofs.EditKept.{none_isnt, some_is, some_there}
+use Rattle.walrus_theorem.proofs.EditKept.{none_isnt, some_is, some_there}
 use Rattle.walrus_uses.specs.Edited.{IsWhole}
 use Rattle.walrus_uses.specs.Stub.{comes_from, function_from}
 use Rattle.walrus_uses.specs.Stubbed.{PutsTrap, Stubs, StubsAt, StubsHeld, StubsSome}

@@ -5,33 +5,33 @@ use Rattle.walrus_base.specs.Arena.{item_at}
 use Rattle.walrus_base.specs.Id.{place}
 use Rattle.walrus_base.specs.declared.id.Id.{Id}
 use Rattle.walrus_base.specs.declared.keys.FunctionKey.{FunctionKey}
-use Rattle.walrus_types.specs.ModuleTypes.{type_slots}
-use Rattle.walrus_types.specs.Operators.{Functions, Item, type_item}
-use Rattle.walrus_types.specs.TypeDef.{TypeDef}
+use Rattle.walrus_base.specs.ModuleTypes.{type_slots}
+use Rattle.walrus_base.specs.Operators.{Functions, Item, type_item}
+use Rattle.walrus_base.specs.TypeDef.{TypeDef}
 use Rattle.walrus_model.specs.Abstract as abstract
 use Rattle.walrus_model.specs.BlockHandlers.{params_of}
 use Rattle.walrus_model.specs.Config.{Config}
 use Rattle.walrus_model.specs.Refers.{function_names, named_by}
 use Rattle.walrus_model.specs.Rules.{IsFunctionType}
-use Rattle.walrus_model.proofs.Lists.{Contains-head}
+use Rattle.walrus_base.proofs.Lists.{Contains-head}
 use Rattle.walrus_contents.specs.View.{body, function, handlers_at}
 use Rattle.walrus_items.specs.Function.{body_of}
 use Rattle.walrus_items.specs.Functions.{FunctionValue, functions}
 use Rattle.walrus_items.specs.Imports.{imports}
-use Rattle.walrus_parts.specs.FunctionKinds.{kind_type}
-use Rattle.walrus_parts.specs.declared.function_kind.FunctionKind.{FunctionKind}
-use Rattle.walrus_parts.specs.declared.function_kind.FunctionKind.TheVariants.{Import}
-use Rattle.walrus_parts.specs.declared.function_kind.ImportedFunction.{ImportedFunction}
-use Rattle.walrus_rules.specs.EditLaws.{AddsLive, StaysWhole}
-use Rattle.walrus_rules.specs.Edits.{MakesLocal}
-use Rattle.walrus_rules.proofs.EditKept.{some_is}
-use Rattle.walrus_rules.proofs.EditFunctions.{made_local}
+use Rattle.walrus_items.specs.FunctionKinds.{kind_type}
+use Rattle.walrus_items.specs.declared.function_kind.FunctionKind.{FunctionKind}
+use Rattle.walrus_items.specs.declared.function_kind.FunctionKind.TheVariants.{Import}
+use Rattle.walrus_items.specs.declared.function_kind.ImportedFunction.{ImportedFunction}
+use Rattle.walrus_theorem.specs.EditLaws.{AddsLive, StaysWhole}
+use Rattle.walrus_theorem.specs.Edits.{MakesLocal}
+use Rattle.walrus_theorem.proofs.EditKept.{some_is}
+use Rattle.walrus_theorem.proofs.EditFunctions.{made_local}
 use Rattle.walrus_module.specs.Replaced.{IsMadeLocal, with_body}
 use Rattle.walrus_module.specs.View.{contents_of, held_view}
 use Rattle.walrus_module.specs.declared.module.Module.{Module}
 use Rattle.walrus_module.proofs.CountedBodies.{held_counted}
 use Rattle.walrus_module.proofs.EditedReplaced.{imported_local, imported_takes}
-use Rattle.walrus_module.proofs.EditedSlots.{set_here}
+use Rattle.walrus_reading.proofs.EditedSlots.{set_here}
 use Rattle.walrus_uses.proofs.TrapSound.{trap_refers, trap_sound}
 use Rattle.walrus_uses.specs.Edited.{IsWhole}
 use Rattle.walrus_uses.specs.Stubbed.{PutsTrap}

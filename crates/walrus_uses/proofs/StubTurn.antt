@@ -3,18 +3,18 @@ use Rattle.std.proofs.Common.{◌≡◌, ◌≢◌, ℕ, Bool, true, false, List
 use Rattle.std.specs.Prelude.{if◌then◌else◌}
 use Rattle.walrus_base.specs.Arena.{item_at}
 use Rattle.walrus_base.specs.Id.{place}
-use Rattle.walrus_types.specs.Operators.{Item, function_item}
+use Rattle.walrus_base.specs.Operators.{Item, function_item}
 use Rattle.walrus_items.specs.Function.{function_type, body_of}
 use Rattle.walrus_items.specs.LocalFunction.{LocalFunction}
-use Rattle.walrus_parts.specs.Kinds.{imported}
-use Rattle.walrus_parts.specs.declared.function_kind.FunctionKind.TheVariants.{Import}
-use Rattle.walrus_parts.specs.declared.function_kind.ImportedFunction.{ImportedFunction}
+use Rattle.walrus_items.specs.Kinds.{imported}
+use Rattle.walrus_items.specs.declared.function_kind.FunctionKind.TheVariants.{Import}
+use Rattle.walrus_items.specs.declared.function_kind.ImportedFunction.{ImportedFunction}
 use Rattle.walrus_items.specs.Functions.{FunctionValue}
 use Rattle.walrus_items.specs.Imports.{ImportValue}
 use Rattle.walrus_module.specs.Replaced.{with_body}
-use Rattle.walrus_module.proofs.EditedSlots.{set_elsewhere, set_here}
-use Rattle.walrus_rules.proofs.EditKept.{none_isnt, some_is, some_there}
-use Rattle.walrus_rules.proofs.EditSpace.{equal_or}
+use Rattle.walrus_reading.proofs.EditedSlots.{set_elsewhere, set_here}
+use Rattle.walrus_theorem.proofs.EditKept.{none_isnt, some_is, some_there}
+use Rattle.walrus_theorem.proofs.EditSpace.{equal_or}
 use Rattle.walrus_uses.specs.Stub.{StubsWhere, Traps, import_place}
 use Rattle.walrus_uses.specs.Trap.{trap_ops}
 

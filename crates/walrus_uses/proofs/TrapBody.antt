@@ -1,23 +1,17 @@
 -- Bytes that read as the body that traps.
-use Rattle.std.proofs.Common.{◌≡◌, ℕ, Bool, List, [], ◌∷◌, refl, sym, subst, ◌∙◌, append-nil}
-use Rattle.std.specs.Prelude.{Option, Some}
+use Rattle.std.proofs.Common.{ℕ, Bool, [], ◌∷◌, refl}
+use Rattle.std.specs.Prelude.{Option}
 use Rattle.wasm_forms.specs.Number.{number_at, leb_at}
-use Rattle.wasm_forms.specs.Grammar.{Form, Is, at, row_at}
-use Rattle.wasm_forms.proofs.Exact.{exact}
+use Rattle.wasm_forms.specs.Grammar.{Is, at, row_at}
 use Rattle.wasm_operators.specs.Operators as wire
 use Rattle.wasm_operators.specs.Forms.{args_form, operator_of, operator_from, operator}
 use Rattle.wasm_operators.specs.Table.{kinds_of}
 use Rattle.walrus_code.specs.Names.{Lookup}
 use Rattle.walrus_bodies.specs.Body.{context, declarations, BodyReads}
 use Rattle.walrus_model.specs.Config.{Config}
-use Rattle.walrus_rules.specs.Features.{features_of}
+use Rattle.walrus_theorem.specs.Features.{features_of}
 use Rattle.walrus_uses.specs.Trap.{trap_ops}
-
--- bytes that are read to their end are a text of the form
-reads_whole : {A : Type 0} (g : Form A) (bytes : List ℕ) (a : A) → at g bytes ≡ Some (a, []) → Is g bytes a
-reads_whole g bytes a e =
-    let taken = (exact g).takes bytes (a, []) e in
-    subst (λ b. Is g b a) (sym (taken.1.0 ∙ append-nil taken.0)) taken.1.1
+use Rattle.walrus_theorem.proofs.ReadExample.{reads_whole}
 
 abbrev the_trap : wire.Op
 the_trap = record { op = 0x00; args = [] }

@@ -4,7 +4,7 @@ use Rattle.std.specs.Prelude.{Some, None, Contains, AllPairs, slice_get, ◌⊎�
 use Rattle.walrus_bodies.specs.Body.{BodyReads, context}
 use Rattle.walrus_bodies.specs.FunctionTypes.{is_function_def}
 use Rattle.walrus_base.specs.Types.{HeapType}
-use Rattle.walrus_types.specs.Operators.{Functions, Item, Op, type_item}
+use Rattle.walrus_base.specs.Operators.{Functions, Item, Op, type_item}
 use Rattle.walrus_model.specs.Abstract.{Abstract, Body, Function, LocalFunction}
 use Rattle.walrus_model.specs.BlockHandlers.{params_of}
 use Rattle.walrus_model.specs.Config.{Config}
@@ -12,13 +12,13 @@ use Rattle.walrus_model.specs.Live.{IsLive}
 use Rattle.walrus_model.specs.Refers.{IsUsed, Refers, body_names, function_names, named_by, used_locals, written_in}
 use Rattle.walrus_model.specs.Rules.{IsFunctionType}
 use Rattle.walrus_model.specs.WellMade.{body_heaps, heaps_by, kind_heaps}
-use Rattle.walrus_model.proofs.Lists.{Contains-head, Contains-none, Contains-uncons}
-use Rattle.walrus_rules.specs.EditLaws.{LeadsToLive}
-use Rattle.walrus_rules.specs.Features.{features_of}
-use Rattle.walrus_rules.specs.Sound.{DeclaresFew, FunctionHolds, IsSound}
-use Rattle.walrus_rules.proofs.EditKept.{some_is, some_there}
-use Rattle.walrus_rules.proofs.EditLeads.{leads_to_type}
-use Rattle.walrus_rules.specs.WellMade.{IsWellMade}
+use Rattle.walrus_base.proofs.Lists.{Contains-head, Contains-none, Contains-uncons}
+use Rattle.walrus_theorem.specs.EditLaws.{LeadsToLive}
+use Rattle.walrus_theorem.specs.Features.{features_of}
+use Rattle.walrus_theorem.specs.Sound.{DeclaresFew, FunctionHolds, IsSound}
+use Rattle.walrus_theorem.proofs.EditKept.{some_is, some_there}
+use Rattle.walrus_theorem.proofs.EditLeads.{leads_to_type}
+use Rattle.walrus_theorem.specs.WellMade.{IsWellMade}
 use Rattle.walrus_uses.proofs.TrapBody.{trap_reads}
 use Rattle.walrus_uses.specs.Trap.{trap_ops}
 

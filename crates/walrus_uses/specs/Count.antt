@@ -8,15 +8,15 @@ use Rattle.walrus_base.specs.declared.id.Id.{Id}
 use Rattle.walrus_base.specs.declared.keys.FunctionKey.{FunctionKey}
 use Rattle.walrus_base.specs.declared.keys.ImportKey.{ImportKey}
 use Rattle.walrus_base.specs.declared.keys.TypeKey.{TypeKey}
-use Rattle.walrus_types.specs.Alone.{FoundOrAdded}
-use Rattle.walrus_types.specs.Composite.{function_of}
-use Rattle.walrus_types.specs.ModuleTypes.{type_names, type_slots}
-use Rattle.walrus_types.specs.declared.module_types.ModuleTypes.{ModuleTypes}
+use Rattle.walrus_base.specs.Alone.{FoundOrAdded}
+use Rattle.walrus_base.specs.Composite.{function_of}
+use Rattle.walrus_base.specs.ModuleTypes.{type_names, type_slots}
+use Rattle.walrus_base.specs.declared.module_types.ModuleTypes.{ModuleTypes}
 use Rattle.walrus_code.specs.Location.{location}
-use Rattle.walrus_builder.specs.Instructions.{call_op, nowhere}
-use Rattle.walrus_parts.specs.declared.function_kind.FunctionKind.{FunctionKind}
-use Rattle.walrus_parts.specs.declared.function_kind.FunctionKind.TheVariants.{Import, Local, Uninitialized}
-use Rattle.walrus_parts.specs.declared.kinds.ImportKind.TheVariants.{Function}
+use Rattle.walrus_ir.specs.Instructions.{call_op, nowhere}
+use Rattle.walrus_items.specs.declared.function_kind.FunctionKind.{FunctionKind}
+use Rattle.walrus_items.specs.declared.function_kind.FunctionKind.TheVariants.{Import, Local, Uninitialized}
+use Rattle.walrus_items.specs.declared.kinds.ImportKind.TheVariants.{Function}
 use Rattle.walrus_items.specs.Function.{KeepsOthers, body_of, locations_of}
 use Rattle.walrus_items.specs.LocalFunction.{LocalFunction}
 use Rattle.walrus_items.specs.Functions.{FunctionValue, ModuleFunctions, functions}

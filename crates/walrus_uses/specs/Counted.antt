@@ -6,8 +6,8 @@ use Rattle.walrus_base.specs.Id.{place}
 use Rattle.walrus_base.specs.declared.id.Id.{Id}
 use Rattle.walrus_base.specs.declared.keys.FunctionKey.{FunctionKey}
 use Rattle.walrus_model.specs.Config.{Config}
-use Rattle.walrus_parts.specs.Errors.{out_of_memory}
-use Rattle.walrus_parts.specs.declared.error.Error.{Error}
+use Rattle.walrus_items.specs.Errors.{out_of_memory}
+use Rattle.walrus_items.specs.declared.error.Error.{Error}
 use Rattle.walrus_items.specs.Functions.{functions}
 use Rattle.walrus_items.specs.Imports.{imports}
 use Rattle.walrus_contents.specs.declared.parts.Contents.{Contents}

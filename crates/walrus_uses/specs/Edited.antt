@@ -4,14 +4,14 @@ use Rattle.std.specs.Global.{Vec}
 use Rattle.walrus_model.specs.Abstract.{Abstract, Custom}
 use Rattle.walrus_model.specs.Config.{Config}
 use Rattle.walrus_model.specs.Pipeline.{Collected, ReachedIsLive}
-use Rattle.walrus_parts.specs.declared.error.Error.{Error}
-use Rattle.walrus_parts.specs.declared.error.Error.TheVariants.{Memory, InvalidWasm, TooLarge}
+use Rattle.walrus_items.specs.declared.error.Error.{Error}
+use Rattle.walrus_items.specs.declared.error.Error.TheVariants.{Memory, InvalidWasm, TooLarge}
 use Rattle.walrus_contents.specs.View.{contents_view}
 use Rattle.walrus_contents.specs.declared.parts.Contents.{Contents}
-use Rattle.walrus_rules.specs.Chain.{Leaves}
-use Rattle.walrus_rules.specs.Headline.{Accepts}
-use Rattle.walrus_rules.specs.Refused.{PassesLimits}
-use Rattle.walrus_rules.specs.WellMade.{IsWellMade}
+use Rattle.walrus_theorem.specs.Chain.{Leaves}
+use Rattle.walrus_theorem.specs.Headline.{Accepts}
+use Rattle.walrus_theorem.specs.Refused.{PassesLimits}
+use Rattle.walrus_theorem.specs.WellMade.{IsWellMade}
 use Rattle.walrus_module.specs.Answered.{IsWellWritten}
 use Rattle.walrus_module.specs.Parsed.{IsParsed}
 use Rattle.walrus_module.specs.View.{held_view}

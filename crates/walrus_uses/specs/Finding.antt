@@ -7,12 +7,12 @@ use Rattle.walrus_base.specs.Id.{place}
 use Rattle.walrus_base.specs.declared.id.Id.{Id}
 use Rattle.walrus_base.specs.declared.keys.FunctionKey.{FunctionKey}
 use Rattle.walrus_model.specs.Pipeline.{ReachedIsLive}
-use Rattle.walrus_parts.specs.Roots.{places}
-use Rattle.walrus_parts.specs.declared.custom.CustomSection.{Ghosts}
-use Rattle.walrus_parts.specs.declared.error.Error.{Error}
-use Rattle.walrus_parts.specs.declared.error.Error.TheVariants.{Memory, NotFound}
+use Rattle.walrus_items.specs.Roots.{places}
+use Rattle.walrus_items.specs.declared.custom.CustomSection.{Ghosts}
+use Rattle.walrus_items.specs.declared.error.Error.{Error}
+use Rattle.walrus_items.specs.declared.error.Error.TheVariants.{Memory, NotFound}
 use Rattle.walrus_items.specs.Functions.{FunctionValue}
-use Rattle.walrus_rules.specs.WellMade.{IsWellMade}
+use Rattle.walrus_theorem.specs.WellMade.{IsWellMade}
 use Rattle.walrus_module.specs.Asked.{OneMayRefuse}
 use Rattle.walrus_module.specs.Flags.{config_of}
 use Rattle.walrus_module.specs.Settings.{settings}

@@ -5,13 +5,13 @@ use Rattle.walrus_base.specs.Arena.{item_at}
 use Rattle.walrus_base.specs.Id.{place}
 use Rattle.walrus_base.specs.declared.id.Id.{Id}
 use Rattle.walrus_base.specs.declared.keys.FunctionKey.{FunctionKey}
-use Rattle.walrus_types.specs.Operators.{Functions}
+use Rattle.walrus_base.specs.Operators.{Functions}
 use Rattle.walrus_model.specs.Config.{Config}
 use Rattle.walrus_code.specs.Indices.{ids_at}
 use Rattle.walrus_code.specs.declared.indices.IndicesToIds.{IndicesToIds}
-use Rattle.walrus_parts.specs.declared.error.Error.{Error}
-use Rattle.walrus_parts.specs.declared.error.Error.TheVariants.{Caller, Memory, NotFound}
-use Rattle.walrus_parts.specs.declared.kinds.ExportItem.TheVariants.{Function}
+use Rattle.walrus_items.specs.declared.error.Error.{Error}
+use Rattle.walrus_items.specs.declared.error.Error.TheVariants.{Caller, Memory, NotFound}
+use Rattle.walrus_items.specs.declared.kinds.ExportItem.TheVariants.{Function}
 use Rattle.walrus_items.specs.Exports.{ExportValue, exports}
 use Rattle.walrus_items.specs.Functions.{FunctionValue, functions}
 use Rattle.walrus_contents.specs.declared.parts.Contents.{Contents}

@@ -1,7 +1,7 @@
 -- A custom section that lists functions which are to be kept ("Binary Format > Custom Section"). Its data is their indices, one behind the other,
 -- four bytes each, the lowest first.
 use Rattle.std.specs.Prelude.{ℕ, List, [], ◌∷◌, ◌++◌, map, flat_map, Option, Some, None, Contains, false, ◌≡◌, ◌≢◌, ◌<◌, ◌^◌}
-use Rattle.walrus_types.specs.Operators.{Functions, function_item}
+use Rattle.walrus_base.specs.Operators.{Functions, function_item}
 use Rattle.walrus_model.specs.Abstract.{Abstract, Custom}
 use Rattle.walrus_model.specs.Customs.{is_debug_name}
 use Rattle.walrus_model.specs.Live.{IsLive}

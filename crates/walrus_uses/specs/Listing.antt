@@ -1,16 +1,16 @@
 -- What keeping the functions that a section lists comes to, from bytes to bytes.
 use Rattle.std.specs.Prelude.{ℕ, List, map, Option, Some, None, Contains, Result, Ok, Err, ⊤}
 use Rattle.std.specs.Global.{Vec}
-use Rattle.walrus_types.specs.Operators.{Functions}
+use Rattle.walrus_base.specs.Operators.{Functions}
 use Rattle.walrus_model.specs.Abstract.{Abstract}
 use Rattle.walrus_model.specs.Config.{Config}
 use Rattle.walrus_model.specs.Kept.{Kept}
 use Rattle.walrus_model.specs.Pipeline.{Collected}
-use Rattle.walrus_parts.specs.declared.error.Error.{Error}
-use Rattle.walrus_parts.specs.declared.error.Error.TheVariants.{Memory, InvalidWasm, NotFound, TooLarge}
-use Rattle.walrus_rules.specs.Chain.{Leaves}
-use Rattle.walrus_rules.specs.Headline.{Accepts}
-use Rattle.walrus_rules.specs.Refused.{PassesLimits}
+use Rattle.walrus_items.specs.declared.error.Error.{Error}
+use Rattle.walrus_items.specs.declared.error.Error.TheVariants.{Memory, InvalidWasm, NotFound, TooLarge}
+use Rattle.walrus_theorem.specs.Chain.{Leaves}
+use Rattle.walrus_theorem.specs.Headline.{Accepts}
+use Rattle.walrus_theorem.specs.Refused.{PassesLimits}
 use Rattle.walrus_module.specs.Answered.{IsWellWritten}
 use Rattle.walrus_module.specs.Parsed.{IsParsed}
 use Rattle.walrus_uses.specs.Listed.{HasListing, KeepsListed, ListsNone}

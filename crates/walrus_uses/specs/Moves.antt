@@ -5,13 +5,13 @@ use Rattle.wasm_forms.specs.Grammar.{Is, IsRow}
 use Rattle.wasm_operators.specs.Operators as operators
 use Rattle.wasm_operators.specs.Forms.{operator}
 use Rattle.wasm_frames.specs.Record as wire
-use Rattle.walrus_types.specs.Operators.{Functions, Op}
+use Rattle.walrus_base.specs.Operators.{Functions, Op}
 use Rattle.walrus_code.specs.FromRaw.{op_of}
 use Rattle.walrus_bodies.specs.Body.{declarations}
 use Rattle.walrus_model.specs.Config.{Config}
 use Rattle.walrus_model.specs.Kept.{Kept}
 use Rattle.walrus_model.specs.Renaming.{renamed_op}
-use Rattle.walrus_rules.specs.Headline.{ComesTo}
+use Rattle.walrus_theorem.specs.Headline.{ComesTo}
 use Rattle.walrus_writing.specs.Transform.{imported_functions}
 
 -- The bytes of a body begin with declarations of locals; behind these stand k operators, and then this one. Its first byte has this place

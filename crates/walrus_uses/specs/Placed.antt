@@ -5,14 +5,14 @@ use Rattle.walrus_code.specs.Transform.{Transform}
 use Rattle.walrus_model.specs.Abstract.{Abstract}
 use Rattle.walrus_model.specs.Config.{Config}
 use Rattle.walrus_model.specs.Sections.{is_apart}
-use Rattle.walrus_rules.specs.Chain.{Leaves}
-use Rattle.walrus_rules.specs.Headline.{Accepts}
-use Rattle.walrus_rules.specs.Refused.{PassesLimits}
+use Rattle.walrus_theorem.specs.Chain.{Leaves}
+use Rattle.walrus_theorem.specs.Headline.{Accepts}
+use Rattle.walrus_theorem.specs.Refused.{PassesLimits}
 use Rattle.walrus_items.specs.Functions.{ModuleFunctions, functions}
 use Rattle.walrus_writing.specs.Parts.{local_in}
 use Rattle.walrus_writing.specs.Transform.{IsTransformOf, locations_in}
-use Rattle.walrus_parts.specs.declared.error.Error.{Error}
-use Rattle.walrus_parts.specs.declared.error.Error.TheVariants.{Memory, InvalidWasm, TooLarge, Caller}
+use Rattle.walrus_items.specs.declared.error.Error.{Error}
+use Rattle.walrus_items.specs.declared.error.Error.TheVariants.{Memory, InvalidWasm, TooLarge, Caller}
 use Rattle.walrus_module.specs.Answered.{IsWellWritten}
 use Rattle.walrus_module.specs.Asked.{is_dylink_name}
 use Rattle.walrus_module.specs.Located.{IsPlace}

@@ -2,8 +2,8 @@
 use Rattle.std.specs.Prelude.{ℕ, List, Option, Some, None, Result, MatchResult, slice_set, ◌≡◌, ◌⊎◌, ⊤}
 use Rattle.std.specs.Global.{Vec}
 use Rattle.walrus_model.specs.Config.{Config}
-use Rattle.walrus_parts.specs.declared.error.Error.{Error}
-use Rattle.walrus_parts.specs.declared.error.Error.TheVariants.{Caller, Memory, NotFound}
+use Rattle.walrus_items.specs.declared.error.Error.{Error}
+use Rattle.walrus_items.specs.declared.error.Error.TheVariants.{Caller, Memory, NotFound}
 use Rattle.walrus_items.specs.Exports.{ExportValue, ModuleExports, exports, is_named}
 use Rattle.walrus_items.specs.Searches.{first}
 use Rattle.walrus_contents.specs.declared.parts.Contents.{Contents}

@@ -4,12 +4,12 @@ use Rattle.walrus_base.specs.Arena.{item_at}
 use Rattle.walrus_base.specs.Id.{place}
 use Rattle.walrus_base.specs.declared.id.Id.{Id}
 use Rattle.walrus_base.specs.declared.keys.FunctionKey.{FunctionKey}
-use Rattle.walrus_types.specs.Operators.{function_item}
+use Rattle.walrus_base.specs.Operators.{function_item}
 use Rattle.walrus_items.specs.Function.{args_of, body_of, function_type, handlers_in}
 use Rattle.walrus_items.specs.LocalFunction.{LocalFunction}
-use Rattle.walrus_parts.specs.declared.function_kind.FunctionKind.TheVariants.{Import, Local}
-use Rattle.walrus_parts.specs.declared.function_kind.ImportedFunction.{ImportedFunction}
-use Rattle.walrus_parts.specs.declared.kinds.ExportItem.TheVariants.{Function}
+use Rattle.walrus_items.specs.declared.function_kind.FunctionKind.TheVariants.{Import, Local}
+use Rattle.walrus_items.specs.declared.function_kind.ImportedFunction.{ImportedFunction}
+use Rattle.walrus_items.specs.declared.kinds.ExportItem.TheVariants.{Function}
 use Rattle.walrus_items.specs.Exports.{ExportValue, exports_item}
 use Rattle.walrus_items.specs.Functions.{FunctionValue}
 use Rattle.walrus_items.specs.Searches.{first}

@@ -4,10 +4,10 @@ use Rattle.std.specs.Global.{Vec}
 use Rattle.walrus_base.specs.Id.{place}
 use Rattle.walrus_base.specs.declared.id.Id.{Id}
 use Rattle.walrus_base.specs.declared.keys.FunctionKey.{FunctionKey}
-use Rattle.walrus_types.specs.Operators.{function_item}
+use Rattle.walrus_base.specs.Operators.{function_item}
 use Rattle.walrus_model.specs.Config.{Config}
-use Rattle.walrus_parts.specs.declared.error.Error.{Error}
-use Rattle.walrus_parts.specs.declared.error.Error.TheVariants.{Memory, NotFound, NotReplaceable}
+use Rattle.walrus_items.specs.declared.error.Error.{Error}
+use Rattle.walrus_items.specs.declared.error.Error.TheVariants.{Memory, NotFound, NotReplaceable}
 use Rattle.walrus_items.specs.Exports.{ExportValue, exports, exports_item}
 use Rattle.walrus_items.specs.Functions.{functions}
 use Rattle.walrus_items.specs.Searches.{first}

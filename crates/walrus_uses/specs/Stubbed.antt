@@ -1,13 +1,13 @@
 -- What stubbing comes to: of a module in memory, and from bytes to bytes.
 use Rattle.std.specs.Prelude.{ℕ, Bool, List, ◌++◌, ◌∷◌, [], Result, MatchResult, ◌≡◌, ◌&&◌, nat_lt}
 use Rattle.std.specs.Global.{Vec}
-use Rattle.walrus_builder.specs.Instructions.{unreachable_op}
-use Rattle.walrus_builder.specs.Sequence.{built}
-use Rattle.walrus_types.specs.Locals.{locals}
+use Rattle.walrus_ir.specs.Instructions.{unreachable_op}
+use Rattle.walrus_ir.specs.Sequence.{built}
+use Rattle.walrus_base.specs.Locals.{locals}
 use Rattle.walrus_model.specs.Config.{Config}
 use Rattle.walrus_model.specs.ReadFunction.{StaysInFront}
-use Rattle.walrus_parts.specs.Errors.{out_of_memory}
-use Rattle.walrus_parts.specs.declared.error.Error.{Error}
+use Rattle.walrus_items.specs.Errors.{out_of_memory}
+use Rattle.walrus_items.specs.declared.error.Error.{Error}
 use Rattle.walrus_items.specs.Functions.{functions}
 use Rattle.walrus_items.specs.Imports.{imports}
 use Rattle.walrus_contents.specs.declared.parts.Contents.{Contents}

@@ -4,7 +4,7 @@ ghost use Rattle.std.specs.Prelude.{◌≡◌, ◌++◌, IfOk, OnOk, codes, deci
 ghost use Rattle.walrus_base.specs.Id.{place};
 ghost use Rattle.walrus_code.specs.Code.{item_of};
 ghost use Rattle.walrus_contents.specs.Named.{items_in};
-ghost use Rattle.walrus_parts.specs.Transform.{range_of, transform_of};
+ghost use Rattle.walrus_items.specs.Transform.{range_of, transform_of};
 ghost use Rattle.walrus_uses.specs.Reasons.{item_line, item_text, report_text, size_line, size_text, word_of};
 
 use std::alloc::{AllocError, Global};

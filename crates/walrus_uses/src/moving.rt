@@ -3,8 +3,8 @@
 ghost use Rattle.std.specs.Prelude.{◌≡◌, IfOk, IsOkUnless, map};
 ghost use Rattle.walrus.specs.Headline.{RunsOn};
 ghost use Rattle.walrus_module.specs.Flags.{config_of, defaults};
-ghost use Rattle.walrus_parts.specs.Errors.{out_of_memory};
-ghost use Rattle.walrus_parts.specs.Transform.{location_of};
+ghost use Rattle.walrus_items.specs.Errors.{out_of_memory};
+ghost use Rattle.walrus_items.specs.Transform.{location_of};
 ghost use Rattle.walrus_uses.specs.Moves.{TellsMoves};
 
 use std::alloc::Global;

@@ -2,7 +2,7 @@
 
 ghost use Rattle.std.specs.Prelude.{◌≡◌};
 ghost use Rattle.walrus_base.specs.Id.{place};
-ghost use Rattle.walrus_types.specs.Operators.{function_item};
+ghost use Rattle.walrus_base.specs.Operators.{function_item};
 ghost use Rattle.walrus_items.specs.Exports.{exports, exports_item};
 ghost use Rattle.walrus_items.specs.Searches.{first};
 ghost use Rattle.walrus_module.specs.Flags.{config_of, defaults};

@@ -2,23 +2,23 @@
 use Rattle.std.proofs.Common.{◌≡◌, ℕ, zero, suc, List, [], ◌∷◌, refl, sym, ap, ◌∙◌, subst, Some, None}
 use Rattle.std.specs.Prelude.{Option, option_map}
 use Rattle.walrus_base.specs.Arena.{item_at, slots}
-use Rattle.walrus_types.specs.ConstOps.{const_ops}
-use Rattle.walrus_types.specs.Operators.{Space, Types, Functions, Tables, Memories, Tags, Globals, Elements, DataSegments, Op}
+use Rattle.walrus_base.specs.ConstOps.{const_ops}
+use Rattle.walrus_base.specs.Operators.{Space, Types, Functions, Tables, Memories, Tags, Globals, Elements, DataSegments, Op}
 use Rattle.walrus_items.specs.Seen.{seen}
 use Rattle.walrus_items.specs.Globals.{GlobalValue, global_import, global_init, global_value, globals}
 use Rattle.walrus_items.specs.Tables.{tables}
 use Rattle.walrus_items.specs.declared.globals.Global as entities
-use Rattle.walrus_parts.specs.declared.kinds.GlobalKind.{GlobalKind}
-use Rattle.walrus_parts.specs.declared.kinds.GlobalKind.TheVariants as kind
+use Rattle.walrus_items.specs.declared.kinds.GlobalKind.{GlobalKind}
+use Rattle.walrus_items.specs.declared.kinds.GlobalKind.TheVariants as kind
 use Rattle.walrus_contents.specs.View.{global_of, origin_of, own_initialiser, parts_view, table_of}
 use Rattle.walrus_contents.specs.declared.parts.Parts.{Parts}
-use Rattle.walrus_contents.proofs.Lookups.{mapped_some}
+use Rattle.walrus_base.proofs.Lookups.{mapped_some}
 use Rattle.walrus_model.specs.Abstract.{Abstract, Global, Table}
 use Rattle.walrus_model.specs.Spaces.{Thing, look}
 use Rattle.walrus_model.specs.WellMade.{ImportsMatch, import_in, import_of, origin_import}
-use Rattle.walrus_model.proofs.Standing.{some_inj}
+use Rattle.walrus_base.proofs.Standing.{some_inj}
 use Rattle.walrus_writing.specs.Imported.{AreBare, IsBare}
-use Rattle.walrus_plan.proofs.Somes.{none_some}
+use Rattle.walrus_code.proofs.Somes.{none_some}
 
 -- ---- the kind of a global says both
 

@@ -3,12 +3,12 @@ use Rattle.wasm_entries.specs.Record as entries
 use Rattle.wasm_entries.specs.declared.record.RawExportKind.{RawExportKind}
 use Rattle.wasm_entries.specs.declared.record.RawLimits.{RawLimits}
 use Rattle.wasm_entries.specs.declared.record.RawExportKind.TheVariants as kinds
-use Rattle.std.proofs.Common.{◌≡◌, ℕ, List, [], ◌∷◌, map, refl, sym, ap, ap₂, subst, ◌∙◌, inl, inr, ⊎_elim, ◌<◌, Bool, true}
-use Rattle.std.specs.Prelude.{Option, Some, None, IsSome, Contains, filter_map, option_map, slice_get, ◌++◌}
+use Rattle.std.proofs.Common.{◌≡◌, ℕ, List, [], ◌∷◌, map, refl, sym, ap, ap₂, subst, ◌∙◌, inl, inr, ⊎_elim, ◌<◌}
+use Rattle.std.specs.Prelude.{Option, Some, None, Contains, filter_map, option_map, slice_get, ◌++◌}
 use Rattle.std.specs.List.{AllZip}
 use Rattle.walrus_base.specs.Types.{ValType}
-use Rattle.walrus_types.specs.Operators.{Space, Types, Functions, Tables, Memories, Tags, Globals, Elements, DataSegments, locals_of}
-use Rattle.walrus_types.specs.TypeDef.{TypeDef}
+use Rattle.walrus_base.specs.Operators.{Space, Types, Functions, Tables, Memories, Tags, Globals, Elements, DataSegments, locals_of}
+use Rattle.walrus_base.specs.TypeDef.{TypeDef}
 use Rattle.walrus_items.specs.Function.{body_of as ops_in, args_of}
 use Rattle.walrus_code.specs.Names.{Lookup}
 use Rattle.walrus_functions.specs.DeclaredLocals as declared
@@ -20,7 +20,7 @@ use Rattle.walrus_groups.specs.Named.{named_def}
 use Rattle.walrus_contents.specs.There.{ImportsAreLive}
 use Rattle.walrus_contents.specs.View.{body, parts_view}
 use Rattle.walrus_contents.specs.declared.parts.Parts.{Parts}
-use Rattle.walrus_contents.proofs.Lookups.{heads, mapped_some, then_some}
+use Rattle.walrus_base.proofs.Lookups.{heads, mapped_some, then_some}
 use Rattle.walrus_constants.specs.Laws.{AgreesWith}
 use Rattle.walrus_constants.specs.Named.{named_global, named_table}
 use Rattle.walrus_constants.specs.Segments.{named_data, named_element}
@@ -41,13 +41,13 @@ use Rattle.walrus_model.specs.Spaces.{SameThing, Thing, look}
 use Rattle.walrus_model.proofs.AlongRecords.{stand_along}
 use Rattle.walrus_model.proofs.ImportedZip.{written_both}
 use Rattle.walrus_model.proofs.Indices.{planned_named}
-use Rattle.walrus_model.proofs.Lists.{map-itself}
+use Rattle.walrus_base.proofs.Lists.{map-itself}
 use Rattle.walrus_model.proofs.Planned.{planned_apart, planned_carries}
 use Rattle.walrus_model.proofs.Spaces.{carried_from}
-use Rattle.walrus_model.proofs.Standing.{got_where, some_inj, zip_left, zip_right}
-use Rattle.walrus_rules.specs.Pinned.{LocalHasType, DeclaresLocal, LocalTypeBeginsBefore, LocalGoesBefore}
-use Rattle.walrus_rules.specs.Spelling.{UsesAll}
-use Rattle.walrus_rules.specs.Text.{said}
+use Rattle.walrus_base.proofs.Standing.{got_where, some_inj, zip_left, zip_right}
+use Rattle.walrus_theorem.specs.Pinned.{LocalHasType, DeclaresLocal, LocalTypeBeginsBefore, LocalGoesBefore}
+use Rattle.walrus_theorem.specs.Spelling.{UsesAll}
+use Rattle.walrus_theorem.specs.Text.{said}
 use Rattle.walrus_plan.specs.Brought.{import_numbers}
 use Rattle.walrus_writing.specs.Imported.{AreBare}
 use Rattle.walrus_writing.specs.Parts.{export_with_index, kind_in, memory_limits, slots_of, tag_index}
@@ -56,12 +56,14 @@ use Rattle.walrus_writing.proofs.Bare.{are_bare}
 use Rattle.walrus_writing.proofs.FunctionsWritten.{IsRow, all_rows, functions_stand, new_functions, text_in}
 use Rattle.walrus_writing.proofs.ImportedAlong.{entries_brought, entries_live}
 use Rattle.walrus_writing.proofs.ImportsCarried.{brought_numbered, import_index, imports_apart, imports_carried, imports_ordered, index_is}
-use Rattle.walrus_writing.proofs.NamedTypes.{def_parts, each_place, same_in_group, group_renamed}
+use Rattle.walrus_model.proofs.NamedTypes.{def_parts, each_place, same_in_group, group_renamed}
 use Rattle.walrus_writing.proofs.Parted.{body_among, body_behind, functions_brought, stand_among}
-use Rattle.walrus_rules.proofs.OneSections.{later_none}
+use Rattle.walrus_theorem.proofs.OneSections.{later_none}
 use Rattle.walrus_writing.proofs.SameBodies.{uses_all, locals_rise}
 use Rattle.walrus_writing.proofs.TypesEntered.{types_apart}
 use Rattle.walrus_writing.proofs.WrittenAs.{laid_of, module_said, number_is, renaming_of}
+use Rattle.walrus_model.proofs.Orders.{is_some_by as live_by}
+use Rattle.walrus_model.proofs.SettleDeclared.{body_there as some_function}
 
 -- ---- exports
 
@@ -110,13 +112,6 @@ module _ (names : Lookup) (ren : Renaming) (agrees : (space : Space) (i j : ℕ)
   same_start (Some j) None e = absurd (cc)
 
 -- ---- bodies
-
-some_function : (o : Option Function) (b : Body) → body_of_function o ≡ Some b → (g : Function) × (o ≡ Some g)
-some_function (Some g) b e = (g, refl)
-some_function None b e = absurd (cc)
-
-live_by : {X : Type 0} (o : Option X) (x : X) → o ≡ Some x → IsSome o
-live_by o x e = subst (λ p. IsSome p) (sym e) (refl {A = Bool} {a = true})
 
 module _ {p : Parts} {features : Features} (r : Records p features) where
   abbrev before : Abstract

@@ -3,7 +3,7 @@ use Rattle.wasm_entries.specs.Record as entries
 use Rattle.std.proofs.Common.{◌≡◌, ℕ, refl, sym, ap, ◌∙◌, subst}
 use Rattle.std.specs.Prelude.{Option, Some, None, All}
 use Rattle.std.proofs.lemmas.List.Elements.{All-weaker}
-use Rattle.walrus_types.specs.Operators.{Tables}
+use Rattle.walrus_base.specs.Operators.{Tables}
 use Rattle.walrus_bodies.specs.declared.features.Features.{Features}
 use Rattle.walrus_contents.specs.View.{parts_view}
 use Rattle.walrus_contents.specs.declared.parts.Parts.{Parts}
@@ -11,7 +11,7 @@ use Rattle.walrus_model.specs.Abstract.{Abstract, Table}
 use Rattle.walrus_model.specs.Renaming.{Renaming, renamed_table}
 use Rattle.walrus_model.specs.Same.{BothAnd}
 use Rattle.walrus_model.proofs.Indices.{planned_live}
-use Rattle.walrus_rules.specs.Spelling.{IsChosen, IsNarrow}
+use Rattle.walrus_theorem.specs.Spelling.{IsChosen, IsNarrow}
 use Rattle.walrus_writing.specs.Elements.{ChoosesFlag, ChoosesTable}
 use Rattle.walrus_writing.specs.Records.{Records}
 use Rattle.walrus_writing.proofs.CarriedOver.{carried_over}

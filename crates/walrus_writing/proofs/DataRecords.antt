@@ -8,7 +8,7 @@ use Rattle.wasm_entries.specs.Spelling.{DataStands, ExpressionStands, IsIndex}
 use Rattle.wasm_entries.specs.declared.record.RawExpression.{RawExpression}
 use Rattle.wasm_entries.specs.declared.record.RawData.{RawData}
 use Rattle.wasm_entries.specs.declared.record.RawDataMode.TheVariants.{Active, Passive}
-use Rattle.walrus_types.specs.Operators.{Memories, Op}
+use Rattle.walrus_base.specs.Operators.{Memories, Op}
 use Rattle.walrus_code.specs.Names.{Lookup}
 use Rattle.walrus_code.specs.declared.error.IrError.{IrError}
 use Rattle.walrus_code.specs.declared.error.IrError.TheVariants as Ir
@@ -21,7 +21,7 @@ use Rattle.walrus_items.specs.Data.{DataValue}
 use Rattle.walrus_model.specs.Abstract.{DataKind, PassiveData, ActiveData, DataSegment}
 use Rattle.walrus_model.specs.Constants.{consts_of}
 use Rattle.walrus_model.specs.Sections as said
-use Rattle.walrus_parts.specs.Errors.{error_of_ir}
+use Rattle.walrus_items.specs.Errors.{error_of_ir}
 use Rattle.walrus_plan.specs.Brought.{own_of}
 use Rattle.walrus_writing.specs.Segments.{IndexesData, IndexesMode, IsSpelledData, KindIsUnspelled, RefusesData, UnspelledOffset}
 use Rattle.walrus_writing.proofs.ItemsLeft.{Written}

@@ -15,7 +15,7 @@ use Rattle.wasm_entries.specs.declared.record.RawElement.{RawElement}
 use Rattle.wasm_entries.specs.declared.record.RawElementMode.TheVariants as modes
 use Rattle.wasm_entries.specs.declared.record.RawItems.TheVariants as contents
 use Rattle.walrus_base.specs.Types.{RefType}
-use Rattle.walrus_types.specs.Operators.{Functions, Tables, Op}
+use Rattle.walrus_base.specs.Operators.{Functions, Tables, Op}
 use Rattle.walrus_code.specs.Names.{Lookup}
 use Rattle.walrus_code.specs.Results.{IndexesIn, heap_is_exact}
 use Rattle.walrus_code.specs.declared.error.IrError.{IrError}
@@ -25,7 +25,7 @@ use Rattle.walrus_model.specs.Abstract.{ElementKind, ActiveElements, ElementItem
 use Rattle.walrus_model.specs.Constants.{consts_of}
 use Rattle.walrus_model.specs.Sections as said
 use Rattle.walrus_model.specs.Sections.{element_kind, ref_of}
-use Rattle.walrus_model.proofs.Standing.{none_there}
+use Rattle.walrus_base.proofs.Standing.{none_there}
 use Rattle.walrus_constants.specs.Named.{named_const, named_ref}
 use Rattle.walrus_constants.specs.Segments.{named_element, named_element_items, named_element_kind}
 use Rattle.walrus_constants.specs.Written.{IndexesConst, IndexesConsts, IsSpelled, IsUnspelled}
@@ -33,8 +33,8 @@ use Rattle.walrus_constants.proofs.Causes.{not_found}
 use Rattle.walrus_constants.proofs.Listed.{consts_lacking, consts_unspelled, read_all, read_begins, read_next}
 use Rattle.walrus_contents.specs.View.{element_of}
 use Rattle.walrus_items.specs.Elements.{ElementValue}
-use Rattle.walrus_parts.specs.Errors.{error_of_ir}
-use Rattle.walrus_rules.specs.Spelling.{ArePlain, IsNarrow}
+use Rattle.walrus_items.specs.Errors.{error_of_ir}
+use Rattle.walrus_theorem.specs.Spelling.{ArePlain, IsNarrow}
 use Rattle.walrus_writing.specs.Elements.{ChoosesFlag, ChoosesTable, ExactItems, IndexesElement, IndexesItems, IndexesMode, IsSpelledElement, ItemsAreUnspelled, ItemsStand, KindIsUnspelled, MayLeaveOut, ModeStands, RefusesElements, UnspelledItem, UnspelledOffset}
 use Rattle.walrus_writing.proofs.ItemsLeft.{Written}
 

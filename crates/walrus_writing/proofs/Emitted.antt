@@ -6,30 +6,30 @@ use Rattle.walrus_bodies.specs.declared.features.Features.{Features}
 use Rattle.walrus_contents.specs.View.{parts_view}
 use Rattle.walrus_contents.specs.declared.parts.Parts.{Parts}
 use Rattle.wasm_frames.specs.Record as wire
-use Rattle.walrus_types.specs.Operators.{Item}
+use Rattle.walrus_base.specs.Operators.{Item}
 use Rattle.walrus_code.specs.Names.{Lookup}
 use Rattle.walrus_model.specs.Abstract.{Abstract, Custom, ProducerField}
 use Rattle.walrus_model.specs.Customs.{written_customs}
 use Rattle.walrus_model.specs.Sections.{custom_of}
 use Rattle.walrus_model.specs.Config.{Config}
 use Rattle.walrus_model.specs.Declared.{NothingUndeclared}
-use Rattle.walrus_rules.specs.Features.{features_of}
-use Rattle.walrus_rules.specs.Pinned.{IsWrittenAs}
-use Rattle.walrus_rules.specs.Refused.{IsSayable, WritesUnfit}
-use Rattle.walrus_rules.specs.Spelling.{FieldIsText, IsSpelling, IsSpelledAs}
-use Rattle.walrus_rules.proofs.OneSpelling.{as_told}
-use Rattle.walrus_rules.proofs.WrittenReads.{written_reads}
+use Rattle.walrus_theorem.specs.Features.{features_of}
+use Rattle.walrus_theorem.specs.Pinned.{IsWrittenAs}
+use Rattle.walrus_theorem.specs.Refused.{IsSayable, WritesUnfit}
+use Rattle.walrus_theorem.specs.Spelling.{FieldIsText, IsSpelling, IsSpelledAs}
+use Rattle.walrus_theorem.proofs.OneSpelling.{as_told}
+use Rattle.walrus_theorem.proofs.WrittenReads.{written_reads}
 use Rattle.walrus_writing.specs.Customs.{Task}
 use Rattle.walrus_writing.specs.declared.write.Choices.{Choices}
 use Rattle.walrus_writing.specs.Emitted.{IsWrittenWith, IsEmitted}
 use Rattle.walrus_writing.specs.Records.{Records, Spells, DoesNotFit, names_written}
 use Rattle.walrus_writing.proofs.NamesStand.{written_stand}
 use Rattle.walrus_writing.proofs.CarriedOver as carried
-use Rattle.walrus_writing.proofs.CountCarried.{count_carried}
+use Rattle.walrus_theorem.proofs.CountCarried.{count_carried}
 use Rattle.walrus_writing.proofs.OwnCustoms.{CustomText, Say, said_of, says_so}
 use Rattle.walrus_writing.proofs.Placed.{bytes_text, fits_text, text_fits}
 use Rattle.walrus_writing.proofs.ProducersSpelled.{chosen_text}
-use Rattle.walrus_rules.proofs.SameItems.{with_own}
+use Rattle.walrus_theorem.proofs.SameItems.{with_own}
 use Rattle.walrus_writing.proofs.TextStands.{all_bodies_stand, as_many_texts, sections_stand}
 use Rattle.walrus_writing.proofs.TypesEntered.{as_many_functions}
 use Rattle.walrus_writing.proofs.WithCustoms.{carried_with, flags_with, module_with, text_with}

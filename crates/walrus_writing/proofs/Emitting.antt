@@ -4,21 +4,21 @@ use Rattle.std.specs.Prelude.{All, IfOk, Result, Ok, Err}
 use Rattle.std.specs.Str.{IsUtf8}
 use Rattle.wasm_frames.specs.Record as wire
 use Rattle.wasm_frames.specs.Frames.{gathered}
-use Rattle.walrus_types.specs.Operators.{Item}
+use Rattle.walrus_base.specs.Operators.{Item}
 use Rattle.walrus_code.specs.Names.{Lookup}
 use Rattle.walrus_model.specs.Abstract.{Abstract, Custom}
 use Rattle.walrus_model.specs.Customs.{written_customs}
 use Rattle.walrus_model.specs.Sections.{custom_of}
-use Rattle.walrus_rules.specs.Text.{sections_of}
+use Rattle.walrus_theorem.specs.Text.{sections_of}
 use Rattle.std.specs.Global.{Vec}
 use Rattle.walrus_contents.specs.View.{parts_view}
 use Rattle.walrus_contents.specs.declared.parts.Parts.{Parts}
 use Rattle.walrus_model.specs.Config.{Config}
 use Rattle.walrus_model.specs.Dead.{HasDead}
 use Rattle.walrus_model.specs.Declared.{NothingUndeclared}
-use Rattle.walrus_parts.specs.declared.error.Error.{Error}
-use Rattle.walrus_rules.specs.Refused.{IsSayable, PassesLimits, Unfit, WritesUnfit}
-use Rattle.walrus_rules.proofs.FitsLimits.{fits_no_limit}
+use Rattle.walrus_items.specs.declared.error.Error.{Error}
+use Rattle.walrus_theorem.specs.Refused.{IsSayable, PassesLimits, Unfit, WritesUnfit}
+use Rattle.walrus_theorem.proofs.FitsLimits.{fits_no_limit}
 use Rattle.walrus_writing.specs.declared.write.Choices.{Choices}
 use Rattle.walrus_writing.specs.Emitted.{IsEmitted, IsWrittenWith}
 use Rattle.walrus_writing.specs.Records.{DoesNotFit, Spells, customs_written, names_written}
@@ -27,7 +27,7 @@ use Rattle.walrus_writing.proofs.Emitted.{choices_of, chosen_so, emitted, say_so
 use Rattle.walrus_writing.proofs.NoCauseAll.{none_unspelled}
 use Rattle.walrus_writing.proofs.OwnCustoms.{CustomText, only_made, only_so, sayable_by}
 use Rattle.walrus_writing.proofs.Placed.{fits_without, text_fits}
-use Rattle.walrus_rules.proofs.SameItems.{dead_back, limits_back, unspelled_back, with_own}
+use Rattle.walrus_theorem.proofs.SameItems.{dead_back, limits_back, unspelled_back, with_own}
 use Rattle.walrus_writing.proofs.WithCustoms.{module_with, text_with}
 use Rattle.walrus_writing.proofs.WrittenLemmas.{written_as_said}
 

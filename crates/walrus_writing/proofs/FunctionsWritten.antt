@@ -4,21 +4,21 @@ use Rattle.std.specs.Prelude.{Contains, nat_eq, option_and_then, unwrap_or, zip,
 use Rattle.std.specs.List.{AllZip, AllByRecursion, IsDistinct}
 use Rattle.std.proofs.lemmas.List.Elements.{All-from_recursion}
 use Rattle.walrus_base.specs.Id.{place}
-use Rattle.walrus_types.specs.Operators.{Types, Functions}
-use Rattle.walrus_types.specs.Shape.{place_in}
+use Rattle.walrus_base.specs.Operators.{Types, Functions}
+use Rattle.walrus_base.specs.Shape.{place_in}
 use Rattle.walrus_items.specs.Function.{function_type, args_of}
 use Rattle.walrus_bodies.specs.declared.features.Features.{Features}
 use Rattle.walrus_contents.specs.View.{body, parts_view}
 use Rattle.walrus_contents.specs.declared.parts.Parts.{Parts}
-use Rattle.walrus_contents.proofs.Lookups.{heads}
+use Rattle.walrus_base.proofs.Lookups.{heads}
 use Rattle.walrus_model.specs.Abstract.{Abstract, Function}
 use Rattle.walrus_model.specs.Ordered.{StandsFor}
 use Rattle.walrus_model.specs.Renaming.{Renaming}
 use Rattle.walrus_model.specs.Same.{SameFunction}
 use Rattle.walrus_model.specs.Sections.{function_with}
-use Rattle.walrus_model.proofs.Lists.{Contains-head, Contains-tail}
-use Rattle.walrus_model.proofs.Standing.{self_eq}
-use Rattle.walrus_rules.specs.Text.{BodyText, said}
+use Rattle.walrus_base.proofs.Lists.{Contains-head, Contains-tail}
+use Rattle.walrus_base.proofs.Standing.{self_eq}
+use Rattle.walrus_theorem.specs.Text.{BodyText, said}
 use Rattle.walrus_writing.specs.Parts.{HasBytes, function_seen, type_index}
 use Rattle.walrus_writing.specs.Records.{Records, texts_in}
 use Rattle.walrus_writing.proofs.Parted.{own_distinct}

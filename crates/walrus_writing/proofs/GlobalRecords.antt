@@ -8,7 +8,7 @@ use Rattle.wasm_entries.specs.Spelling.{ExpressionStands}
 use Rattle.wasm_entries.specs.declared.record.RawExpression.{RawExpression}
 use Rattle.wasm_entries.specs.declared.record.RawGlobal.{RawGlobal}
 use Rattle.walrus_base.specs.Types.{ValType}
-use Rattle.walrus_types.specs.Operators.{Op}
+use Rattle.walrus_base.specs.Operators.{Op}
 use Rattle.walrus_code.specs.FromRaw.{val_of}
 use Rattle.walrus_code.specs.Names.{Lookup, named_val}
 use Rattle.walrus_code.specs.Results.{IndexesIn, val_is_exact}
@@ -16,7 +16,7 @@ use Rattle.walrus_code.specs.declared.error.IrError.{IrError}
 use Rattle.walrus_code.specs.declared.error.IrError.TheVariants as Ir
 use Rattle.walrus_model.specs.Abstract.{Global, Defined}
 use Rattle.walrus_model.specs.Constants.{consts_of}
-use Rattle.walrus_model.proofs.Standing.{none_there, some_inj}
+use Rattle.walrus_base.proofs.Standing.{none_there, some_inj}
 use Rattle.walrus_constants.specs.Named.{named_initialiser, named_global}
 use Rattle.walrus_constants.specs.Written.{IndexesConst, IsUnspelled}
 use Rattle.walrus_constants.proofs.Causes.{not_found}

@@ -6,12 +6,12 @@ use Rattle.std.proofs.lemmas.List.Elements.{All-cons, All-nil}
 use Rattle.wasm_entries.specs.Record as wire
 use Rattle.wasm_entries.specs.Spelling.{ImportStands}
 use Rattle.walrus_base.specs.Types.{RefType, ValType, map_ref, map_val}
-use Rattle.walrus_types.specs.Operators.{Space, Types, Functions, Tables, Memories, Tags, Globals, Elements, DataSegments}
+use Rattle.walrus_base.specs.Operators.{Space, Types, Functions, Tables, Memories, Tags, Globals, Elements, DataSegments}
 use Rattle.walrus_code.specs.Names.{Lookup, named_val}
 use Rattle.walrus_constants.specs.Laws.{AgreesWith}
 use Rattle.walrus_constants.specs.Named.{named_global, named_ref, named_table}
 use Rattle.walrus_constants.proofs.Renamed.{agreed, agrees_last, ref_agrees, val_agrees}
-use Rattle.walrus_contents.proofs.Lookups.{mapped_some}
+use Rattle.walrus_base.proofs.Lookups.{mapped_some}
 use Rattle.walrus_model.specs.Abstract.{Abstract, Function, FunctionKind, Global, Import, ImportedBy, ImportedFunction, Table, Tag}
 use Rattle.walrus_model.specs.Imported.{IsBrought, numbered_from}
 use Rattle.walrus_model.specs.Live.{IsLive}
@@ -20,10 +20,10 @@ use Rattle.walrus_model.specs.Same.{SameFunction, SameKind}
 use Rattle.walrus_model.specs.Spaces.{SameThing, Thing, look}
 use Rattle.walrus_model.specs.WellMade.{import_in, import_of, kind_import, origin_import}
 use Rattle.walrus_model.proofs.Spaces.{live_from}
-use Rattle.walrus_model.proofs.Standing.{got_where, some_inj, zip_right}
+use Rattle.walrus_base.proofs.Standing.{got_where, some_inj, zip_right}
 use Rattle.walrus_plan.proofs.BroughtBy.{kind_origin, origin_is}
 use Rattle.walrus_writing.specs.Imported.{AreBare, IsBare, IsEntryAt, as_brought, named_function, named_thing}
-use Rattle.walrus_plan.proofs.Somes.{none_some}
+use Rattle.walrus_code.proofs.Somes.{none_some}
 
 -- ---- what a thing says to be brought by
 

@@ -9,7 +9,7 @@ use Rattle.wasm_entries.specs.Record.{import_entry}
 use Rattle.wasm_entries.specs.declared.record.RawDesc.{RawDesc}
 use Rattle.wasm_entries.specs.declared.record.RawImport.{RawImport}
 use Rattle.walrus_base.specs.Arena.{item_at}
-use Rattle.walrus_types.specs.Operators.{Functions, Globals, Memories, Tables, Tags}
+use Rattle.walrus_base.specs.Operators.{Functions, Globals, Memories, Tables, Tags}
 use Rattle.walrus_code.specs.Names.{Lookup}
 use Rattle.walrus_code.specs.declared.error.IrError.{IrError}
 use Rattle.walrus_code.specs.declared.error.IrError.TheVariants as Ir
@@ -23,9 +23,9 @@ use Rattle.walrus_items.specs.Tags.{TagValue, tags}
 use Rattle.walrus_items.specs.Functions.{FunctionValue, functions}
 use Rattle.walrus_items.specs.Imports.{ImportValue}
 use Rattle.walrus_model.specs.Abstract.{Abstract, Import}
-use Rattle.walrus_parts.specs.Errors.{error_of_ir}
+use Rattle.walrus_items.specs.Errors.{error_of_ir}
 use Rattle.walrus_writing.specs.Imported.{ImportsIndexed, IndexesDesc, IndexesImport, IndexesItem, IsEntryAt, IsEntryOf, RefusesImports}
-use Rattle.walrus_code.proofs.Turns.{map_snoc}
+use Rattle.walrus_base.proofs.Turns.{map_snoc}
 
 -- ---- the item at a place
 

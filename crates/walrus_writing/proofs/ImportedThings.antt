@@ -9,7 +9,7 @@ use Rattle.wasm_entries.specs.declared.record.RawGlobalType.{RawGlobalType}
 use Rattle.wasm_entries.specs.declared.record.RawLimits.{RawLimits}
 use Rattle.wasm_entries.specs.declared.record.RawTableType.{RawTableType}
 use Rattle.walrus_base.specs.Types.{RefType, ValType}
-use Rattle.walrus_types.specs.Operators.{Types, Functions, Tables, Memories, Tags, Globals}
+use Rattle.walrus_base.specs.Operators.{Types, Functions, Tables, Memories, Tags, Globals}
 use Rattle.walrus_code.specs.FromRaw.{val_of}
 use Rattle.walrus_code.specs.Names.{Lookup, named_val}
 use Rattle.walrus_code.specs.Results.{IndexesIn, NeedsNoMemory, heap_is_exact, val_is_exact}

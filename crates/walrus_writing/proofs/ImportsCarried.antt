@@ -4,8 +4,8 @@ use Rattle.std.specs.Prelude.{Option, IsSome, filter_map, slice_get, unwrap_or}
 use Rattle.std.specs.List.{AllZip}
 use Rattle.wasm_entries.specs.Record as wire
 use Rattle.walrus_base.specs.Arena.{entries}
-use Rattle.walrus_types.specs.Operators.{Space}
-use Rattle.walrus_types.specs.Shape.{place_in}
+use Rattle.walrus_base.specs.Operators.{Space}
+use Rattle.walrus_base.specs.Shape.{place_in}
 use Rattle.walrus_code.specs.Names.{Lookup}
 use Rattle.walrus_constants.specs.Laws.{AgreesWith}
 use Rattle.walrus_contents.specs.There.{ImportsAreLive}
@@ -25,9 +25,10 @@ use Rattle.walrus_model.specs.Sections.{imports_after}
 use Rattle.walrus_model.proofs.Arenas.{ordered_seen}
 use Rattle.walrus_model.proofs.Indices.{planned_index}
 use Rattle.walrus_model.proofs.Orders.{apart_in_order, carries_in_order, ordered_entries}
-use Rattle.walrus_model.proofs.Standing.{some_of, stands_at}
+use Rattle.walrus_base.proofs.Standing.{some_of, stands_at}
 use Rattle.walrus_writing.specs.Imported.{AreBare, IsEntryAt}
-use Rattle.walrus_writing.proofs.ImportsStand.{imports_stand, in_front}
+use Rattle.walrus_writing.proofs.ImportsStand.{imports_stand}
+use Rattle.walrus_groups.proofs.TypeLists.{got_left as in_front}
 
 -- what imports bring to a space has the first numbers of its plan
 pub brought_numbered : (names : Lookup) (plan : Plan) (v : Abstract) → AreNumbered names plan → IsPlan v plan → (s : Space) (order own : List ℕ) → plan s ≡ filter_map (import_number v s) order ++ own

@@ -4,7 +4,7 @@ use Rattle.std.specs.Prelude.{Option, IsSome, Contains, option_map}
 use Rattle.std.proofs.lemmas.List.{append-nil}
 use Rattle.wasm_forms.specs.Reading.{◌>>=◌}
 use Rattle.walrus_base.specs.Types.{HeapType, OfHeap, Concrete, Exact, RefType, ValType, I32, I64, F32, F64, V128, Ref, heap_names, val_names}
-use Rattle.walrus_types.specs.Operators.{Space, Types, Functions, Tables, Memories, Tags, Globals, Elements, DataSegments, Item, names_of, type_item}
+use Rattle.walrus_base.specs.Operators.{Space, Types, Functions, Tables, Memories, Tags, Globals, Elements, DataSegments, Item, names_of, type_item}
 use Rattle.walrus_code.specs.Names.{Lookup, named_heap, named_val}
 use Rattle.walrus_constants.specs.Named.{named_ref}
 use Rattle.walrus_model.specs.Abstract.{Abstract, Function, Global, Import, ImportedBy, ImportedFunction, Table, Tag}
@@ -14,18 +14,18 @@ use Rattle.walrus_model.specs.Plan.{AreNumbered, IsPlan, Plan}
 use Rattle.walrus_model.specs.Refers.{function_names, global_names, kind_names, named_by, table_names, tag_names, written_in}
 use Rattle.walrus_model.specs.Spaces.{Thing, look}
 use Rattle.walrus_model.proofs.Indices.{planned_named}
-use Rattle.walrus_model.proofs.Lists.{Contains-append_1, Contains-head, Contains-map}
-use Rattle.walrus_model.proofs.Standing.{some_inj}
+use Rattle.walrus_base.proofs.Lists.{Contains-append_1, Contains-head, Contains-map}
+use Rattle.walrus_base.proofs.Standing.{some_inj}
 use Rattle.walrus_base.specs.Arena.{item_at}
-use Rattle.walrus_parts.specs.Kinds.{imported}
+use Rattle.walrus_items.specs.Kinds.{imported}
 use Rattle.walrus_items.specs.Imports.{ImportValue, imports}
-use Rattle.walrus_parts.specs.declared.kinds.ImportKind.{ImportKind}
-use Rattle.walrus_parts.specs.declared.kinds.ImportKind.TheVariants as kinds
+use Rattle.walrus_items.specs.declared.kinds.ImportKind.{ImportKind}
+use Rattle.walrus_items.specs.declared.kinds.ImportKind.TheVariants as kinds
 use Rattle.walrus_contents.specs.View.{import_of, parts_view}
 use Rattle.walrus_contents.specs.declared.parts.Parts.{Parts}
-use Rattle.walrus_contents.proofs.NamedLemmas.{some_none}
 use Rattle.walrus_writing.specs.Imported.{ImportsIndexed, as_brought, named_thing}
-use Rattle.walrus_rules.proofs.Matches.{live_stable}
+use Rattle.walrus_model.proofs.KeptFollow.{not_none as some_none}
+use Rattle.walrus_model.proofs.Living.{living as live_stable}
 
 then_there : {A B : Type 0} (o : Option A) (f : A → B) → IsSome o → IsSome (o >>= λ y. Some (f y))
 then_there (Some y) f h = refl

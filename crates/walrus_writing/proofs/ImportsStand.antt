@@ -1,12 +1,12 @@
 -- The imports that the entries say, one behind another, are the imports of the module, renamed: each names the item that has its number.
-use Rattle.std.proofs.Common.{◌≡◌, ℕ, zero, suc, List, [], ◌∷◌, ◌++◌, append_assoc, length, refl, sym, ap, ◌∙◌, subst, Some, None}
+use Rattle.std.proofs.Common.{◌≡◌, ℕ, suc, List, [], ◌∷◌, ◌++◌, append_assoc, length, refl, sym, ap, ◌∙◌, subst, Some}
 use Rattle.std.specs.Prelude.{Option, filter_map, slice_get}
 use Rattle.std.specs.List.{AllZip, cons_option}
 use Rattle.std.proofs.lemmas.List.Elements.{filter_map-append}
 use Rattle.wasm_entries.specs.Record as wire
 use Rattle.wasm_entries.specs.declared.record.RawDesc.{RawDesc}
 use Rattle.wasm_entries.specs.declared.record.RawDesc.TheVariants as descs
-use Rattle.walrus_types.specs.Operators.{Space, Types, Functions, Tables, Memories, Tags, Globals, Elements, DataSegments, Item}
+use Rattle.walrus_base.specs.Operators.{Space, Types, Functions, Tables, Memories, Tags, Globals, Elements, DataSegments, Item}
 use Rattle.walrus_code.specs.Names.{Lookup}
 use Rattle.walrus_constants.specs.Laws.{AgreesWith}
 use Rattle.walrus_model.specs.Abstract.{Abstract, Import, Name}
@@ -18,19 +18,16 @@ use Rattle.walrus_model.specs.Spaces.{Thing, look, SameThing}
 use Rattle.walrus_model.proofs.ImportedZip.{imported_zip}
 use Rattle.walrus_writing.specs.Imported.{AreBare, IsEntryAt}
 use Rattle.walrus_writing.proofs.ImportedAlong.{entries_brought}
-use Rattle.walrus_plan.proofs.OrderByImport.{own_number}
-use Rattle.walrus_plan.proofs.Turns.{zip_snoc}
+use Rattle.walrus_model.proofs.OrderByImport.{own_number}
+use Rattle.walrus_base.proofs.ZipTurns.{zip_snoc}
+use Rattle.walrus_base.proofs.WholeLemmas.{none_some as untrue}
+use Rattle.walrus_groups.proofs.TypeLists.{got_left as in_front}
 
 -- ---- lists
 
 seam_at : {A : Type 0} (xs ys : List A) (y : A) → slice_get (xs ++ y ∷ ys) (length xs) ≡ Some y
 seam_at [] ys y = refl
 seam_at (x ∷ xs) ys y = seam_at xs ys y
-
-pub in_front : {A : Type 0} (xs ys : List A) (j : ℕ) (x : A) → slice_get xs j ≡ Some x → slice_get (xs ++ ys) j ≡ Some x
-in_front [] ys j x at = absurd (cc)
-in_front (y ∷ xs) ys zero x at = at
-in_front (y ∷ xs) ys (suc j) x at = in_front xs ys j x at
 
 as_long : {A B : Type 0} (R : A → B → Type 0) (xs : List A) (ys : List B) → AllZip R xs ys → length ys ≡ length xs
 as_long R [] [] h = refl
@@ -39,9 +36,6 @@ as_long R (x ∷ xs) [] h = elim h [ ]
 as_long R (x ∷ xs) (y ∷ ys) h = ap suc (as_long R xs ys h.1)
 
 -- ---- the item that a description brings, behind other imports
-
-untrue : {A : Type 0} (o : Option A) (x : A) → o ≡ None → o ≡ Some x → ⊥
-untrue o x e h = cc
 
 item_brought : (s : Space) (k : ℕ) (d : RawDesc) (y : Thing s) (before : List wire.Import) → brought_by s k d ≡ Some y → item_after before d ≡ (s, length (brought s before))
 item_brought Functions k (descs.Function t) y before e = refl

@@ -15,17 +15,17 @@ use Rattle.walrus_code.specs.Names.{Lookup, named_val, named_ops}
 use Rattle.walrus_code.specs.declared.error.IrError.{IrError}
 use Rattle.walrus_code.specs.declared.error.IrError.TheVariants as Ir
 use Rattle.walrus_items.specs.LocalFunction.{LocalFunction}
-use Rattle.walrus_types.specs.Operators.{Item, Types, Functions, Tables, Memories, Globals, Tags, Elements, DataSegments, Op, type_item, names_of, locals_of}
-use Rattle.walrus_types.specs.Shape.{place_in}
+use Rattle.walrus_base.specs.Operators.{Item, Types, Functions, Tables, Memories, Globals, Tags, Elements, DataSegments, Op, type_item, names_of, locals_of}
+use Rattle.walrus_base.specs.Shape.{place_in}
 use Rattle.walrus_bodies.specs.declared.features.Features.{Features}
 use Rattle.walrus_functions.specs.DeclaredLocals.{AreDeclared}
 use Rattle.walrus_functions.specs.EmittedBody.{EmitsBody, LacksAnIndex, index_in}
-use Rattle.walrus_parts.specs.Kinds.{exported}
+use Rattle.walrus_items.specs.Kinds.{exported}
 use Rattle.walrus_items.specs.Exports.{ExportValue, exports}
-use Rattle.walrus_parts.specs.FunctionKinds.{kind_type}
+use Rattle.walrus_items.specs.FunctionKinds.{kind_type}
 use Rattle.walrus_items.specs.Functions.{FunctionValue, functions, local_at}
-use Rattle.walrus_parts.specs.declared.kinds.ExportItem.{ExportItem}
-use Rattle.walrus_parts.specs.declared.kinds.ExportItem.TheVariants as exports_as
+use Rattle.walrus_items.specs.declared.kinds.ExportItem.{ExportItem}
+use Rattle.walrus_items.specs.declared.kinds.ExportItem.TheVariants as exports_as
 use Rattle.walrus_constants.specs.Named.{named_global, named_table}
 use Rattle.walrus_constants.specs.Segments.{named_data, named_element}
 use Rattle.walrus_constants.proofs.SegmentsNamed.{data_named, element_named}
@@ -34,8 +34,8 @@ use Rattle.walrus_items.specs.Elements.{ElementValue, elements}
 use Rattle.walrus_items.specs.Globals.{GlobalValue, globals}
 use Rattle.walrus_items.specs.Tables.{TableValue, tables}
 use Rattle.walrus_items.specs.Tags.{TagValue, tags}
-use Rattle.walrus_types.specs.ModuleTypes.{type_slots}
-use Rattle.walrus_types.specs.TypeDef.{TypeDef}
+use Rattle.walrus_base.specs.ModuleTypes.{type_slots}
+use Rattle.walrus_base.specs.TypeDef.{TypeDef}
 use Rattle.walrus_model.specs.Abstract as abstract
 use Rattle.walrus_model.specs.Abstract.{Abstract}
 use Rattle.walrus_model.specs.Dead.{HasDead}
@@ -45,22 +45,22 @@ use Rattle.walrus_model.specs.Refers.{named_by, type_names, function_names, loca
 use Rattle.walrus_contents.specs.There.{AreLive}
 use Rattle.walrus_contents.specs.View.{body, data_of, element_of, export_of, function, global_of, kind_of, parts_view, table_of, tag_of}
 use Rattle.walrus_contents.specs.declared.parts.Parts.{Parts}
-use Rattle.walrus_contents.proofs.Lookups.{still_some}
-use Rattle.walrus_contents.proofs.Slots.{item_seen}
-use Rattle.walrus_parts.specs.declared.function_kind.FunctionKind.{FunctionKind}
-use Rattle.walrus_parts.specs.declared.function_kind.FunctionKind.TheVariants as kind
+use Rattle.walrus_base.proofs.Lookups.{still_some}
+use Rattle.walrus_model.proofs.Slots.{item_seen}
+use Rattle.walrus_items.specs.declared.function_kind.FunctionKind.{FunctionKind}
+use Rattle.walrus_items.specs.declared.function_kind.FunctionKind.TheVariants as kind
 use Rattle.walrus_groups.specs.Indexed.{LacksAnIndex as TypesLackAnIndex}
-use Rattle.walrus_parts.specs.Errors.{error_of_ir}
+use Rattle.walrus_items.specs.Errors.{error_of_ir}
 use Rattle.walrus_model.proofs.Indices.{planned_named}
 use Rattle.walrus_model.proofs.Living.{AllLive, all_live}
-use Rattle.walrus_model.proofs.Lists.{Contains-head, Contains-tail, Contains-map, Contains-uncons, Contains-none, Contains-append_1, Contains-append_2}
-use Rattle.walrus_model.proofs.Standing.{none_there, some_inj, some_of, self_eq}
+use Rattle.walrus_base.proofs.Lists.{Contains-head, Contains-tail, Contains-map, Contains-uncons, Contains-none, Contains-append_1, Contains-append_2}
+use Rattle.walrus_base.proofs.Standing.{none_there, some_inj, some_of, self_eq}
 use Rattle.walrus_model.specs.Plan.{AreNumbered, IsPlan, Plan}
 use Rattle.walrus_writing.specs.Refusals.{RefusesBodies}
 use Rattle.walrus_writing.specs.Parts.{IsIndexed, export_with_index, function_seen, local_in, slots_of, source, source_of, tag_index, type_index, type_index_of}
 use Rattle.walrus_plan.specs.Sizes.{IsOrder}
 use Rattle.walrus_plan.proofs.BySize.{body_at, body_there, ordered_by_size, own_body}
-use Rattle.walrus_writing.proofs.NamedAll.{global_named, val_named, ops_named, table_named}
+use Rattle.walrus_constants.proofs.NamedAll.{global_named, val_named, ops_named, table_named}
 
 -- ---- places
 

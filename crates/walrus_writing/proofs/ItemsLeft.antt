@@ -14,14 +14,14 @@ use Rattle.walrus_contents.specs.View.{global_of, table_of}
 use Rattle.walrus_items.specs.Globals.{GlobalValue}
 use Rattle.walrus_items.specs.Tables.{TableValue}
 use Rattle.walrus_model.specs.Sections as said
-use Rattle.walrus_model.proofs.Lists.{Contains-head, Contains-tail}
-use Rattle.walrus_model.proofs.Standing.{none_there}
-use Rattle.walrus_parts.specs.Errors.{error_of_ir}
+use Rattle.walrus_base.proofs.Lists.{Contains-head, Contains-tail}
+use Rattle.walrus_base.proofs.Standing.{none_there}
+use Rattle.walrus_items.specs.Errors.{error_of_ir}
 use Rattle.walrus_plan.specs.Brought.{own_of}
 use Rattle.walrus_writing.specs.Globals.{IndexesGlobal, IsSpelledGlobal, RefusesGlobals}
 use Rattle.walrus_plan.specs.Local.{is_own}
 use Rattle.walrus_writing.specs.Tables.{IndexesTable, IsSpelledTable, RefusesTables}
-use Rattle.walrus_plan.proofs.Turns.{list_turn}
+use Rattle.walrus_base.proofs.ZipTurns.{list_turn}
 
 -- ---- what brings an item, as a test tells it
 

@@ -9,16 +9,16 @@ use Rattle.walrus_base.specs.Arena.{entries_from}
 use Rattle.walrus_base.specs.Id.{place}
 use Rattle.walrus_base.specs.declared.id.Id.{Id}
 use Rattle.walrus_base.specs.declared.keys.FunctionKey.{FunctionKey}
-use Rattle.walrus_types.specs.Locals.{locals}
-use Rattle.walrus_types.specs.declared.locals.Local.{Local}
+use Rattle.walrus_base.specs.Locals.{locals}
+use Rattle.walrus_base.specs.declared.locals.Local.{Local}
 use Rattle.walrus_code.specs.Names.{Lookup}
-use Rattle.walrus_code.proofs.Turns.{map_snoc}
+use Rattle.walrus_base.proofs.Turns.{map_snoc}
 use Rattle.walrus_bodies.specs.declared.features.Features.{Features}
 use Rattle.walrus_contents.specs.declared.parts.Parts.{Parts}
-use Rattle.walrus_contents.proofs.Steps.{zip_length}
-use Rattle.walrus_names.specs.Names.{all_local_names, filled, local_names}
-use Rattle.walrus_names.specs.Pushed.{with_map}
-use Rattle.walrus_plan.proofs.Turns.{zip_turn}
+use Rattle.walrus_model.proofs.PlacedTypes.{zip_length}
+use Rattle.walrus_writing.specs.Names.{all_local_names, filled, local_names}
+use Rattle.walrus_writing.specs.Pushed.{with_map}
+use Rattle.walrus_base.proofs.ZipTurns.{zip_turn}
 use Rattle.walrus_writing.specs.Bodies.{AreWritten, texts_in}
 use Rattle.walrus_writing.specs.Parts.{BodySeen, IsWrittenBody, unplaced}
 

@@ -4,9 +4,11 @@ use Rattle.std.specs.Prelude.{AllPairs, Contains, nat_eq, not}
 use Rattle.std.proofs.lemmas.Bool.Decides.{eqb_tells}
 use Rattle.std.proofs.lemmas.List.Elements.{All-contains}
 use Rattle.walrus_writing.specs.Located.{lasts, is_last_of}
-use Rattle.walrus_model.proofs.Lists.{Contains-head, Contains-none, Contains-tail, Contains-uncons}
+use Rattle.walrus_base.proofs.Lists.{Contains-head, Contains-none, Contains-tail, Contains-uncons}
 use Rattle.walrus_model.proofs.OrderOfPlaces.{pairs_head, pairs_tail}
-use Rattle.walrus_writing.proofs.RisingLists.{Rises, rises_cons}
+use Rattle.walrus_model.proofs.RisingLists.{Rises, rises_cons}
+use Rattle.wasm_operators.proofs.OneStands.{true_not_false as untrue}
+use Rattle.std.proofs.lemmas.Bool.{false≢true as untrue'}
 
 abbrev pub Pair : Type 0
 Pair = ℕ × ℕ
@@ -27,12 +29,6 @@ not_less a b (inr h) = let e : a.0 ≡ b.0 = h.0 in omega (arith, e)
 tied_less : (a b : Pair) → NotAfter a b → a.0 ≡ b.0 → a.1 ≤ b.1
 tied_less a b (inl h) e = absurd (omega (arith, h, e))
 tied_less a b (inr h) e = h.1
-
-untrue : true ≡ false → ⊥
-untrue e = cc
-
-untrue' : false ≡ true → ⊥
-untrue' e = cc
 
 -- ---- the first is the last one of its number
 

@@ -1,11 +1,8 @@
 pub mod Bare
-pub mod BodyTypes
 pub mod CarriedOver
 pub mod ChosenFlags
-pub mod CountCarried
 pub mod CountStands
 pub mod CountTold
-pub mod Counted
 pub mod DataRecords
 pub mod ElementRecords
 pub mod Emitted
@@ -25,8 +22,6 @@ pub mod JoinedBodies
 pub mod LastPlaces
 pub mod LocatedBodies
 pub mod LocatedLoops
-pub mod NamedAll
-pub mod NamedTypes
 pub mod NamesAre
 pub mod NamesSpelled
 pub mod NamesStand
@@ -43,13 +38,10 @@ pub mod Parted
 pub mod Placed
 pub mod Placing
 pub mod ProducersSpelled
-pub mod Ranked
 pub mod RefusesAll
 pub mod RefusesLarge
 pub mod RefusesUnspelled
 pub mod Refusing
-pub mod Renamed
-pub mod RisingLists
 pub mod SameBodies
 pub mod Sections
 pub mod Spelled
@@ -66,3 +58,7 @@ pub mod UsedRows
 pub mod WithCustoms
 pub mod WrittenAs
 pub mod WrittenLemmas
+pub mod NamesLemmas
+pub mod PlacedNames
+pub mod TextNames
+pub mod UsedNames

@@ -18,11 +18,11 @@ use Rattle.walrus_bodies.specs.Emitting.{places_from}
 use Rattle.walrus_bodies.specs.declared.features.Features.{Features}
 use Rattle.walrus_functions.specs.EmittedBody.{BodyWritten, declarations_bytes}
 use Rattle.walrus_contents.specs.declared.parts.Parts.{Parts}
-use Rattle.walrus_contents.proofs.Lookups.{got_map, mapped_some}
+use Rattle.walrus_base.proofs.Lookups.{got_map, mapped_some}
 use Rattle.walrus_items.specs.Functions.{functions}
-use Rattle.walrus_model.proofs.Lists.{map-map}
-use Rattle.walrus_model.proofs.Standing.{some_inj, zip_right}
-use Rattle.walrus_parts.specs.Transform.{location_of}
+use Rattle.walrus_base.proofs.Lists.{map-map}
+use Rattle.walrus_base.proofs.Standing.{some_inj, zip_right}
+use Rattle.walrus_items.specs.Transform.{location_of}
 use Rattle.walrus_writing.specs.Located.{AreOffsets}
 use Rattle.walrus_writing.specs.Bodies.{AreBodies}
 use Rattle.walrus_writing.specs.Parts.{BodySeen, HasBytes, local_in, source, used_locals}

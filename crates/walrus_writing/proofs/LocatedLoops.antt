@@ -2,7 +2,7 @@
 use Rattle.std.proofs.Common.{◌≡◌, ℕ, zero, suc, ◌+◌, ◌<◌, ◌≤◌, Bool, true, false, cond, List, [], ◌∷◌, ◌++◌, drop, length, map, refl, sym, subst, ap, ap₂, ◌∙◌, arith, append_assoc, append-nil}
 use Rattle.std.specs.Prelude.{Err, IfOk, Ok, Result, slice_index_or, zip}
 use Rattle.std.specs.List.{AllZip}
-use Rattle.std.proofs.lemmas.List.{drop_all, drop_more, map-append}
+use Rattle.std.proofs.lemmas.List.{drop_all, drop_more}
 use Rattle.walrus_writing.specs.Located.{all_placed_from, first_if_last, is_first_last, is_last_of, lasts, placed_from, placed_one}
 
 -- part of what was left is done
@@ -79,9 +79,6 @@ last_at_end xs i low past =
     ap is_first_last (drop_more xs i none low) ∙ ap (is_last_of (slice_index_or xs i none)) (drop_all (i + 1) xs (omega (arith, past)))
 
 -- ---- one more
-
-pub seen_push : {A C : Type 0} (view : A → C) (done new : List A) (x : A) → new ≡ done ++ x ∷ [] → map view new ≡ map view done ++ view x ∷ []
-seen_push view done new x is = ap (map view) is ∙ map-append view done (x ∷ [])
 
 -- what one fact of an answer says, another does
 pub ok_also : {X E : Type 0} (P Q : X → Type 0) (r : Result X E) → ((x : X) → P x → Q x) → IfOk r P → IfOk r Q

@@ -2,8 +2,7 @@
 use Rattle.std.proofs.Common.{⊎_elim, ◌≡◌, ℕ, zero, suc, ◌+◌, Bool, true, false, List, [], ◌∷◌, ◌++◌, map, refl, sym, ap, ◌∙◌, subst, Some, None}
 use Rattle.std.specs.Prelude.{Contains, IsSome, Option, nat_eq, option_and_then, option_to_list, slice_get, unwrap_or, if◌then◌else◌}
 use Rattle.std.specs.List.{IsDistinct}
-use Rattle.std.proofs.lemmas.Bool.{cases_lt}
-use Rattle.std.proofs.lemmas.Bool.{eqb-true}
+use Rattle.std.proofs.lemmas.Bool.{cases_lt, eqb-true}
 use Rattle.std.proofs.lemmas.Bool.Decides.{Decides-eqb}
 use Rattle.std.proofs.lemmas.Cmp.{nat_eq_equiv}
 use Rattle.std.proofs.lemmas.Map.Made.{IsDistinct-from_AllPairs}
@@ -11,9 +10,9 @@ use Rattle.std.proofs.lemmas.Map.Views.{Contains-from_any, list_any-from_Contain
 use Rattle.wasm_payloads.specs.declared.naming.NameSpace.{NameSpace}
 use Rattle.wasm_payloads.specs.declared.naming.NameSpace.TheVariants as spaces
 use Rattle.walrus_base.specs.Arena.{item_at}
-use Rattle.walrus_types.specs.Locals.{locals}
-use Rattle.walrus_types.specs.Operators.{Space, Types, Functions, Tables, Memories, Tags, Globals, Elements, DataSegments, Item, locals_of}
-use Rattle.walrus_types.specs.declared.locals.Local.{Local}
+use Rattle.walrus_base.specs.Locals.{locals}
+use Rattle.walrus_base.specs.Operators.{Space, Types, Functions, Tables, Memories, Tags, Globals, Elements, DataSegments, Item, locals_of}
+use Rattle.walrus_base.specs.declared.locals.Local.{Local}
 use Rattle.walrus_bodies.specs.declared.features.Features.{Features}
 use Rattle.walrus_items.specs.Function.{body_of as ops_in, args_of}
 use Rattle.walrus_functions.specs.EmittedBody.{is_used}
@@ -26,31 +25,30 @@ use Rattle.walrus_model.specs.Names.{AreNamed, IsNoType, MayBeNamed, WritesNames
 use Rattle.walrus_model.specs.Refers.{IsUsed}
 use Rattle.walrus_model.specs.Renaming.{Renaming, renamed}
 use Rattle.walrus_model.proofs.Indices.{found_at, planned_index, planned_stands}
-use Rattle.walrus_model.proofs.Standing.{got_where, some_inj, stands_at}
-use Rattle.walrus_names.specs.Names.{filled, if_chosen, item_name, local_name, local_names, used_among}
-use Rattle.walrus_names.proofs.PlacedNames.{given, given_filled, gives_at, item_of_map, item_through, looked_entries, none_below}
-use Rattle.walrus_rules.specs.Examples.{no_names}
-use Rattle.walrus_rules.specs.Namings.{is_in_range, names_given, names_in_range, space_of}
-use Rattle.walrus_rules.specs.Text.{NameMap, NameText, namings_of}
-use Rattle.walrus_rules.proofs.OneName.{looked, looked_at, looked_in}
+use Rattle.walrus_base.proofs.Standing.{got_where, some_inj, stands_at}
+use Rattle.walrus_writing.specs.Names.{filled, if_chosen, item_name, local_name, local_names, used_among}
+use Rattle.walrus_writing.proofs.PlacedNames.{given, given_filled, gives_at, item_of_map, item_through, looked_entries, none_below, none_some}
+use Rattle.walrus_theorem.specs.Examples.{no_names}
+use Rattle.walrus_theorem.specs.Namings.{is_in_range, names_given, names_in_range, space_of}
+use Rattle.walrus_theorem.specs.Text.{NameMap, NameText, namings_of}
+use Rattle.walrus_theorem.proofs.OneName.{looked, looked_at, looked_in}
 use Rattle.walrus_writing.specs.Parts.{source}
 use Rattle.walrus_writing.specs.Records.{Records, names_written}
 use Rattle.walrus_writing.specs.declared.write.Choices.{Choices}
-use Rattle.walrus_rules.proofs.OneNaming.{all_given, item_given, local_given, module_given}
-use Rattle.walrus_rules.proofs.OneSpelling.{names_told}
+use Rattle.walrus_theorem.proofs.OneNaming.{all_given, item_given, local_given, module_given}
+use Rattle.walrus_theorem.proofs.OneSpelling.{names_told}
 use Rattle.walrus_writing.proofs.NamesStand.{all_names, all_there, among_get, is_map, local_at, maps, named_in, names_of}
 use Rattle.walrus_writing.proofs.OwnCustoms.{CustomText}
 use Rattle.walrus_writing.proofs.Parted.{body_among}
-use Rattle.walrus_writing.proofs.SameBodies.{placed, rest_of}
-use Rattle.walrus_rules.proofs.SameItems.{live_back, live_on, with_own}
+use Rattle.walrus_writing.proofs.SameBodies.{placed}
+use Rattle.walrus_theorem.proofs.SameItems.{live_back, live_on, with_own}
 use Rattle.walrus_writing.proofs.UsedRows.{IsAt, at_place, first, planned, used}
 use Rattle.walrus_writing.proofs.WithCustoms.{carried_with, module_with, text_with}
 use Rattle.walrus_writing.proofs.WrittenAs.{renaming_of}
+use Rattle.walrus_theorem.proofs.ManyLocals.{gap as rest_of}
+use Rattle.walrus_theorem.proofs.ReadPlain.{no_names as none_given}
 
 -- ---- lists
-
-none_some : {A : Type 0} {X : Type 0} (x : X) → ◌≡◌ {A = Option X} None (Some x) → A
-none_some x e = absurd cc
 
 among_step : (z : ℕ) (b : Bool) (ids : List ℕ) (us : List Bool) (y : ℕ) → item_at (used_among (z ∷ ids) (b ∷ us)) (suc y) ≡ item_at (used_among ids us) y
 among_step z true ids us y = refl
@@ -81,10 +79,6 @@ module _ (test : ℕ → Bool) where
 if_there : (b : Bool) (names : List Name) → IsSome (last_name (if b then names else [])) → b ≡ true
 if_there true names h = refl
 if_there false names h = absurd cc
-
-none_given : (b : Bool) → ◌≡◌ {A = List Name} (if b then [] else []) []
-none_given true = refl
-none_given false = refl
 
 module _ {p : Parts} {features : Features} (r : Records p features) where
   abbrev V : Abstract

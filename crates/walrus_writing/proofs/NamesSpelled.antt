@@ -12,9 +12,9 @@ use Rattle.wasm_payloads.specs.Lent.{EntryFits, FunctionFits, ModuleNameFits, Na
 use Rattle.wasm_payloads.specs.Spelling.{NameMap, NameText, ProducersFit, entry_bytes, function_bytes, further_spaces, map_bytes, module_name_bytes, names_bytes, part_bytes, space_bytes, subsection_of}
 use Rattle.wasm_writer.specs.Spelling.{SectionFits}
 use Rattle.walrus_model.specs.Abstract.{Name, ProducerField}
-use Rattle.walrus_rules.specs.Text.{raw_field}
-use Rattle.walrus_rules.proofs.OneList.{All-back, All-front}
-use Rattle.walrus_rules.proofs.OneSections.{more}
+use Rattle.walrus_theorem.specs.Text.{raw_field}
+use Rattle.walrus_groups.proofs.OneList.{All-back, All-front}
+use Rattle.walrus_theorem.proofs.OneSections.{more}
 use Rattle.walrus_writing.specs.Customs.{AreSpelled, section_if_any, sections_made, sections_of}
 use Rattle.walrus_writing.specs.declared.customs.Payloads.{Payloads}
 use Rattle.walrus_writing.proofs.ProducersSpelled.{before_fits, behind_filled, behind_fits, block_fits, fields_fit, producers_made, producers_more, vector_fits}

@@ -8,26 +8,26 @@ use Rattle.wasm_payloads.specs.declared.naming.NameSpace.{NameSpace}
 use Rattle.wasm_payloads.specs.declared.naming.NameSpace.TheVariants as spaces
 use Rattle.wasm_payloads.specs.Names.{Named, ItemName, LocalName, ModuleName}
 use Rattle.walrus_base.specs.Arena.{entries, item_at}
-use Rattle.walrus_types.specs.Locals.{locals}
-use Rattle.walrus_types.specs.Operators.{Space, Types, Functions, Tables, Memories, Tags, Globals, Elements, DataSegments}
-use Rattle.walrus_types.specs.declared.locals.Local.{Local}
+use Rattle.walrus_base.specs.Locals.{locals}
+use Rattle.walrus_base.specs.Operators.{Space, Types, Functions, Tables, Memories, Tags, Globals, Elements, DataSegments}
+use Rattle.walrus_base.specs.declared.locals.Local.{Local}
 use Rattle.walrus_bodies.specs.declared.features.Features.{Features}
 use Rattle.walrus_contents.specs.View.{parts_view}
 use Rattle.walrus_contents.specs.declared.parts.Parts.{Parts}
-use Rattle.walrus_contents.proofs.Lookups.{then_some, there}
-use Rattle.walrus_contents.proofs.Steps.{zip_length}
+use Rattle.walrus_base.proofs.Lookups.{then_some, there}
+use Rattle.walrus_model.proofs.PlacedTypes.{zip_length}
 use Rattle.walrus_model.specs.Abstract.{Abstract, ALocal, AnItem, Name}
 use Rattle.walrus_model.specs.Ordered.{StandsFor}
 use Rattle.walrus_model.specs.Spaces.{SameThing, Thing, look}
-use Rattle.walrus_model.proofs.Standing.{got_in, some_inj}
-use Rattle.walrus_names.specs.Names.{filled, if_chosen, item_name, item_names, local_name, local_names, names_said, used_among}
-use Rattle.walrus_names.proofs.PlacedNames.{each_entry, all_entries, entries_rise_from, item_through, map_of_item, named_through}
-use Rattle.walrus_names.proofs.TextNames.{item_stands, local_stands, module_stands, stands_some}
-use Rattle.walrus_rules.specs.Examples.{no_names}
-use Rattle.walrus_rules.specs.Namings.{is_in_range, naming_of, space_of}
-use Rattle.walrus_rules.specs.Spelling.{MapStands, NamesStand}
-use Rattle.walrus_rules.specs.Text.{NameMap, NameText, function_namings, further_spaces, module_naming, namings_of, space_namings}
-use Rattle.walrus_rules.proofs.WorkedParts.{all_one}
+use Rattle.walrus_base.proofs.Standing.{got_in, some_inj}
+use Rattle.walrus_writing.specs.Names.{filled, if_chosen, item_name, item_names, local_name, local_names, names_said, used_among}
+use Rattle.walrus_writing.proofs.PlacedNames.{each_entry, all_entries, entries_rise_from, item_through, map_of_item, named_through, none_some as no_some}
+use Rattle.walrus_writing.proofs.TextNames.{item_stands, local_stands, module_stands, stands_some}
+use Rattle.walrus_theorem.specs.Examples.{no_names}
+use Rattle.walrus_theorem.specs.Namings.{is_in_range, naming_of, space_of}
+use Rattle.walrus_theorem.specs.Spelling.{MapStands, NamesStand}
+use Rattle.walrus_theorem.specs.Text.{NameMap, NameText, function_namings, further_spaces, module_naming, namings_of, space_namings}
+use Rattle.walrus_theorem.proofs.WorkedParts.{all_one}
 use Rattle.walrus_writing.specs.Records.{Records, names_written}
 use Rattle.walrus_writing.specs.declared.write.Choices.{Choices}
 use Rattle.walrus_writing.proofs.CarriedOver.{written_along}
@@ -47,9 +47,6 @@ filled_some [] m e = absurd cc
 filled_some (x ∷ xs) m e =
     let same : x ∷ xs ≡ m = some_inj (x ∷ xs) m e in
     (sym same, λ none. let clash : x ∷ xs ≡ [] = same ∙ none in absurd cc)
-
-no_some : {A : Type 0} {X : Type 0} (x : X) → ◌≡◌ {A = Option X} None (Some x) → A
-no_some x e = absurd cc
 
 pub among_get : (ids : List ℕ) (us : List Bool) (y x : ℕ) → item_at (used_among ids us) y ≡ Some x → slice_get ids y ≡ Some x
 among_get [] [] y x e = no_some x e

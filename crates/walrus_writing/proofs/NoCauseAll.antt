@@ -1,14 +1,14 @@
 -- Where all is there, and the records of the sections are, there is no cause to refuse but the size.
-use Rattle.walrus_types.specs.ModuleTypes.{type_slots}
+use Rattle.walrus_base.specs.ModuleTypes.{type_slots}
 use Rattle.walrus_groups.specs.Indexed.{AreInOrder}
 use Rattle.walrus_contents.specs.View.{parts_view}
 use Rattle.walrus_contents.specs.declared.parts.Parts.{Parts}
 use Rattle.walrus_model.specs.Abstract.{Abstract}
 use Rattle.walrus_model.specs.Config.{Config}
 use Rattle.walrus_model.specs.Dead.{HasDead}
-use Rattle.walrus_rules.specs.Features.{features_of}
-use Rattle.walrus_rules.specs.Refused.{HasUnspelled, ExactType, ExactConstant, EmptyConstant, IllFormed, PassesLimits, HasNoCause}
-use Rattle.walrus_rules.proofs.NoCause.{two}
+use Rattle.walrus_theorem.specs.Features.{features_of}
+use Rattle.walrus_theorem.specs.Refused.{HasUnspelled, ExactType, ExactConstant, EmptyConstant, IllFormed, PassesLimits, HasNoCause}
+use Rattle.walrus_theorem.proofs.NoCause.{two}
 use Rattle.walrus_plan.proofs.RefusesPlanned.{lacks_none}
 use Rattle.walrus_writing.specs.Records.{Records}
 use Rattle.walrus_writing.proofs.NoCauseBodies.{formed}

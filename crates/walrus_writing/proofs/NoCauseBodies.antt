@@ -3,7 +3,7 @@ use Rattle.std.proofs.Common.{◌≡◌, ℕ, List, ◌++◌, map, refl, sym, ap
 use Rattle.std.specs.Prelude.{Option, replicate, flat_map, slice_get}
 use Rattle.walrus_base.specs.Id.{place}
 use Rattle.walrus_base.specs.Types.{ValType, CompType, Func, Struct, Array}
-use Rattle.walrus_types.specs.TypeDef.{TypeDef, type_params}
+use Rattle.walrus_base.specs.TypeDef.{TypeDef, type_params}
 use Rattle.walrus_code.specs.Names.{Lookup, LeadsBack, LocalsLeadBack}
 use Rattle.walrus_bodies.specs.Body.{context}
 use Rattle.walrus_functions.specs.EmittedBody.{Source, comp_takes, takes, index_in}
@@ -12,13 +12,13 @@ use Rattle.walrus_contents.specs.View.{body, parts_view}
 use Rattle.walrus_contents.specs.declared.parts.Parts.{Parts}
 use Rattle.walrus_model.specs.Abstract.{Abstract, Body, Function, LocalFunction as OfBody}
 use Rattle.walrus_model.specs.Config.{Config}
-use Rattle.walrus_types.specs.Operators.{Functions}
+use Rattle.walrus_base.specs.Operators.{Functions}
 use Rattle.walrus_model.proofs.Indices.{found_at, planned_at}
 use Rattle.walrus_model.specs.Names.{body_of_function, body_of_kind}
 use Rattle.walrus_model.specs.Rules.{IsFunctionComp}
-use Rattle.walrus_model.proofs.Standing.{got_where, some_inj, zip_right}
-use Rattle.walrus_rules.specs.Features.{features_of}
-use Rattle.walrus_rules.specs.WellMade.{IsWellFormed}
+use Rattle.walrus_base.proofs.Standing.{got_where, some_inj, zip_right}
+use Rattle.walrus_theorem.specs.Features.{features_of}
+use Rattle.walrus_theorem.specs.WellMade.{IsWellFormed}
 use Rattle.walrus_writing.specs.Parts.{HasBytes, function_seen, source}
 use Rattle.walrus_writing.specs.Records.{Records}
 use Rattle.walrus_writing.proofs.Parted.{body_among}

@@ -6,28 +6,27 @@ use Rattle.std.proofs.lemmas.List.Elements.{Contains-append_cases}
 use Rattle.wasm_forms.specs.Reading.{◌>>=◌}
 use Rattle.wasm_forms.proofs.Bind.{some_same, bind_some}
 use Rattle.walrus_base.specs.Types.{HeapType, OfHeap, Concrete, Exact, ValType, I32, I64, F32, F64, V128, Ref, StorageType, Unpacked, I8, I16, FieldType, CompType, Func, Struct, Array, IsNotExact, val_heaps, storage_heaps, field_heaps, comp_heaps}
-use Rattle.walrus_types.specs.Operators.{Types, Functions, Tables, Memories, Tags, Globals, Elements, DataSegments, Item, Op}
-use Rattle.walrus_types.specs.TypeDef.{TypeDef, type_params}
+use Rattle.walrus_base.specs.Operators.{Types, Functions, Tables, Memories, Tags, Globals, Elements, DataSegments, Item, Op}
+use Rattle.walrus_base.specs.TypeDef.{TypeDef, type_params}
 use Rattle.walrus_code.specs.FromRaw.{ops_of}
 use Rattle.walrus_code.specs.Names.{Lookup, named_heap, named_val}
 use Rattle.walrus_functions.specs.Handlers.{params_of}
-use Rattle.walrus_functions.proofs.LawNamed.{HasIndex, ops_found}
+use Rattle.walrus_bodies.proofs.LawNamed.{HasIndex, ops_found, each_append as all_append}
 use Rattle.walrus_groups.specs.Groups.{types_from}
 use Rattle.walrus_groups.specs.Named.{each, named_vals, named_storage, named_field, named_fields, named_comp}
 use Rattle.walrus_contents.specs.View.{parts_view}
 use Rattle.walrus_contents.specs.declared.parts.Parts.{Parts}
-use Rattle.walrus_contents.proofs.Lookups.{got_map, mapped_some, mapped_append}
+use Rattle.walrus_base.proofs.Lookups.{got_map, mapped_some, mapped_append}
 use Rattle.walrus_model.specs.Abstract.{Abstract, Body, DataKind, PassiveData, ActiveData, DataSegment, ElementKind, PassiveElements, DeclaredElements, ActiveElements, ElementItems, ListedFunctions, Expressions, Element, Function, Global, Table, FunctionKind, LocalFunction, ImportedFunction, Uninitialised}
 use Rattle.walrus_model.specs.Config.{Config}
 use Rattle.walrus_model.specs.Refers.{used_locals}
 use Rattle.walrus_model.specs.WellMade.{heaps_by, heaps_in, consts_by, consts_in, data_kind_consts, element_kind_consts, element_item_consts, element_item_heaps, option_consts, op_heaps, body_heaps, kind_heaps}
-use Rattle.walrus_model.proofs.Lists.{Contains-none, Contains-uncons}
-use Rattle.walrus_model.proofs.Standing.{got_in, some_inj}
-use Rattle.walrus_rules.specs.Features.{features_of}
-use Rattle.walrus_rules.specs.WellMade.{IsWellFormed}
-use Rattle.walrus_rules.proofs.PlainBodies.{ops_named, types_named}
-use Rattle.walrus_rules.proofs.PlainTypes.{Plain, plain_append, plain_left, plain_right, each_in, types_plain, TypePlain, ValsPlain}
-use Rattle.walrus_rules.proofs.TextShaped.{all_append}
+use Rattle.walrus_base.proofs.Lists.{Contains-none, Contains-uncons}
+use Rattle.walrus_base.proofs.Standing.{got_in, some_inj}
+use Rattle.walrus_theorem.specs.Features.{features_of}
+use Rattle.walrus_theorem.specs.WellMade.{IsWellFormed}
+use Rattle.walrus_model.proofs.PlainBodies.{ops_named, types_named}
+use Rattle.walrus_model.proofs.PlainTypes.{Plain, plain_append, plain_left, plain_right, types_plain, TypePlain, ValsPlain}
 use Rattle.walrus_constants.specs.Written.{IsUnspelled, ExactHeap, NoOperator}
 use Rattle.walrus_code.specs.Results.{heap_is_exact, val_is_exact}
 use Rattle.walrus_writing.specs.Elements as elements
@@ -38,6 +37,8 @@ use Rattle.walrus_writing.specs.Tables as tables
 use Rattle.walrus_model.proofs.Indices.{planned_named}
 use Rattle.walrus_writing.proofs.NoCauseBodies.{formed}
 use Rattle.walrus_writing.proofs.TypesEntered.{type_entry}
+use Rattle.walrus_model.proofs.Parsing.{each_in}
+use Rattle.walrus_theorem.proofs.SpelledReads.{all_such as each_follows}
 
 -- ---- heap types one behind another
 
@@ -49,10 +50,6 @@ module _ {A : Type 0} (f : A → List (HeapType ℕ)) where
   together : (xs : List A) → AllByRecursion (λ (x : A). Plain (f x)) xs → Plain (flat_map f xs)
   together [] h = tt
   together (x ∷ xs) h = plain_append (f x) (flat_map f xs) h.0 (together xs h.1)
-
-each_follows : {A : Type 0} (P Q : A → Type 0) → ((x : A) → P x → Q x) → (xs : List A) → AllByRecursion P xs → AllByRecursion Q xs
-each_follows P Q law [] h = tt
-each_follows P Q law (x ∷ xs) h = (law x h.0, each_follows P Q law xs h.1)
 
 -- what is looked up item by item
 each_back : {X Y : Type 0} (find : X → Option Y) (P : X → Type 0) (Q : Y → Type 0) → ((x : X) (y : Y) → find x ≡ Some y → Q y → P x) → (xs : List X) (ys : List Y) → each find xs ≡ Some ys → AllByRecursion Q ys → AllByRecursion P xs

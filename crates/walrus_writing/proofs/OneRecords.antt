@@ -11,22 +11,22 @@ use Rattle.wasm_writer.specs.Spelling.{SectionFits, SectionStands}
 use Rattle.wasm_wire.specs.ModuleSpelling.{EachSection, ModuleFits, ModuleStands, module_bytes}
 use Rattle.walrus_contents.specs.View.{parts_view}
 use Rattle.walrus_contents.specs.declared.parts.Parts.{Parts}
-use Rattle.walrus_types.specs.Operators.{Item}
+use Rattle.walrus_base.specs.Operators.{Item}
 use Rattle.walrus_model.specs.Abstract.{Abstract, Custom}
 use Rattle.walrus_model.specs.Config.{Config}
 use Rattle.walrus_model.specs.Customs.{written_customs}
 use Rattle.walrus_model.specs.Dead.{HasDead}
 use Rattle.walrus_model.specs.Declared.{NothingUndeclared}
 use Rattle.walrus_model.specs.Sections.{custom_of}
-use Rattle.walrus_rules.specs.Examples.{empty_text}
-use Rattle.walrus_rules.specs.Pinned.{IsWrittenAs}
-use Rattle.walrus_rules.specs.Refused.{IsSayable}
-use Rattle.walrus_rules.specs.Spelling.{IsSpelledAs, IsSpelling, written_as}
-use Rattle.walrus_rules.specs.Text.{Text, sections_of}
-use Rattle.walrus_rules.proofs.BytesOnce.{living_keeps, one_module}
-use Rattle.walrus_rules.proofs.OneSections.{laid}
-use Rattle.walrus_rules.proofs.OneSpelling.{spelled_once}
-use Rattle.walrus_rules.proofs.SameItems.{dead_back, with_own}
+use Rattle.walrus_theorem.specs.Examples.{empty_text}
+use Rattle.walrus_theorem.specs.Pinned.{IsWrittenAs}
+use Rattle.walrus_theorem.specs.Refused.{IsSayable}
+use Rattle.walrus_theorem.specs.Spelling.{IsSpelledAs, IsSpelling, written_as}
+use Rattle.walrus_theorem.specs.Text.{Text, sections_of}
+use Rattle.walrus_theorem.proofs.BytesOnce.{living_keeps, one_module}
+use Rattle.walrus_theorem.proofs.OneSections.{laid}
+use Rattle.walrus_theorem.proofs.OneSpelling.{spelled_once}
+use Rattle.walrus_theorem.proofs.SameItems.{dead_back, with_own}
 use Rattle.walrus_writing.specs.Customs.{Task}
 use Rattle.walrus_writing.specs.Emitted.{IsWrittenWith}
 use Rattle.walrus_writing.specs.Records.{Records, Spells, customs_written, module_of, names_written}

@@ -3,7 +3,7 @@ use Rattle.std.proofs.Common.{◌≡◌, inl, inr, ℕ, ◌+◌, ◌≤◌, Bool
 use Rattle.std.specs.Prelude.{Contains, IsSome, Option, slice_get}
 use Rattle.wasm_frames.specs.Record as wire
 use Rattle.wasm_frames.proofs.Modules.{one_record_lem}
-use Rattle.walrus_types.specs.Operators.{Functions}
+use Rattle.walrus_base.specs.Operators.{Functions}
 use Rattle.walrus_functions.specs.Transform.{Transform}
 use Rattle.walrus_model.specs.Abstract.{Abstract, Body, Function}
 use Rattle.walrus_model.specs.Config.{Config}
@@ -11,21 +11,20 @@ use Rattle.walrus_model.specs.Live.{IsLive}
 use Rattle.walrus_model.specs.Names.{body_of, body_of_function}
 use Rattle.walrus_model.specs.Renaming.{Renaming}
 use Rattle.walrus_model.specs.Transform.{IsBodyOf, IsLocalFunction, IsPlaceOf, IsTransform, TrueOf}
-use Rattle.walrus_model.proofs.Lists.{Contains-none}
-use Rattle.walrus_model.proofs.Standing.{some_inj}
-use Rattle.walrus_rules.specs.Spelling.{IsSpelling}
-use Rattle.walrus_rules.proofs.Numbers.{numbers_one}
-use Rattle.walrus_rules.proofs.Shaped.{Shaped, Side}
-use Rattle.walrus_rules.proofs.TextShaped.{shaped}
+use Rattle.walrus_base.proofs.Lists.{Contains-none}
+use Rattle.walrus_base.proofs.Standing.{some_inj}
+use Rattle.walrus_theorem.specs.Spelling.{IsSpelling}
+use Rattle.walrus_theorem.proofs.Numbers.{numbers_one}
+use Rattle.walrus_theorem.proofs.Shaped.{Shaped, Side}
+use Rattle.walrus_theorem.proofs.TextShaped.{shaped}
 use Rattle.walrus_writing.specs.Transform.{CountStandsAt, IsTransformOf, OneTransform, imported_functions}
 use Rattle.walrus_writing.proofs.CountStands.{one_count}
 use Rattle.walrus_writing.proofs.OperatorsStand.{one_places}
-use Rattle.walrus_writing.proofs.RisingLists.{same_members}
+use Rattle.walrus_model.proofs.RisingLists.{same_members}
+use Rattle.std.proofs.lemmas.Bool.{false≢true as untrue}
+use Rattle.walrus_base.proofs.Lookups.{heads as cons_parts}
 
 -- ---- pairs
-
-cons_parts : {A : Type 0} (a b : A) (xs ys : List A) → a ∷ xs ≡ b ∷ ys → (a ≡ b) × (xs ≡ ys)
-cons_parts a b xs ys e = let p : a ≡ b = cc in let q : xs ≡ ys = cc in (p, q)
 
 pub same_pairs : (xs ys : List (ℕ × ℕ)) → map (λ (o : ℕ × ℕ). o.0) xs ≡ map (λ (o : ℕ × ℕ). o.0) ys → map (λ (o : ℕ × ℕ). o.1) xs ≡ map (λ (o : ℕ × ℕ). o.1) ys → xs ≡ ys
 same_pairs [] [] e f = refl
@@ -44,9 +43,6 @@ local_there None h = h
 
 pub local_lives : (v : Abstract) (f : ℕ) → IsLocalFunction v f → IsLive v (Functions, f)
 local_lives v f h = local_there (v.functions f) h
-
-untrue : false ≡ true → ⊥
-untrue e = cc
 
 -- a function is local or not
 by_body : {X : Type 0} (o : Option Body) → (IsSome o → X) → ((IsSome o → ⊥) → X) → X

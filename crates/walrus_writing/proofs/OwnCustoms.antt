@@ -12,11 +12,13 @@ use Rattle.walrus_model.specs.Abstract.{Abstract, Custom, Indices, Name, Produce
 use Rattle.walrus_model.specs.Customs as model
 use Rattle.walrus_model.specs.Customs.{fixed, is_debug_name, no_indices, written_customs}
 use Rattle.walrus_model.specs.Sections.{custom_of, customs_of, is_apart}
-use Rattle.walrus_rules.specs.Refused.{IsSayable}
-use Rattle.walrus_rules.specs.Spelling.{is_dylink, is_other}
-use Rattle.walrus_rules.specs.Text.{NameText, Text}
+use Rattle.walrus_theorem.specs.Refused.{IsSayable}
+use Rattle.walrus_theorem.specs.Spelling.{is_dylink, is_other}
+use Rattle.walrus_theorem.specs.Text.{NameText, Text}
 use Rattle.walrus_writing.specs.Customs.{chosen_producers}
 use Rattle.walrus_writing.specs.declared.write.Choices.{Choices}
+use Rattle.wasm_operators.proofs.OneStands.{bit_down_at as not_true}
+use Rattle.walrus_theorem.proofs.SpelledFits.{all_back as behind_all}
 
 -- ---- lists
 
@@ -151,10 +153,6 @@ only_so p choices names = record { split = refl; dylinks = All-nil _; others = A
 
 -- ---- what a module of indices says can be said
 
-not_true : (b : Bool) → not b ≡ true → b ≡ false
-not_true true e = absurd cc
-not_true false e = refl
-
 kept : (c : wire.Custom) (b : Bool) (cs : List wire.Custom) → not (is_apart c.name) ≡ b → AllByRecursion (λ (s : Custom). is_apart s.name ≡ false) (map custom_of cs) → AllByRecursion (λ (s : Custom). is_apart s.name ≡ false) (map custom_of (cond b (c ∷ cs) cs))
 kept c true cs e h = (not_true (is_apart c.name) e, h)
 kept c false cs e h = h
@@ -162,10 +160,6 @@ kept c false cs e h = h
 none_apart : (cs : List wire.Custom) → AllByRecursion (λ (s : Custom). is_apart s.name ≡ false) (customs_of cs)
 none_apart [] = tt
 none_apart (c ∷ cs) = kept c (not (is_apart c.name)) (filter (λ (x : wire.Custom). not (is_apart x.name)) cs) refl (none_apart cs)
-
-behind_all : {A : Type 0} (P : A → Type 0) (xs ys : List A) → AllByRecursion P (xs ++ ys) → AllByRecursion P ys
-behind_all P [] ys h = h
-behind_all P (x ∷ xs) ys h = behind_all P xs ys h.1
 
 module _ (indices : Indices) where
   abbrev IsSaid : Custom → Type 0

@@ -6,10 +6,10 @@ use Rattle.std.proofs.lemmas.List.Elements.{All-weaker, filter-append}
 use Rattle.wasm_frames.specs.Record as wire
 use Rattle.walrus_model.specs.Abstract.{ProducerField}
 use Rattle.walrus_model.specs.Sections.{custom_of, customs_of, is_apart}
-use Rattle.walrus_rules.specs.Spelling.{is_dylink, is_other}
-use Rattle.walrus_rules.specs.Text.{Text, names_bytes}
-use Rattle.walrus_rules.proofs.OneList.{filter_all}
-use Rattle.walrus_rules.proofs.OneSections.{customs_in}
+use Rattle.walrus_theorem.specs.Spelling.{is_dylink, is_other}
+use Rattle.walrus_theorem.specs.Text.{Text, names_bytes}
+use Rattle.walrus_groups.proofs.OneList.{filter_all}
+use Rattle.walrus_theorem.proofs.OneSections.{customs_in}
 use Rattle.walrus_writing.proofs.NamesSpelled.{named_by_bytes, names_more}
 use Rattle.walrus_writing.proofs.ProducersSpelled.{producers_more}
 use Rattle.walrus_writing.proofs.Sections.{apart_parts, by_dylink}

@@ -5,7 +5,7 @@ use Rattle.std.specs.List.{AllByRecursion, AllZip, IsDistinct}
 use Rattle.wasm_entries.specs.Record as wire
 use Rattle.wasm_entries.specs.declared.record.RawDesc.{RawDesc}
 use Rattle.wasm_entries.specs.declared.record.RawDesc.TheVariants as descs
-use Rattle.walrus_types.specs.Operators.{Space, Functions}
+use Rattle.walrus_base.specs.Operators.{Space, Functions}
 use Rattle.walrus_bodies.specs.declared.features.Features.{Features}
 use Rattle.walrus_contents.specs.View.{parts_view}
 use Rattle.walrus_contents.specs.declared.parts.Parts.{Parts}
@@ -15,11 +15,11 @@ use Rattle.walrus_model.specs.Names.{body_of, body_of_function, body_of_kind}
 use Rattle.walrus_model.specs.Ordered.{StandsFor}
 use Rattle.walrus_model.specs.Sections.{imported, imported_function}
 use Rattle.walrus_model.specs.WellMade.{import_in, import_of, kind_import}
-use Rattle.walrus_model.proofs.Lists.{Contains-head, Contains-tail}
+use Rattle.walrus_base.proofs.Lists.{Contains-head, Contains-tail}
 use Rattle.walrus_plan.specs.Brought.{import_numbers}
 use Rattle.walrus_writing.specs.Records.{Records}
-use Rattle.walrus_plan.proofs.OrderByImport.{brought_in, in_either}
-use Rattle.walrus_plan.proofs.Somes.{none_some}
+use Rattle.walrus_model.proofs.OrderByImport.{brought_in, in_either}
+use Rattle.walrus_code.proofs.Somes.{none_some}
 
 -- ---- lists
 

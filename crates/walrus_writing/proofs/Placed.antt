@@ -18,12 +18,12 @@ use Rattle.wasm_wire.specs.ModuleSpelling.{EachSection, ModuleFits, module_bytes
 use Rattle.walrus_bodies.specs.declared.features.Features.{Features}
 use Rattle.walrus_contents.specs.declared.parts.Parts.{Parts}
 use Rattle.walrus_model.specs.Abstract.{ProducerField}
-use Rattle.walrus_rules.specs.Examples.{empty_text}
-use Rattle.walrus_rules.specs.Spelling.{written_as}
-use Rattle.walrus_rules.specs.Text.{NameText, Text, raw_field, sections_of}
-use Rattle.walrus_rules.proofs.OneList.{All-back}
-use Rattle.walrus_rules.proofs.OneSections.{laid, later, later_none}
-use Rattle.walrus_types.specs.Operators.{Functions}
+use Rattle.walrus_theorem.specs.Examples.{empty_text}
+use Rattle.walrus_theorem.specs.Spelling.{written_as}
+use Rattle.walrus_theorem.specs.Text.{NameText, Text, raw_field, sections_of}
+use Rattle.walrus_groups.proofs.OneList.{All-back}
+use Rattle.walrus_theorem.proofs.OneSections.{laid, later, later_none}
+use Rattle.walrus_base.specs.Operators.{Functions}
 use Rattle.walrus_writing.specs.Customs.{Task, chosen_producers, sections_made}
 use Rattle.walrus_writing.specs.Parts.{unplaced}
 use Rattle.walrus_writing.specs.Records.{Records, module_of, sections_with, text_of}

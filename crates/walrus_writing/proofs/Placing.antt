@@ -6,22 +6,20 @@ use Rattle.std.specs.declared.ops.Range.{Range}
 use Rattle.std.proofs.lemmas.Bool.Decides.{eqb_tells}
 use Rattle.wasm_frames.specs.Record as wire
 use Rattle.wasm_writer.specs.Spelling.{range_of}
-use Rattle.walrus_types.specs.Shape.{place_in}
-use Rattle.walrus_contents.proofs.Lookups.{got_both, got_map, mapped_some}
+use Rattle.walrus_base.specs.Shape.{place_in}
+use Rattle.walrus_base.proofs.Lookups.{got_both, got_map, mapped_some}
 use Rattle.walrus_model.specs.Transform.{default_location}
 use Rattle.walrus_model.proofs.Indices.{found_at}
-use Rattle.walrus_model.proofs.Lists.{Contains-append_1, Contains-append_2, Contains-head, Contains-none, Contains-tail, Contains-uncons}
-use Rattle.walrus_model.proofs.Standing.{got_in, some_inj, stands_at}
-use Rattle.walrus_plan.proofs.OrderByImport.{in_either}
+use Rattle.walrus_base.proofs.Lists.{Contains-append_1, Contains-append_2, Contains-head, Contains-none, Contains-tail, Contains-uncons}
+use Rattle.walrus_base.proofs.Standing.{some_inj, stands_at}
+use Rattle.walrus_model.proofs.OrderByImport.{in_either}
 use Rattle.walrus_writing.specs.Located.{all_placed_from, ends_of, placed_from, placed_one}
+use Rattle.walrus_model.proofs.Looked.{got_contains as is_there}
 
 abbrev pub Pair : Type 0
 Pair = ℕ × ℕ
 
 -- ---- lists
-
-pub is_there : {A : Type 0} (xs : List A) (k : ℕ) (x : A) → slice_get xs k ≡ Some x → Contains xs x
-is_there xs k x at = let g = got_in xs k x at in (k, g.0, g.1 x)
 
 -- as long as another one that has something there
 pub also_there : {A B : Type 0} (xs : List A) (ys : List B) (k : ℕ) (x : A) → length xs ≡ length ys → slice_get xs k ≡ Some x → (y : B) × (slice_get ys k ≡ Some y)

@@ -1,11 +1,11 @@
 -- The producers section: its payload isn't empty, what fits in it where it fits, and its texts.
-use Rattle.std.proofs.Common.{◌≡◌, ℕ, zero, suc, ◌≤◌, Bool, true, false, List, [], ◌∷◌, ◌++◌, length, map, refl, subst, arith}
-use Rattle.std.specs.Prelude.{All, codes, nat_lt, if◌then◌else◌}
+use Rattle.std.proofs.Common.{◌≡◌, ℕ, ◌≤◌, Bool, true, false, List, [], ◌∷◌, ◌++◌, length, map, refl, subst, arith}
+use Rattle.std.specs.Prelude.{All, codes}
 use Rattle.std.specs.List.{AllByRecursion}
 use Rattle.std.proofs.lemmas.List.{length-append}
 use Rattle.std.proofs.lemmas.List.Elements.{All-from_recursion, All-head}
 use Rattle.std.proofs.lemmas.Str.{IsUtf8-string_bytes}
-use Rattle.wasm_forms.specs.Spelling.{block_bytes, groups, number_bytes, row_bytes, vector_bytes}
+use Rattle.wasm_forms.specs.Spelling.{block_bytes, number_bytes, row_bytes, vector_bytes}
 use Rattle.wasm_forms.specs.Writing.{EachFits, FitsLength, FitsVector}
 use Rattle.wasm_forms.proofs.Adding.{vector_map}
 use Rattle.wasm_frames.specs.Record as wire
@@ -20,25 +20,13 @@ use Rattle.walrus_model.specs.Producers.{if_written}
 use Rattle.walrus_producers.specs.Seen.{fields_seen, values_seen}
 use Rattle.walrus_producers.specs.declared.producers.ProducerValue.{ProducerValue as HeldValue}
 use Rattle.walrus_producers.specs.declared.producers.ProducerField.{ProducerField as HeldField}
-use Rattle.walrus_rules.specs.Spelling.{FieldIsText, ValueIsText}
-use Rattle.walrus_rules.specs.Text.{field_bytes, raw_field}
-use Rattle.walrus_rules.proofs.OneSections.{more}
+use Rattle.walrus_theorem.specs.Spelling.{FieldIsText, ValueIsText}
+use Rattle.walrus_theorem.specs.Text.{field_bytes, raw_field}
+use Rattle.walrus_theorem.proofs.OneSections.{more}
 use Rattle.walrus_writing.specs.Customs.{payload_of, section_if_any}
+use Rattle.walrus_theorem.proofs.SpelledFits.{number_long as number_filled}
 
 -- ---- a number has a byte or more, and so has a vector
-
-cond_filled : (b : Bool) (x y : ℕ) (xs ys : List ℕ) → 1 ≤ length (if b then x ∷ xs else y ∷ ys)
-cond_filled true x y xs ys = omega arith
-cond_filled false x y xs ys = omega arith
-
-groups_filled : (below : Bool) (stop most n : ℕ) → 1 ≤ length (groups below stop most n)
-unfolding groups
-groups_filled below stop zero n = omega arith
-groups_filled below stop (suc most) n = cond_filled (nat_lt n stop) _ _ _ _
-
-number_filled : (n : ℕ) → 1 ≤ length (number_bytes n)
-unfolding number_bytes
-number_filled n = groups_filled false 128 9 n
 
 pub behind_filled : (n : ℕ) (rest : List ℕ) → 1 ≤ length (number_bytes n ++ rest)
 behind_filled n rest = omega (arith, number_filled n, length-append (number_bytes n) rest)

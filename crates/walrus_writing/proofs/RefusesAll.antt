@@ -2,20 +2,20 @@
 use Rattle.std.proofs.Common.{◌≡◌, ℕ, List, sym, subst}
 use Rattle.std.specs.Prelude.{IfOk, Result, Ok, Err}
 use Rattle.walrus_groups.specs.Indexed.{AreInOrder}
-use Rattle.walrus_types.specs.ModuleTypes.{type_slots}
+use Rattle.walrus_base.specs.ModuleTypes.{type_slots}
 use Rattle.walrus_contents.specs.View.{parts_view}
 use Rattle.walrus_contents.specs.declared.parts.Parts.{Parts}
 use Rattle.wasm_frames.specs.Record as wire
-use Rattle.walrus_types.specs.Operators.{Item}
+use Rattle.walrus_base.specs.Operators.{Item}
 use Rattle.walrus_code.specs.Names.{Lookup}
 use Rattle.walrus_model.specs.Abstract.{Abstract, Custom}
 use Rattle.walrus_model.specs.Config.{Config}
 use Rattle.walrus_model.specs.Dead.{HasDead}
 use Rattle.walrus_model.specs.WellMade.{ImportsMatch}
-use Rattle.walrus_parts.specs.declared.error.Error.{Error}
-use Rattle.walrus_parts.specs.declared.error.Error.TheVariants.{Memory, NoIndex, NotWritable, TooLarge, TwoIndices}
-use Rattle.walrus_rules.specs.Refused.{HasTwoIndices, IsSayable, LacksIndex, PassesLimits, RefusesToWrite}
-use Rattle.walrus_rules.proofs.NoCause.{two}
+use Rattle.walrus_items.specs.declared.error.Error.{Error}
+use Rattle.walrus_items.specs.declared.error.Error.TheVariants.{Memory, NoIndex, NotWritable, TooLarge, TwoIndices}
+use Rattle.walrus_theorem.specs.Refused.{HasTwoIndices, IsSayable, LacksIndex, PassesLimits, RefusesToWrite}
+use Rattle.walrus_theorem.proofs.NoCause.{two}
 use Rattle.walrus_writing.specs.declared.write.Choices.{Choices}
 use Rattle.walrus_writing.specs.Emitted.{IsWrittenWith, told}
 use Rattle.walrus_plan.specs.Reads.{ReadsInOrder}
@@ -26,7 +26,7 @@ use Rattle.walrus_writing.specs.Records.{DoesNotFit, Spells}
 use Rattle.walrus_writing.specs.Refusals.{RefusesItems}
 use Rattle.walrus_writing.proofs.Emitted.{choices_of, chosen_so}
 use Rattle.walrus_writing.proofs.NoCauseAll.{none_unspelled}
-use Rattle.walrus_rules.proofs.SameItems.{dead_back, lacks_back, lacks_on, two_back, two_on, unspelled_back, unspelled_on, with_own}
+use Rattle.walrus_theorem.proofs.SameItems.{dead_back, lacks_back, lacks_on, two_back, two_on, unspelled_back, unspelled_on, with_own}
 use Rattle.walrus_writing.proofs.RefusesLarge.{passes, too_many_items}
 use Rattle.walrus_writing.proofs.RefusesUnspelled.{unspelled}
 

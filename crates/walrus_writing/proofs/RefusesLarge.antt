@@ -2,7 +2,7 @@
 use Rattle.std.proofs.Common.{inl, inr, ◌≡◌, ℕ, zero, suc, ◌<◌, List, [], ◌∷◌, length, refl, sym, ap, subst, arith}
 use Rattle.std.specs.Prelude.{◌≢◌, Option, All, AllPairs, Contains, slice_index_or}
 use Rattle.walrus_base.specs.Types.{ValType}
-use Rattle.walrus_types.specs.Operators.{locals_of}
+use Rattle.walrus_base.specs.Operators.{locals_of, Item}
 use Rattle.walrus_items.specs.Function.{body_of as ops_of_local, args_of}
 use Rattle.walrus_functions.specs.DeclaredLocals.{GoesBefore, AreDeclared}
 use Rattle.walrus_functions.proofs.LawOrder.{turn}
@@ -10,13 +10,12 @@ use Rattle.walrus_functions.specs.EmittedBody.{HasTooManyLocals}
 use Rattle.walrus_contents.specs.View.{body, parts_view}
 use Rattle.walrus_contents.specs.declared.parts.Parts.{Parts}
 use Rattle.wasm_frames.specs.Record as wire
-use Rattle.walrus_types.specs.Operators.{Item}
 use Rattle.walrus_code.specs.Names.{Lookup}
 use Rattle.walrus_model.specs.Abstract.{Abstract, Custom}
 use Rattle.walrus_model.specs.Config.{Config}
 use Rattle.walrus_model.specs.Names.{body_of_function}
-use Rattle.walrus_rules.specs.Features.{features_of}
-use Rattle.walrus_rules.specs.Refused.{PassesLimits, ManyItems, ManyLocals}
+use Rattle.walrus_theorem.specs.Features.{features_of}
+use Rattle.walrus_theorem.specs.Refused.{PassesLimits, ManyItems, ManyLocals}
 use Rattle.walrus_model.proofs.Indices.{planned_rising}
 use Rattle.walrus_plan.specs.Refusals.{HasTooManyItems}
 use Rattle.walrus_writing.specs.Customs.{task}
@@ -25,7 +24,7 @@ use Rattle.walrus_writing.specs.Records.{DoesNotFit}
 use Rattle.walrus_writing.specs.Refusals as refusals
 use Rattle.walrus_writing.specs.Refusals.{HasBody}
 use Rattle.walrus_writing.proofs.Emitted.{choices_of}
-use Rattle.walrus_rules.proofs.SameItems.{live_on, with_own}
+use Rattle.walrus_theorem.proofs.SameItems.{live_on, with_own}
 
 -- ---- declared locals
 

@@ -5,14 +5,14 @@ use Rattle.std.specs.Prelude.{Option, Contains, option_map, Err}
 use Rattle.walrus_base.specs.Arena.{item_at, items}
 use Rattle.walrus_base.specs.Id.{place}
 use Rattle.walrus_base.specs.Types.{CompType, Func, Struct, Array, HeapType, OfHeap, Concrete, Exact, ValType, I32, I64, F32, F64, V128, Ref, IsNotExact, comp_heaps, val_heaps}
-use Rattle.walrus_types.specs.Operators.{Space, Types, Functions, Tables, Memories, Tags, Globals, Elements, DataSegments, Item, Op}
-use Rattle.walrus_types.specs.TypeDef.{TypeDef, type_params}
+use Rattle.walrus_base.specs.Operators.{Space, Types, Functions, Tables, Memories, Tags, Globals, Elements, DataSegments, Item, Op}
+use Rattle.walrus_base.specs.TypeDef.{TypeDef, type_params}
 use Rattle.walrus_code.specs.Names.{Lookup}
 use Rattle.walrus_code.specs.Results.{heap_is_exact, val_is_exact}
 use Rattle.walrus_constants.specs.Written.{IsUnspelled, ExactHeap, NoOperator}
 use Rattle.walrus_items.specs.LocalFunction.{LocalFunction}
 use Rattle.walrus_functions.specs.EmittedBody.{CantBeWritten, comp_takes, takes}
-use Rattle.walrus_types.specs.ModuleTypes.{type_slots}
+use Rattle.walrus_base.specs.ModuleTypes.{type_slots}
 use Rattle.walrus_functions.specs.Handlers.{params_of}
 use Rattle.walrus_functions.specs.Laws as laws
 use Rattle.walrus_functions.proofs.LawWritable.{ill_formed}
@@ -23,20 +23,20 @@ use Rattle.walrus_items.specs.Globals.{GlobalValue, globals}
 use Rattle.walrus_items.specs.Tables.{TableValue, tables}
 use Rattle.walrus_contents.specs.View.{body, data_of, element_of, global_of, parts_view, table_of}
 use Rattle.walrus_contents.specs.declared.parts.Parts.{Parts}
-use Rattle.walrus_contents.proofs.Slots.{item_seen}
+use Rattle.walrus_model.proofs.Slots.{item_seen}
 use Rattle.walrus_model.specs.Abstract as abstract
 use Rattle.walrus_model.specs.Config.{Config}
 use Rattle.walrus_model.specs.Dead.{HasDead}
 use Rattle.walrus_model.specs.Rules.{IsFunctionComp}
 use Rattle.walrus_model.specs.Spaces.{Thing, look}
 use Rattle.walrus_model.specs.WellMade.{consts_by, consts_in, data_kind_consts, element_kind_consts, element_item_consts, element_item_heaps, heaps_by, option_consts}
-use Rattle.walrus_model.proofs.Lists.{Contains-append_1, Contains-append_2, Contains-head}
-use Rattle.walrus_model.proofs.Standing.{none_there}
-use Rattle.walrus_parts.specs.declared.error.Error.{Error}
-use Rattle.walrus_parts.specs.declared.error.Error.TheVariants as errors
-use Rattle.walrus_rules.specs.Features.{features_of}
-use Rattle.walrus_rules.specs.Refused.{HasUnspelled, EmptyConstant, ExactConstant, ExactType, IllFormed}
-use Rattle.walrus_rules.specs.WellMade.{IsWellFormed}
+use Rattle.walrus_base.proofs.Lists.{Contains-append_1, Contains-append_2, Contains-head}
+use Rattle.walrus_base.proofs.Standing.{none_there}
+use Rattle.walrus_items.specs.declared.error.Error.{Error}
+use Rattle.walrus_items.specs.declared.error.Error.TheVariants as errors
+use Rattle.walrus_theorem.specs.Features.{features_of}
+use Rattle.walrus_theorem.specs.Refused.{HasUnspelled, EmptyConstant, ExactConstant, ExactType, IllFormed}
+use Rattle.walrus_theorem.specs.WellMade.{IsWellFormed}
 use Rattle.walrus_writing.specs.Parts.{function_seen, source}
 use Rattle.walrus_writing.specs.Elements as elements_spelled
 use Rattle.walrus_writing.specs.Globals as globals_spelled

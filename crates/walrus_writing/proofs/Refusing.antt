@@ -26,8 +26,8 @@ use Rattle.wasm_forms.specs.declared.error.WireError.{WireError}
 use Rattle.wasm_forms.specs.declared.error.WireError.TheVariants as Wire
 use Rattle.walrus_base.specs.Arena.{entries as entries_in, item_at, items}
 use Rattle.walrus_base.specs.Id.{place}
-use Rattle.walrus_types.specs.ModuleTypes.{type_slots}
-use Rattle.walrus_types.specs.Operators.{Space, Functions, Tables, Memories, Tags, Globals, DataSegments}
+use Rattle.walrus_base.specs.ModuleTypes.{type_slots}
+use Rattle.walrus_base.specs.Operators.{Space, Functions, Tables, Memories, Tags, Globals, DataSegments}
 use Rattle.walrus_code.specs.Names.{Lookup}
 use Rattle.walrus_groups.specs.Indexed.{AreIndexed}
 use Rattle.walrus_groups.specs.Named.{named_def}
@@ -43,24 +43,24 @@ use Rattle.walrus_items.specs.Tables.{TableValue, tables}
 use Rattle.walrus_items.specs.Tags.{TagValue, tags}
 use Rattle.walrus_contents.specs.View.{data_of, element_of, export_of, global_of, memory_of, parts_view, table_of, tag_of}
 use Rattle.walrus_contents.specs.declared.parts.Parts.{Parts}
-use Rattle.walrus_contents.proofs.Lookups.{as_long}
-use Rattle.walrus_contents.proofs.Slots.{stands_at}
+use Rattle.walrus_base.proofs.Lookups.{as_long}
+use Rattle.walrus_model.proofs.Slots.{stands_at}
 use Rattle.walrus_model.specs.Abstract.{DataSegment, Element, Memory, ProducerField}
 use Rattle.walrus_model.specs.Plan.{AreNumbered, IsPlan}
 use Rattle.walrus_model.specs.WellMade.{ImportsMatch}
 use Rattle.walrus_model.specs.Sections as said
-use Rattle.walrus_model.proofs.Lists.{map-map, map-same_on}
-use Rattle.walrus_parts.specs.Errors.{error_of_wire}
-use Rattle.walrus_parts.specs.declared.error.Error.{Error}
-use Rattle.walrus_parts.specs.declared.error.Error.TheVariants as Parts_error
-use Rattle.walrus_rules.specs.Spelling.{IsCount}
-use Rattle.walrus_rules.specs.Text.{NameText, raw_field}
-use Rattle.walrus_names.specs.Names.{first_own, if_chosen, names_said}
+use Rattle.walrus_base.proofs.Lists.{map-map, map-same_on}
+use Rattle.walrus_items.specs.Errors.{error_of_wire}
+use Rattle.walrus_items.specs.declared.error.Error.{Error}
+use Rattle.walrus_items.specs.declared.error.Error.TheVariants as Parts_error
+use Rattle.walrus_theorem.specs.Spelling.{IsCount}
+use Rattle.walrus_theorem.specs.Text.{NameText, raw_field}
+use Rattle.walrus_writing.specs.Names.{first_own, if_chosen, names_said}
 use Rattle.wasm_frames.specs.Frames.{CustomSection}
 use Rattle.wasm_writer.specs.Spelling.{SectionFits, count_place, range_of}
 use Rattle.wasm_writer.specs.declared.places.CodePlaces.{CodePlaces}
 use Rattle.wasm_wire.specs.declared.written.CustomGroup.TheVariants.{Dylink}
-use Rattle.walrus_rules.proofs.OneList.{All-front}
+use Rattle.walrus_groups.proofs.OneList.{All-front}
 use Rattle.walrus_writing.specs.Located.{ArePlaces}
 use Rattle.walrus_writing.specs.Customs.{Task, chosen_producers, sections_made}
 use Rattle.walrus_writing.specs.Bodies.{AreBodies}

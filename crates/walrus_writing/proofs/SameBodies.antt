@@ -8,8 +8,8 @@ use Rattle.std.proofs.lemmas.List.{length-append}
 use Rattle.walrus_base.specs.Arena.{item_at}
 use Rattle.walrus_base.specs.Id.{place}
 use Rattle.walrus_base.specs.Types.{ValType, map_val}
-use Rattle.walrus_types.specs.Operators.{Types, locals_of}
-use Rattle.walrus_types.specs.Shape.{place_in}
+use Rattle.walrus_base.specs.Operators.{Types, locals_of}
+use Rattle.walrus_base.specs.Shape.{place_in}
 use Rattle.walrus_code.specs.FromRaw.{ops_of}
 use Rattle.walrus_items.specs.Function.{body_of, function_type, args_of}
 use Rattle.walrus_code.specs.Names.{named_val}
@@ -25,26 +25,26 @@ use Rattle.walrus_model.specs.Same.{SameBody}
 use Rattle.walrus_writing.specs.Parts.{HasBytes, slots_of, source}
 use Rattle.walrus_writing.specs.Records.{Records}
 use Rattle.walrus_writing.proofs.TypesEntered.{params_typed}
-use Rattle.walrus_writing.proofs.BodyTypes.{types_in, typed_by, further_typed, as_many_further}
+use Rattle.walrus_functions.proofs.BodyTypes.{types_in, typed_by, further_typed, as_many_further}
 use Rattle.walrus_model.proofs.Indices.{found_at}
-use Rattle.walrus_contents.proofs.Lookups.{then_some, mapped_some, got_map, mapped_append, as_long, where_placed, place_range, place_past, Stands, there, range_length}
-use Rattle.walrus_contents.proofs.NamedFound.{locals_found}
-use Rattle.walrus_writing.proofs.Renamed.{val_renamed, ops_renamed}
+use Rattle.walrus_base.proofs.Lookups.{then_some, mapped_some, got_map, mapped_append, as_long, where_placed, place_range, place_past, Stands, there}
+use Rattle.walrus_model.proofs.NamedFound.{locals_found}
+use Rattle.walrus_model.proofs.Renamed.{val_renamed, ops_renamed}
 use Rattle.walrus_writing.proofs.WrittenAs.{laid_of, number_is, renaming_of}
-use Rattle.walrus_model.proofs.Lists.{Contains-map}
+use Rattle.walrus_base.proofs.Lists.{Contains-map}
 use Rattle.walrus_model.proofs.OpsFollow.{ops_locals_follow}
-use Rattle.walrus_model.proofs.Standing.{got_in, got_where, some_of, some_inj, stands_at}
+use Rattle.walrus_base.proofs.Standing.{got_in, got_where, some_of, some_inj, stands_at}
 use Rattle.walrus_functions.specs.DeclaredLocals.{GoesBefore, IsDeclared}
 use Rattle.walrus_functions.proofs.ApartLemmas.{locals_differ}
 use Rattle.walrus_functions.proofs.LawOrder.{Sorted, sorted_of, turn}
-use Rattle.walrus_rules.specs.Spelling.{UsesAll}
-use Rattle.walrus_rules.proofs.Agree.{Compared, compared}
-use Rattle.walrus_rules.proofs.SameVal.{unplaced}
+use Rattle.walrus_theorem.specs.Spelling.{UsesAll}
+use Rattle.walrus_base.proofs.Agree.{Compared, compared}
+use Rattle.walrus_base.proofs.SameVal.{unplaced}
+use Rattle.std.proofs.lemmas.List.FromFn.{length-range_with_len as range_length}
+use Rattle.walrus_theorem.proofs.ManyLocals.{gap as rest_of}
+use Rattle.walrus_theorem.proofs.UsedLocals.{no_some}
 
 -- ---- places behind a list
-
-no_some : {A X : Type 0} (x : X) → Some x ≡ None → A
-no_some x e = absurd (cc)
 
 none_by : (o : Option ℕ) → option_map suc o ≡ None → o ≡ None
 none_by None e = refl
@@ -69,11 +69,6 @@ distinct_by : (xs : List ℕ) → Sorted (λ (x : ℕ) (y : ℕ). x ≢ y) xs �
 unfolding IsDistinct
 distinct_by [] h = tt
 distinct_by (x ∷ xs) h = (all_differ x xs h.0, distinct_by xs h.1)
-
-pub rest_of : (a x : ℕ) → a ≤ x → (k : ℕ) × (x ≡ a + k)
-rest_of zero x h = (x, omega arith)
-rest_of (suc a) zero h = absurd (omega (arith, h))
-rest_of (suc a) (suc x) h = let d = rest_of a x (omega (arith, h)) in (d.0, let p : x ≡ a + d.0 = d.1 in omega (arith, p))
 
 -- ---- the types of its locals
 

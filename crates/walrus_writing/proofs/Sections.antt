@@ -13,15 +13,17 @@ use Rattle.wasm_wire.specs.declared.written.CustomGroup.TheVariants.{Dylink, Nam
 use Rattle.wasm_wire.specs.ModuleSpelling.{EachSection, group_of, if_any, if_given, is_in, module_bytes, sections_in_order, standard_sections}
 use Rattle.wasm_writer.specs.Spelling.{all_spelled}
 use Rattle.walrus_model.specs.Abstract.{ProducerField}
-use Rattle.walrus_rules.specs.Examples.{empty_text}
+use Rattle.walrus_theorem.specs.Examples.{empty_text}
 use Rattle.walrus_model.specs.Customs.{is_debug_name}
 use Rattle.walrus_model.specs.Sections.{is_apart}
-use Rattle.walrus_rules.specs.Spelling.{is_dylink, is_other, written_as}
-use Rattle.walrus_rules.specs.Text.{Text, custom, field_bytes, if_some, listed, names_bytes, sections_of, unplaced}
-use Rattle.walrus_rules.proofs.OneList.{All-front, All-back, filter_all}
-use Rattle.walrus_rules.proofs.OneSections.{laid, later}
+use Rattle.walrus_theorem.specs.Spelling.{is_dylink, is_other, written_as}
+use Rattle.walrus_theorem.specs.Text.{Text, custom, field_bytes, if_some, listed, names_bytes, sections_of, unplaced}
+use Rattle.walrus_groups.proofs.OneList.{All-front, All-back, filter_all}
+use Rattle.walrus_theorem.proofs.OneSections.{laid, later}
 use Rattle.walrus_writing.proofs.NamesSpelled.{named_by_bytes}
 use Rattle.walrus_writing.proofs.ProducersSpelled.{producers_more}
+use Rattle.std.proofs.lemmas.Bool.{or_parts as or_false}
+use Rattle.walrus_theorem.proofs.SpelledReads.{not_either as neither}
 
 -- the module of its sections, with these custom ones
 abbrev pub placed : Text → List wire.Custom → wire.Module
@@ -95,15 +97,6 @@ by_first f b first second c false is h = ap f ((bytes_eq-Decides c.name (codes "
 
 pub by_dylink : (f : List ℕ → Bool) (b : Bool) → f (codes "dylink") ≡ b → f (codes "dylink.0") ≡ b → (c : wire.Custom) → is_dylink c ≡ true → f c.name ≡ b
 by_dylink f b first second c h = by_first f b first second c (bytes_eq c.name (codes "dylink")) refl h
-
-neither : (a b : Bool) → not (a || b) ≡ true → (a ≡ false) × (b ≡ false)
-neither true b h = absurd cc
-neither false true h = absurd cc
-neither false false h = (refl, refl)
-
-or_false : (a b : Bool) → (a || b) ≡ false → (a ≡ false) × (b ≡ false)
-or_false true b h = absurd cc
-or_false false b h = (refl, h)
 
 -- another one is in none of the first groups
 module _ (c : wire.Custom) (h : is_other c ≡ true) where

@@ -6,7 +6,7 @@ use Rattle.std.specs.Prelude.{Option, All, Contains, filter, option_map}
 use Rattle.std.specs.List.{AllZip}
 use Rattle.std.proofs.lemmas.List.Elements.{All-contains}
 use Rattle.walrus_base.specs.Arena.{entries, item_at, items}
-use Rattle.walrus_types.specs.Operators.{Tables, Globals, Item}
+use Rattle.walrus_base.specs.Operators.{Tables, Globals, Item}
 use Rattle.walrus_code.specs.Names.{Lookup}
 use Rattle.walrus_items.specs.Imports.{ImportValue, imports}
 use Rattle.walrus_items.specs.Data.{data_segments}
@@ -16,13 +16,13 @@ use Rattle.walrus_items.specs.Tables.{TableValue, tables}
 use Rattle.walrus_contents.specs.View as seen
 use Rattle.walrus_contents.specs.View.{parts_view}
 use Rattle.walrus_contents.specs.declared.parts.Parts.{Parts}
-use Rattle.walrus_contents.proofs.Lookups.{mapped_some}
-use Rattle.walrus_contents.proofs.Slots.{entry_in}
+use Rattle.walrus_base.proofs.Lookups.{mapped_some}
+use Rattle.walrus_model.proofs.Slots.{entry_in}
 use Rattle.walrus_model.specs.Abstract.{Abstract, DataSegment, Element, Global, Import, Table}
 use Rattle.walrus_model.specs.Spaces.{Thing, look}
 use Rattle.walrus_model.specs.WellMade.{ImportsMatch, import_in, import_of, origin_import}
-use Rattle.walrus_model.proofs.Lists.{Contains-head, Contains-map, Contains-none, Contains-tail, Contains-uncons}
-use Rattle.walrus_model.proofs.Standing.{got_where, none_there, some_inj, zip_right}
+use Rattle.walrus_base.proofs.Lists.{Contains-head, Contains-map, Contains-none, Contains-tail, Contains-uncons}
+use Rattle.walrus_base.proofs.Standing.{got_where, none_there, some_inj, zip_right}
 use Rattle.walrus_plan.specs.Brought.{import_numbers, own_of}
 use Rattle.walrus_writing.specs.Elements.{ElementIsUnspelled, IsSpelledElement}
 use Rattle.walrus_writing.specs.Globals.{GlobalIsUnspelled, IsSpelledGlobal}
@@ -34,7 +34,7 @@ use Rattle.walrus_writing.specs.Tables.{IsSpelledTable, TableIsUnspelled}
 use Rattle.walrus_writing.specs.Tables as table_causes
 use Rattle.walrus_writing.proofs.Bare.{brought_bare}
 use Rattle.walrus_plan.proofs.Matching.{origin_back}
-use Rattle.walrus_plan.proofs.Somes.{none_some}
+use Rattle.walrus_code.proofs.Somes.{none_some}
 
 -- ---- what passes a test is among those that do
 

@@ -8,7 +8,7 @@ use Rattle.wasm_entries.specs.Spelling.{TableStands}
 use Rattle.wasm_entries.specs.declared.record.RawExpression.{RawExpression}
 use Rattle.wasm_entries.specs.declared.record.RawTable.{RawTable}
 use Rattle.walrus_base.specs.Types.{RefType}
-use Rattle.walrus_types.specs.Operators.{Op}
+use Rattle.walrus_base.specs.Operators.{Op}
 use Rattle.walrus_code.specs.Names.{Lookup}
 use Rattle.walrus_code.specs.Results.{IndexesIn, heap_is_exact}
 use Rattle.walrus_code.specs.declared.error.IrError.{IrError}
@@ -16,11 +16,11 @@ use Rattle.walrus_code.specs.declared.error.IrError.TheVariants as Ir
 use Rattle.walrus_model.specs.Abstract.{Table, Defined}
 use Rattle.walrus_model.specs.Constants.{consts_of}
 use Rattle.walrus_model.specs.Sections.{limits_of, ref_of}
-use Rattle.walrus_model.proofs.Standing.{none_there, some_inj}
+use Rattle.walrus_base.proofs.Standing.{none_there, some_inj}
 use Rattle.walrus_constants.specs.Named.{named_initialiser, named_ref, named_table}
 use Rattle.walrus_constants.specs.Written.{IndexesConst, IsUnspelled}
 use Rattle.walrus_constants.proofs.Causes.{not_found}
-use Rattle.walrus_plan.proofs.Somes.{none_some}
+use Rattle.walrus_code.proofs.Somes.{none_some}
 use Rattle.walrus_writing.specs.Tables.{TableIsUnspelled, ExactElement, UnspelledInitialiser, IndexesTable, IndexesInitial}
 
 -- ---- both parts

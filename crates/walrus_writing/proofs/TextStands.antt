@@ -10,22 +10,22 @@ use Rattle.wasm_entries.specs.Spelling.{IsIndex, ExportStands}
 use Rattle.wasm_forms.specs.Spelling.{vector_bytes}
 use Rattle.wasm_frames.specs.Record as wire
 use Rattle.wasm_writer.specs.Spelling.{SectionStands}
-use Rattle.walrus_types.specs.Operators.{Space, Types, Functions, Tags, DataSegments}
-use Rattle.walrus_model.proofs.Standing.{some_inj}
-use Rattle.walrus_rules.proofs.OneSections.{later_none}
+use Rattle.walrus_base.specs.Operators.{Space, Types, Functions, Tags, DataSegments}
+use Rattle.walrus_base.proofs.Standing.{some_inj}
+use Rattle.walrus_theorem.proofs.OneSections.{later_none}
 use Rattle.walrus_bodies.specs.declared.features.Features.{Features}
 use Rattle.walrus_code.specs.Names.{Lookup}
 use Rattle.walrus_contents.specs.View.{parts_view}
 use Rattle.walrus_contents.specs.declared.parts.Parts.{Parts}
-use Rattle.walrus_contents.proofs.Lookups.{heads, then_some}
+use Rattle.walrus_base.proofs.Lookups.{heads, then_some}
 use Rattle.walrus_model.specs.Abstract.{Abstract, DataSegment, Export, FunctionKind, ImportedFunction, LocalFunction, ProducerField, Uninitialised}
 use Rattle.walrus_constants.specs.Segments.{named_data}
 use Rattle.walrus_model.specs.Sections.{data_of}
 use Rattle.walrus_model.proofs.Indices.{planned_below}
-use Rattle.walrus_rules.specs.Spelling.{BodyStands, IsCount}
-use Rattle.walrus_rules.specs.Text.{NameText, names_bytes, sections_of}
-use Rattle.walrus_rules.specs.Text as text
-use Rattle.walrus_rules.proofs.WorkedParts.{all_one, is_text}
+use Rattle.walrus_theorem.specs.Spelling.{BodyStands, IsCount}
+use Rattle.walrus_theorem.specs.Text.{NameText, names_bytes, sections_of}
+use Rattle.walrus_theorem.specs.Text as text
+use Rattle.walrus_theorem.proofs.WorkedParts.{all_one, is_text}
 use Rattle.walrus_plan.specs.Brought.{import_numbers}
 use Rattle.walrus_writing.specs.declared.write.Choices.{Choices}
 use Rattle.walrus_writing.specs.Parts.{HasBytes, source, tag_index, type_index, type_index_of, export_with_index, unplaced}
@@ -35,7 +35,7 @@ use Rattle.walrus_writing.proofs.ImportedAlong.{entries_stand}
 use Rattle.walrus_writing.proofs.OwnCustoms.{CustomText, Say, with_customs}
 use Rattle.walrus_writing.proofs.NamesSpelled.{made_of, named_by_bytes, names_more}
 use Rattle.walrus_writing.proofs.ProducersSpelled.{producers_more}
-use Rattle.walrus_writing.proofs.Ranked.{body_stands}
+use Rattle.walrus_theorem.proofs.Ranked.{body_stands}
 use Rattle.walrus_writing.proofs.Sections.{all_sections}
 use Rattle.walrus_writing.proofs.TypesEntered.{types_apart}
 use Rattle.walrus_writing.proofs.WrittenAs.{texts_of}

@@ -13,28 +13,28 @@ use Rattle.wasm_wire.specs.declared.written.CustomGroup.TheVariants.{Dylink}
 use Rattle.walrus_base.specs.Id.{place}
 use Rattle.walrus_base.specs.declared.id.Id.{Id}
 use Rattle.walrus_base.specs.declared.keys.FunctionKey.{FunctionKey}
-use Rattle.walrus_types.specs.ModuleTypes.{type_slots}
-use Rattle.walrus_types.specs.Operators.{Functions}
+use Rattle.walrus_base.specs.ModuleTypes.{type_slots}
+use Rattle.walrus_base.specs.Operators.{Functions}
 use Rattle.walrus_code.specs.Names.{Lookup}
 use Rattle.walrus_code.specs.declared.location.InstrLocId.{InstrLocId}
 use Rattle.walrus_bodies.specs.declared.features.Features.{Features}
 use Rattle.walrus_groups.specs.Indexed.{AreInOrder}
 use Rattle.walrus_contents.specs.View.{parts_view}
 use Rattle.walrus_contents.specs.declared.parts.Parts.{Parts}
-use Rattle.walrus_contents.proofs.Steps.{zip_length}
+use Rattle.walrus_model.proofs.PlacedTypes.{zip_length}
 use Rattle.walrus_model.specs.Abstract.{Abstract}
 use Rattle.walrus_model.specs.Config.{Config}
 use Rattle.walrus_model.specs.Dead.{HasDead}
 use Rattle.walrus_model.specs.Declared.{NothingUndeclared}
 use Rattle.walrus_model.specs.WellMade.{ImportsMatch}
-use Rattle.walrus_parts.specs.Transform as parts
-use Rattle.walrus_parts.specs.Transform.{location_of, transform_of}
-use Rattle.walrus_parts.specs.declared.error.Error.{Error}
-use Rattle.walrus_parts.specs.declared.error.Error.TheVariants.{Memory, NotWritable, TooLarge}
-use Rattle.walrus_parts.specs.declared.transform.CodeTransform.{CodeTransform}
+use Rattle.walrus_items.specs.Transform as parts
+use Rattle.walrus_items.specs.Transform.{location_of, transform_of}
+use Rattle.walrus_items.specs.declared.error.Error.{Error}
+use Rattle.walrus_items.specs.declared.error.Error.TheVariants.{Memory, NotWritable, TooLarge}
+use Rattle.walrus_items.specs.declared.transform.CodeTransform.{CodeTransform}
 use Rattle.walrus_plan.specs.Reads.{ReadsInOrder}
-use Rattle.walrus_rules.specs.Refused as causes
-use Rattle.walrus_rules.specs.Refused.{IsSayable, Refusal, RefusesToWrite}
+use Rattle.walrus_theorem.specs.Refused as causes
+use Rattle.walrus_theorem.specs.Refused.{IsSayable, Refusal, RefusesToWrite}
 use Rattle.walrus_writing.specs.declared.write.Choices.{Choices}
 use Rattle.walrus_writing.specs.declared.offsets.LocatedBody.{LocatedBody}
 use Rattle.walrus_writing.specs.Customs.{task}

@@ -14,11 +14,11 @@ use Rattle.wasm_writer.specs.Spelling.{all_spelled, count_place, first_body, pla
 use Rattle.wasm_wire.specs.ModuleSpelling.{as_written, before_code, code_place, group_of, is_in}
 use Rattle.wasm_wire.specs.declared.written.CustomGroup.TheVariants.{Dylink}
 use Rattle.wasm_wire.proofs.ModuleFramed.{module_frames}
-use Rattle.walrus_types.specs.Operators.{Functions, Item}
+use Rattle.walrus_base.specs.Operators.{Functions, Item}
 use Rattle.walrus_functions.specs.Transform.{Transform}
 use Rattle.walrus_contents.specs.View.{body, parts_view}
 use Rattle.walrus_contents.specs.declared.parts.Parts.{Parts}
-use Rattle.walrus_contents.proofs.Steps.{zip_length}
+use Rattle.walrus_model.proofs.PlacedTypes.{zip_length}
 use Rattle.walrus_model.specs.Abstract.{Abstract, Custom, ProducerField}
 use Rattle.walrus_model.specs.Config.{Config}
 use Rattle.walrus_model.specs.Customs.{written_customs}
@@ -33,12 +33,12 @@ use Rattle.walrus_model.specs.Ordered.{StandsFor}
 use Rattle.walrus_model.specs.Transform.{IsBodyOf, IsLocalFunction, TrueOf, no_transform}
 use Rattle.walrus_model.proofs.ImportedZip.{imported_zip}
 use Rattle.walrus_model.proofs.Indices.{planned_index}
-use Rattle.walrus_model.proofs.Lists.{Contains-none}
+use Rattle.walrus_base.proofs.Lists.{Contains-none}
 use Rattle.walrus_model.proofs.Orders.{is_some_by}
-use Rattle.walrus_model.proofs.Standing.{got_where, some_inj, some_of, zip_right}
+use Rattle.walrus_base.proofs.Standing.{got_where, some_inj, some_of, zip_right}
 use Rattle.walrus_plan.specs.Brought.{import_numbers}
-use Rattle.walrus_rules.specs.Refused.{IsSayable}
-use Rattle.walrus_rules.proofs.SameItems.{with_own}
+use Rattle.walrus_theorem.specs.Refused.{IsSayable}
+use Rattle.walrus_theorem.proofs.SameItems.{with_own}
 use Rattle.walrus_writing.specs.Customs.{Task, chosen_producers, made_sections, payload_of, sections_made}
 use Rattle.walrus_writing.specs.Emitted.{IsWrittenWith}
 use Rattle.walrus_writing.specs.Located.{AreOffsets, AreSorted, LastPlaces, all_placed_from, by_ends, ends_of, lasts}
@@ -53,20 +53,17 @@ use Rattle.walrus_writing.proofs.ImportsCarried.{index_is}
 use Rattle.walrus_writing.proofs.OneRecords.{bytes_one, fits_one, module_by, spelled_one, stands_one, whole, written_by}
 use Rattle.walrus_writing.proofs.OneTransform.{parts_same}
 use Rattle.walrus_writing.proofs.Parted.{body_among, own_distinct}
-use Rattle.walrus_writing.proofs.Placing.{Pair, also_there, is_there, offsets_at, offsets_in, offsets_none}
+use Rattle.walrus_writing.proofs.Placing.{Pair, also_there, offsets_at, offsets_in, offsets_none}
 use Rattle.walrus_writing.proofs.TransformTrue.{body_there, is_transform}
 use Rattle.walrus_writing.proofs.WrittenAs.{number_is, renaming_of}
+use Rattle.walrus_groups.proofs.TypeLists.{got_right as behind_at}
+use Rattle.walrus_model.proofs.Looked.{got_contains as is_there}
 
 -- ---- lists
 
 pub none_long : {A : Type 0} (xs : List A) → length xs ≡ 0 → xs ≡ []
 none_long [] e = refl
 none_long (x ∷ xs) e = absurd (omega (arith, e))
-
-behind_at : {A : Type 0} (xs ys : List A) (k m : ℕ) → m ≡ length xs + k → slice_get (xs ++ ys) m ≡ slice_get ys k
-behind_at [] ys k m e = let same : m ≡ k = omega (arith, e) in ap (slice_get ys) same
-behind_at (x ∷ xs) ys k zero e = absurd (omega (arith, e))
-behind_at (x ∷ xs) ys k (suc m) e = behind_at xs ys k m (omega (arith, e))
 
 filter_one : {A : Type 0} (test : A → Bool) (b : Bool) (x : A) (kept : List A) → test x ≡ b → filter test kept ≡ kept → filter test (cond b (x ∷ kept) kept) ≡ cond b (x ∷ kept) kept
 filter_one test true x kept e h = ap (λ (t : Bool). cond t (x ∷ filter test kept) (filter test kept)) e ∙ ap (λ (l : List _). x ∷ l) h

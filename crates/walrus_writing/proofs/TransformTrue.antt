@@ -13,28 +13,27 @@ use Rattle.std.specs.Cmp.{IsTotalOrder, nat_cmp_is}
 use Rattle.std.specs.declared.cmp.Ordering.TheVariants.{Less}
 use Rattle.wasm_frames.specs.Record as wire
 use Rattle.wasm_writer.specs.Spelling.{range_of}
-use Rattle.walrus_types.specs.Operators.{Functions}
+use Rattle.walrus_base.specs.Operators.{Functions}
 use Rattle.walrus_functions.specs.Transform.{Transform}
 use Rattle.walrus_model.specs.Abstract.{Abstract}
 use Rattle.walrus_model.specs.Renaming.{Renaming}
 use Rattle.walrus_model.specs.Transform.{IsLocalFunction, IsPlaceOf, IsTransform, default_location}
-use Rattle.walrus_model.proofs.Lists.{Contains-none}
+use Rattle.walrus_base.proofs.Lists.{Contains-none}
 use Rattle.walrus_model.proofs.OrderOfPlaces.{pairs_weaker}
 use Rattle.walrus_model.proofs.Orders.{eq_flips}
-use Rattle.walrus_model.proofs.Standing.{got_where}
+use Rattle.walrus_base.proofs.Standing.{got_where}
 use Rattle.walrus_writing.specs.Located.{AreSorted, LastPlaces, all_placed_from, by_ends, by_pair, ends_of, lasts}
 use Rattle.walrus_writing.specs.Transform.{CountStandsAt}
 use Rattle.walrus_writing.proofs.LastPlaces.{AreLasts, NotAfter, are_lasts}
-use Rattle.walrus_writing.proofs.Placing.{PlacedIn, Pair, ZipAt, also_there, from_zip, in_placed, is_there, offsets_among, offsets_at, offsets_in, place_of, placed_in, range_at, range_body, start_at, start_body, to_zip, zip_firsts}
-use Rattle.walrus_writing.proofs.RisingLists.{Before, sorted_pairs, strictly_rising}
+use Rattle.walrus_writing.proofs.Placing.{PlacedIn, Pair, ZipAt, also_there, from_zip, in_placed, offsets_among, offsets_at, offsets_in, place_of, placed_in, range_at, range_body, start_at, start_body, to_zip, zip_firsts}
+use Rattle.walrus_model.proofs.RisingLists.{Before, sorted_pairs, strictly_rising}
+use Rattle.wasm_operators.proofs.OneStands.{true_not_false as untrue}
+use Rattle.walrus_model.proofs.Looked.{got_contains as is_there}
 
 -- ---- sorted pairs
 
 pair_total : IsTotalOrder by_pair
 pair_total = then_total (on_total (λ (a : Pair). a.0) nat_cmp_total) (on_total (λ (a : Pair). a.1) nat_cmp_total)
-
-untrue : true ≡ false → ⊥
-untrue e = cc
 
 by_tests : (m n : ℕ) → ((leb m n ≡ true) × (m ≤ n)) ⊎ ((leb m n ≡ false) × (n < m)) → is_lt (nat_cmp n m) ≡ false → m ≤ n
 by_tests m n (inl t) far = t.1

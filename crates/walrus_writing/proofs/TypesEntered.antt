@@ -4,8 +4,8 @@ use Rattle.std.specs.Prelude.{Option, option_map, option_and_then, slice_get}
 use Rattle.walrus_base.specs.Arena.{item_at}
 use Rattle.walrus_base.specs.Id.{place}
 use Rattle.walrus_base.specs.Types.{ValType}
-use Rattle.walrus_types.specs.Operators.{Types, Functions}
-use Rattle.walrus_types.specs.TypeDef.{TypeDef}
+use Rattle.walrus_base.specs.Operators.{Types, Functions}
+use Rattle.walrus_base.specs.TypeDef.{TypeDef}
 use Rattle.walrus_items.specs.Function.{function_type, args_of}
 use Rattle.walrus_code.specs.Names.{named_val}
 use Rattle.walrus_bodies.specs.declared.features.Features.{Features}
@@ -20,9 +20,9 @@ use Rattle.walrus_model.specs.Sections.{types_of}
 use Rattle.walrus_model.proofs.Indices.{planned_at, planned_one}
 use Rattle.walrus_writing.specs.Parts.{HasBytes, slots_of, type_index}
 use Rattle.walrus_writing.specs.Records.{Records}
-use Rattle.walrus_writing.proofs.BodyTypes.{typed_by}
-use Rattle.walrus_contents.proofs.Lookups.{mapped_some, then_some, got_map, map_after, as_long}
-use Rattle.walrus_writing.proofs.NamedTypes.{NamedDef, def_parts, params_named}
+use Rattle.walrus_functions.proofs.BodyTypes.{typed_by}
+use Rattle.walrus_base.proofs.Lookups.{mapped_some, then_some, got_map, map_after, as_long}
+use Rattle.walrus_model.proofs.NamedTypes.{NamedDef, def_parts, params_named}
 use Rattle.walrus_writing.proofs.WrittenAs.{laid_of}
 
 module _ {p : Parts} {features : Features} (r : Records p features) where

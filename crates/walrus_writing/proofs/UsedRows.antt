@@ -1,27 +1,26 @@
 -- The used locals of each body, beside the function that it is written as.
-use Rattle.std.proofs.Common.{◌≡◌, ℕ, zero, suc, ◌+◌, ◌-◌, ◌<◌, true, List, [], ◌∷◌, ◌++◌, length, map, refl, sym, ap, ◌∙◌, arith, Some, None}
-use Rattle.std.specs.Prelude.{Option, filter_map, option_and_then, slice_get, zip}
+use Rattle.std.proofs.Common.{◌≡◌, ℕ, zero, suc, ◌+◌, ◌-◌, ◌<◌, true, List, [], ◌∷◌, ◌++◌, length, map, refl, sym, ap, ◌∙◌, arith, Some}
+use Rattle.std.specs.Prelude.{filter_map, option_and_then, slice_get, zip}
 use Rattle.std.specs.List.{AllZip}
 use Rattle.std.proofs.lemmas.List.{length-append}
-use Rattle.walrus_types.specs.Operators.{Functions}
+use Rattle.walrus_base.specs.Operators.{Functions}
 use Rattle.walrus_items.specs.Function.{args_of}
 use Rattle.walrus_bodies.specs.declared.features.Features.{Features}
 use Rattle.walrus_functions.specs.Handlers.{params_of}
 use Rattle.walrus_contents.specs.View.{parts_view}
 use Rattle.walrus_contents.specs.declared.parts.Parts.{Parts}
-use Rattle.walrus_contents.proofs.Lookups.{heads, there}
-use Rattle.walrus_contents.proofs.Steps.{zip_length}
+use Rattle.walrus_base.proofs.Lookups.{heads, there}
+use Rattle.walrus_model.proofs.PlacedTypes.{zip_length}
 use Rattle.walrus_model.specs.Abstract.{ALocal, Function}
 use Rattle.walrus_model.specs.Imported.{brought, import_number}
 use Rattle.walrus_model.specs.Names.{body_of, body_of_function}
 use Rattle.walrus_model.specs.Ordered.{StandsFor}
 use Rattle.walrus_model.specs.Sections.{body_with, function_with, types_of}
 use Rattle.walrus_model.specs.Spaces.{SameThing, look}
-use Rattle.walrus_model.proofs.Standing.{some_inj, some_of, zip_right}
-use Rattle.walrus_rules.specs.Namings.{has_local, is_in_range}
-use Rattle.walrus_rules.specs.Text.{said}
-use Rattle.walrus_rules.proofs.OneList.{got_at}
-use Rattle.walrus_rules.proofs.UsedLocals.{behind}
+use Rattle.walrus_base.proofs.Standing.{some_inj, some_of, zip_right}
+use Rattle.walrus_theorem.specs.Namings.{has_local, is_in_range}
+use Rattle.walrus_theorem.specs.Text.{said}
+use Rattle.walrus_groups.proofs.OneList.{got_at}
 use Rattle.walrus_plan.specs.Brought.{import_numbers}
 use Rattle.walrus_writing.specs.Parts.{HasBytes, type_index, used_locals}
 use Rattle.walrus_writing.specs.Records.{Records, texts_in, used_in}
@@ -32,9 +31,8 @@ use Rattle.walrus_writing.proofs.Parted.{own_distinct}
 use Rattle.walrus_writing.proofs.SameBodies.{in_body}
 use Rattle.walrus_writing.proofs.WithCustoms.{module_with}
 use Rattle.walrus_writing.proofs.WrittenAs.{laid_of, renaming_of}
-
-none_some : {A : Type 0} {X : Type 0} (x : X) → ◌≡◌ {A = Option X} None (Some x) → A
-none_some x e = absurd cc
+use Rattle.walrus_groups.proofs.TypeLists.{got_right as behind}
+use Rattle.walrus_writing.proofs.PlacedNames.{none_some}
 
 unzipped : {A B : Type 0} (xs : List A) (ys : List B) (k : ℕ) (z : A × B) → slice_get (zip xs ys) k ≡ Some z → (slice_get xs k ≡ Some z.0) × (slice_get ys k ≡ Some z.1)
 unzipped [] ys k z e = none_some z e

@@ -9,9 +9,9 @@ use Rattle.walrus_model.specs.Abstract.{Abstract}
 use Rattle.walrus_model.specs.Carried.{Carried}
 use Rattle.walrus_model.specs.Live.{IsLive}
 use Rattle.walrus_model.specs.Out.{IsTheSegment}
-use Rattle.walrus_rules.specs.Spelling.{IsChosen}
-use Rattle.walrus_rules.specs.Text.{Text}
-use Rattle.walrus_rules.proofs.OneSpelling.{told}
+use Rattle.walrus_theorem.specs.Spelling.{IsChosen}
+use Rattle.walrus_theorem.specs.Text.{Text}
+use Rattle.walrus_theorem.proofs.OneSpelling.{told}
 use Rattle.walrus_writing.specs.Records.{Records, text_of}
 use Rattle.walrus_writing.proofs.CarriedOver.{carried_over}
 use Rattle.walrus_writing.proofs.ChosenFlags.{flags_chosen}

@@ -3,17 +3,17 @@ use Rattle.wasm_frames.specs.Record as wire
 use Rattle.std.proofs.Common.{◌≡◌, ℕ, List, [], ◌∷◌, ◌++◌, sym, ap, Some}
 use Rattle.std.specs.Prelude.{Option, unwrap_or, ◌==◌, if◌then◌else◌}
 use Rattle.std.specs.List.{AllZip}
-use Rattle.walrus_types.specs.Operators.{Space, Functions}
-use Rattle.walrus_types.specs.Shape.{place_in}
+use Rattle.walrus_base.specs.Operators.{Space, Functions}
+use Rattle.walrus_base.specs.Shape.{place_in}
 use Rattle.walrus_code.specs.Names.{Lookup}
 use Rattle.walrus_items.specs.Function.{args_of}
 use Rattle.walrus_bodies.specs.declared.features.Features.{Features}
 use Rattle.walrus_contents.specs.declared.parts.Parts.{Parts}
 use Rattle.walrus_model.specs.Abstract.{Abstract}
 use Rattle.walrus_model.specs.Renaming.{Renaming}
-use Rattle.walrus_rules.specs.Text.{BodyText}
-use Rattle.walrus_rules.proofs.OneSections.{laid}
-use Rattle.walrus_rules.proofs.OneSpelling.{told}
+use Rattle.walrus_theorem.specs.Text.{BodyText}
+use Rattle.walrus_theorem.proofs.OneSections.{laid}
+use Rattle.walrus_theorem.proofs.OneSpelling.{told}
 use Rattle.walrus_plan.specs.Brought.{import_numbers}
 use Rattle.walrus_writing.specs.Parts.{HasBytes}
 use Rattle.walrus_writing.specs.Records.{Records, text_of, texts_in}

@@ -2,7 +2,7 @@
 -- and an index for each item that is live.
 use Rattle.std.proofs.Common.{◌≡◌, ℕ, map, List, [], refl, sym, ap, ◌∙◌, subst, arith, inl, inr, ⊎_elim}
 use Rattle.std.specs.Prelude.{None, Contains, IsSome, Option, unwrap_or, ◌<◌}
-use Rattle.walrus_types.specs.Operators.{Item, Types}
+use Rattle.walrus_base.specs.Operators.{Item, Types}
 use Rattle.walrus_contents.specs.View.{parts_view}
 use Rattle.walrus_contents.specs.declared.parts.Parts.{Parts}
 use Rattle.walrus_items.specs.Imports.{imports}
@@ -21,10 +21,10 @@ use Rattle.walrus_model.specs.Renaming.{Renaming}
 use Rattle.walrus_model.specs.Sections.{custom_of}
 use Rattle.walrus_model.proofs.Arenas.{entries_rise}
 use Rattle.walrus_model.proofs.Indices.{planned_indices}
-use Rattle.walrus_model.proofs.Lists.{Contains-none}
+use Rattle.walrus_base.proofs.Lists.{Contains-none}
 use Rattle.walrus_model.proofs.Orders.{rises_in_order}
 use Rattle.walrus_model.proofs.Planned.{planned_rises}
-use Rattle.walrus_rules.specs.Pinned.{IsWrittenAs}
+use Rattle.walrus_theorem.specs.Pinned.{IsWrittenAs}
 use Rattle.walrus_plan.specs.Brought.{import_numbers}
 use Rattle.walrus_writing.specs.Customs.{Task}
 use Rattle.walrus_writing.specs.Emitted.{IsWrittenWith}
@@ -34,7 +34,7 @@ use Rattle.walrus_writing.proofs.CarriedOver.{pinned_locals}
 use Rattle.walrus_writing.proofs.ImportsCarried.{imports_ordered}
 use Rattle.walrus_writing.proofs.OwnCustoms.{CustomText, Say}
 use Rattle.walrus_writing.proofs.OwnSaid.{own_said}
-use Rattle.walrus_rules.proofs.SameItems.{before_back, live_back, live_on, with_own}
+use Rattle.walrus_theorem.proofs.SameItems.{before_back, live_back, live_on, with_own}
 use Rattle.walrus_writing.proofs.WithCustoms.{carried_with, module_with, text_with}
 use Rattle.walrus_writing.proofs.WrittenAs.{renaming_of}
 

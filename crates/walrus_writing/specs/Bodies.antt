@@ -5,12 +5,12 @@ use Rattle.wasm_payloads.specs.Spelling.{NameMap}
 use Rattle.walrus_base.specs.Id.{place}
 use Rattle.walrus_base.specs.declared.id.Id.{Id}
 use Rattle.walrus_base.specs.declared.keys.FunctionKey.{FunctionKey}
-use Rattle.walrus_types.specs.Locals.{locals}
+use Rattle.walrus_base.specs.Locals.{locals}
 use Rattle.walrus_code.specs.Names.{Lookup}
 use Rattle.walrus_bodies.specs.declared.features.Features.{Features}
 use Rattle.walrus_functions.specs.declared.append.AppendedBody.{AppendedBody}
 use Rattle.walrus_contents.specs.declared.parts.Parts.{Parts}
-use Rattle.walrus_names.specs.Names.{all_local_names, used_listed}
+use Rattle.walrus_writing.specs.Names.{all_local_names, used_listed}
 use Rattle.walrus_writing.specs.Parts.{BodySeen, IsWrittenBody}
 use Rattle.walrus_writing.specs.declared.joined.WrittenBodies.{WrittenBodies}
 

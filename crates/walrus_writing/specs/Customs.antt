@@ -14,9 +14,9 @@ use Rattle.walrus_model.specs.Abstract.{Abstract, Name, ProducerField}
 use Rattle.walrus_model.specs.Customs.{written_customs}
 use Rattle.walrus_model.specs.Sections.{custom_of}
 use Rattle.walrus_model.specs.Producers.{if_written}
-use Rattle.walrus_parts.specs.declared.error.Error.{Error}
-use Rattle.walrus_parts.specs.declared.error.Error.TheVariants as errors
-use Rattle.walrus_rules.specs.Text.{field_bytes, raw_field}
+use Rattle.walrus_items.specs.declared.error.Error.{Error}
+use Rattle.walrus_items.specs.declared.error.Error.TheVariants as errors
+use Rattle.walrus_theorem.specs.Text.{field_bytes, raw_field}
 use Rattle.walrus_writing.specs.declared.customs.Payloads.{Payloads}
 use Rattle.walrus_writing.specs.declared.write.Choices.{Choices}
 

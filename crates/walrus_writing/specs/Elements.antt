@@ -9,21 +9,21 @@ use Rattle.wasm_entries.specs.declared.record.RawElementMode.{RawElementMode}
 use Rattle.wasm_entries.specs.declared.record.RawItems.{RawItems}
 use Rattle.wasm_forms.specs.Types.{HeapStands}
 use Rattle.walrus_base.specs.Types.{RefType}
-use Rattle.walrus_types.specs.Operators.{Functions, Tables, Op}
+use Rattle.walrus_base.specs.Operators.{Functions, Tables, Op}
 use Rattle.walrus_code.specs.Names.{Lookup}
 use Rattle.walrus_code.specs.Results.{heap_is_exact}
 use Rattle.walrus_code.specs.declared.error.IrError.{IrError}
 use Rattle.walrus_code.specs.declared.error.IrError.TheVariants.{Malformed, Memory, NoIndex, NotWritable, TooLarge}
 use Rattle.walrus_items.specs.Elements.{ElementValue}
 use Rattle.walrus_contents.specs.View as seen
-use Rattle.walrus_parts.specs.declared.error.Error.{Error}
-use Rattle.walrus_parts.specs.declared.error.Error.TheVariants as errors
+use Rattle.walrus_items.specs.declared.error.Error.{Error}
+use Rattle.walrus_items.specs.declared.error.Error.TheVariants as errors
 use Rattle.walrus_model.specs.Abstract.{ElementKind, ActiveElements, ElementItems, Expressions, Element, Table}
 use Rattle.walrus_model.specs.Sections.{element_kind, element_items, element_of}
 use Rattle.walrus_groups.specs.Named.{each}
 use Rattle.walrus_constants.specs.Segments.{named_element, named_element_items, named_element_kind}
 use Rattle.walrus_constants.specs.Written.{IsUnspelled}
-use Rattle.walrus_rules.specs.Spelling.{ArePlain, IsNarrow}
+use Rattle.walrus_theorem.specs.Spelling.{ArePlain, IsNarrow}
 
 -- ---- what no bytes spell
 

@@ -4,15 +4,15 @@ use Rattle.walrus_model.specs.Abstract.{Abstract}
 use Rattle.walrus_model.specs.Config.{Config}
 use Rattle.walrus_model.specs.Declared.{NothingUndeclared}
 use Rattle.walrus_model.specs.Rules.{Holds}
-use Rattle.walrus_parts.specs.declared.error.Error.{Error}
-use Rattle.walrus_parts.specs.declared.error.Error.TheVariants as errors
-use Rattle.walrus_rules.specs.Features.{features_of}
-use Rattle.walrus_rules.specs.Headline.{ReadsModule}
-use Rattle.walrus_rules.specs.Pinned.{IsWrittenAs}
-use Rattle.walrus_rules.specs.Refused.{IsSayable, Refusal}
-use Rattle.walrus_rules.specs.Refused as causes
-use Rattle.walrus_rules.specs.Spelling.{IsSpelledAs}
-use Rattle.walrus_rules.specs.WellMade.{IsWellMade}
+use Rattle.walrus_items.specs.declared.error.Error.{Error}
+use Rattle.walrus_items.specs.declared.error.Error.TheVariants as errors
+use Rattle.walrus_theorem.specs.Features.{features_of}
+use Rattle.walrus_theorem.specs.Headline.{ReadsModule}
+use Rattle.walrus_theorem.specs.Pinned.{IsWrittenAs}
+use Rattle.walrus_theorem.specs.Refused.{IsSayable, Refusal}
+use Rattle.walrus_theorem.specs.Refused as causes
+use Rattle.walrus_theorem.specs.Spelling.{IsSpelledAs}
+use Rattle.walrus_theorem.specs.WellMade.{IsWellMade}
 use Rattle.walrus_writing.specs.declared.write.Choices.{Choices}
 
 -- a configuration of these choices

@@ -4,15 +4,15 @@ use Rattle.wasm_entries.specs.Record.{expression, global_entry}
 use Rattle.wasm_entries.specs.Spelling.{GlobalStands}
 use Rattle.wasm_entries.specs.declared.record.RawExpression.{RawExpression}
 use Rattle.wasm_entries.specs.declared.record.RawGlobal.{RawGlobal}
-use Rattle.walrus_types.specs.Operators.{Op}
+use Rattle.walrus_base.specs.Operators.{Op}
 use Rattle.walrus_code.specs.Names.{Lookup}
 use Rattle.walrus_code.specs.Results.{val_is_exact}
 use Rattle.walrus_code.specs.declared.error.IrError.{IrError}
 use Rattle.walrus_code.specs.declared.error.IrError.TheVariants.{Malformed, Memory, NoIndex, NotWritable, TooLarge}
 use Rattle.walrus_items.specs.Globals.{GlobalValue}
 use Rattle.walrus_contents.specs.View as seen
-use Rattle.walrus_parts.specs.declared.error.Error.{Error}
-use Rattle.walrus_parts.specs.declared.error.Error.TheVariants as errors
+use Rattle.walrus_items.specs.declared.error.Error.{Error}
+use Rattle.walrus_items.specs.declared.error.Error.TheVariants as errors
 use Rattle.walrus_model.specs.Abstract.{Global}
 use Rattle.walrus_model.specs.Constants.{consts_of}
 use Rattle.walrus_model.specs.Sections.{global_of}

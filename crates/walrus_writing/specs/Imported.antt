@@ -5,7 +5,7 @@ use Rattle.wasm_entries.specs.Record.{import_entry}
 use Rattle.wasm_entries.specs.Spelling.{DescStands, ImportStands}
 use Rattle.wasm_entries.specs.declared.record.RawDesc.{RawDesc}
 use Rattle.wasm_entries.specs.declared.record.RawImport.{RawImport}
-use Rattle.walrus_types.specs.Operators.{Space, Types, Functions, Tables, Memories, Tags, Globals, Elements, DataSegments, Item}
+use Rattle.walrus_base.specs.Operators.{Space, Types, Functions, Tables, Memories, Tags, Globals, Elements, DataSegments, Item}
 use Rattle.walrus_code.specs.Names.{Lookup}
 use Rattle.walrus_code.specs.Results.{heap_is_exact, val_is_exact}
 use Rattle.walrus_code.specs.declared.error.IrError.{IrError}
@@ -15,8 +15,8 @@ use Rattle.walrus_model.specs.Abstract.{Abstract, Function, Import, ImportedBy, 
 use Rattle.walrus_model.specs.Imported.{brought_by}
 use Rattle.walrus_model.specs.Spaces.{Thing, look}
 use Rattle.walrus_model.specs.WellMade.{import_of}
-use Rattle.walrus_parts.specs.declared.error.Error.{Error}
-use Rattle.walrus_parts.specs.declared.error.Error.TheVariants as errors
+use Rattle.walrus_items.specs.declared.error.Error.{Error}
+use Rattle.walrus_items.specs.declared.error.Error.TheVariants as errors
 
 -- ---- the thing that an import brings
 

@@ -11,3 +11,5 @@ pub mod Refusals
 pub mod Segments
 pub mod Tables
 pub mod Transform
+pub mod Names
+pub mod Pushed

@@ -11,7 +11,7 @@ use Rattle.walrus_code.specs.Names.{Lookup}
 use Rattle.walrus_bodies.specs.declared.features.Features.{Features}
 use Rattle.walrus_contents.specs.declared.parts.Parts.{Parts}
 use Rattle.walrus_model.specs.Transform.{default_location}
-use Rattle.walrus_types.specs.Operators.{Functions}
+use Rattle.walrus_base.specs.Operators.{Functions}
 use Rattle.walrus_writing.specs.Records.{Records, module_of}
 use Rattle.walrus_writing.specs.Transform.{OperatorsStandAt, locations_at}
 

@@ -8,8 +8,8 @@ use Rattle.wasm_frames.specs.Record as wire
 use Rattle.walrus_base.specs.Arena.{item_at}
 use Rattle.walrus_base.specs.Id.{place}
 use Rattle.walrus_base.specs.Types.{ValType}
-use Rattle.walrus_types.specs.Locals.{locals}
-use Rattle.walrus_types.specs.Operators.{Space, Types, Functions, Tables, Memories, Tags, Globals, Elements, DataSegments}
+use Rattle.walrus_base.specs.Locals.{locals}
+use Rattle.walrus_base.specs.Operators.{Space, Types, Functions, Tables, Memories, Tags, Globals, Elements, DataSegments}
 use Rattle.walrus_items.specs.Function.{function_type}
 use Rattle.walrus_code.specs.Names.{Lookup}
 use Rattle.walrus_items.specs.LocalFunction.{LocalFunction}
@@ -21,7 +21,7 @@ use Rattle.walrus_contents.specs.View.{body, parts_view}
 use Rattle.walrus_contents.specs.declared.parts.Parts.{Parts}
 use Rattle.walrus_model.specs.Abstract as abstract
 use Rattle.walrus_model.specs.Abstract.{Body, Function}
-use Rattle.walrus_names.specs.Names.{used_listed}
+use Rattle.walrus_writing.specs.Names.{used_listed}
 
 -- the types of the locals of these parts, by their places
 abbrev pub slots_of : Parts → List (Option (ValType ℕ))

@@ -9,7 +9,7 @@ use Rattle.wasm_entries.specs.Record.{Group}
 use Rattle.wasm_entries.specs.Spelling.{DataStands, ElementStands, GlobalStands, TableStands}
 use Rattle.wasm_entries.specs.TypeSpelling.{GroupStands, LimitsStand}
 use Rattle.wasm_wire.specs.ModuleSpelling.{ModuleFits, module_bytes}
-use Rattle.walrus_types.specs.Operators.{Space, Types, Functions, Tables, Memories, Tags, Globals, Elements, DataSegments}
+use Rattle.walrus_base.specs.Operators.{Space, Types, Functions, Tables, Memories, Tags, Globals, Elements, DataSegments}
 use Rattle.walrus_code.specs.Indices.{index_of}
 use Rattle.walrus_code.specs.Names.{Lookup}
 use Rattle.walrus_code.specs.declared.numbering.IdsToIndices.{IdsToIndices}
@@ -27,10 +27,10 @@ use Rattle.walrus_model.specs.Plan.{AreNumbered, IsPlan, Plan}
 use Rattle.walrus_model.specs.Sections.{data_of, element_of, global_of, table_of}
 use Rattle.walrus_model.specs.Spaces.{Thing, look}
 use Rattle.walrus_model.specs.WellMade.{ImportsMatch}
-use Rattle.walrus_rules.specs.Examples.{empty_text}
-use Rattle.walrus_rules.specs.Spelling.{IsCount}
-use Rattle.walrus_rules.specs.Text.{BodyText, NameText, Text}
-use Rattle.walrus_names.specs.Names.{first_own, if_chosen, names_said}
+use Rattle.walrus_theorem.specs.Examples.{empty_text}
+use Rattle.walrus_theorem.specs.Spelling.{IsCount}
+use Rattle.walrus_theorem.specs.Text.{BodyText, NameText, Text}
+use Rattle.walrus_writing.specs.Names.{first_own, if_chosen, names_said}
 use Rattle.walrus_writing.specs.Bodies.{AreBodies, texts_of}
 use Rattle.walrus_writing.specs.Customs.{AreSpelled, Task, chosen_producers, sections_made}
 use Rattle.walrus_writing.specs.Elements.{ChoosesFlag, ElementIsUnspelled}

@@ -1,8 +1,8 @@
 -- Why items that name nothing dead, and that have a plan, can't be written.
 use Rattle.std.specs.Prelude.{ℕ, List, Option, Some, Contains, ◌≡◌, ◌⊎◌, ⊤, Result, Ok, Err}
 use Rattle.walrus_base.specs.Arena.{items}
-use Rattle.walrus_types.specs.ModuleTypes.{type_slots}
-use Rattle.walrus_types.specs.TypeDef.{TypeDef}
+use Rattle.walrus_base.specs.ModuleTypes.{type_slots}
+use Rattle.walrus_base.specs.TypeDef.{TypeDef}
 use Rattle.walrus_code.specs.Names.{Lookup}
 use Rattle.walrus_items.specs.LocalFunction.{LocalFunction}
 use Rattle.walrus_bodies.specs.declared.features.Features.{Features}
@@ -23,8 +23,8 @@ use Rattle.walrus_model.specs.Abstract.{Import}
 use Rattle.walrus_writing.specs.Parts.{function_seen, source}
 use Rattle.walrus_writing.specs.Customs.{Task}
 use Rattle.walrus_writing.specs.Records.{DoesNotFit}
-use Rattle.walrus_parts.specs.declared.error.Error.{Error}
-use Rattle.walrus_parts.specs.declared.error.Error.TheVariants.{Memory, NotWritable, TooLarge}
+use Rattle.walrus_items.specs.declared.error.Error.{Error}
+use Rattle.walrus_items.specs.declared.error.Error.TheVariants.{Memory, NotWritable, TooLarge}
 
 -- a function has such a body, under some indices
 abbrev pub HasBody : Parts → Features → (Source → Type 0) → Type 0

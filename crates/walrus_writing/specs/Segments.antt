@@ -4,14 +4,14 @@ use Rattle.wasm_entries.specs.Record.{data_entry, data_mode}
 use Rattle.wasm_entries.specs.Spelling.{DataModeStands, DataStands}
 use Rattle.wasm_entries.specs.declared.record.RawData.{RawData}
 use Rattle.wasm_entries.specs.declared.record.RawDataMode.{RawDataMode}
-use Rattle.walrus_types.specs.Operators.{Op}
+use Rattle.walrus_base.specs.Operators.{Op}
 use Rattle.walrus_code.specs.Names.{Lookup}
 use Rattle.walrus_code.specs.declared.error.IrError.{IrError}
 use Rattle.walrus_code.specs.declared.error.IrError.TheVariants.{Malformed, Memory, NoIndex, NotWritable, TooLarge}
 use Rattle.walrus_items.specs.Data.{DataValue}
 use Rattle.walrus_contents.specs.View as seen
-use Rattle.walrus_parts.specs.declared.error.Error.{Error}
-use Rattle.walrus_parts.specs.declared.error.Error.TheVariants as errors
+use Rattle.walrus_items.specs.declared.error.Error.{Error}
+use Rattle.walrus_items.specs.declared.error.Error.TheVariants as errors
 use Rattle.walrus_model.specs.Abstract.{DataKind, ActiveData, DataSegment}
 use Rattle.walrus_model.specs.Sections.{data_kind, data_of}
 use Rattle.walrus_constants.specs.Segments.{named_data, named_data_kind}

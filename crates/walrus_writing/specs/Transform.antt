@@ -19,17 +19,17 @@ use Rattle.walrus_bodies.specs.Body as bodies
 use Rattle.walrus_bodies.specs.Emitting.{AllStand, places_from}
 use Rattle.walrus_functions.specs.Transform.{Transform}
 use Rattle.walrus_items.specs.Functions.{functions}
-use Rattle.walrus_parts.specs.Transform.{transform_of}
-use Rattle.walrus_parts.specs.declared.error.Error.{Error}
-use Rattle.walrus_parts.specs.declared.transform.CodeTransform.{CodeTransform}
+use Rattle.walrus_items.specs.Transform.{transform_of}
+use Rattle.walrus_items.specs.declared.error.Error.{Error}
+use Rattle.walrus_items.specs.declared.transform.CodeTransform.{CodeTransform}
 use Rattle.walrus_contents.specs.declared.parts.Parts.{Parts}
 use Rattle.walrus_model.specs.Abstract.{Abstract}
 use Rattle.walrus_model.specs.Config.{Config}
 use Rattle.walrus_model.specs.Sections.{imported, imported_function}
 use Rattle.walrus_model.specs.Transform.{IsBodyOf, IsLocalFunction, TrueOf}
-use Rattle.walrus_rules.specs.Pinned.{IsWrittenAs}
-use Rattle.walrus_rules.specs.Refused.{IsSayable, RefusesToWrite}
-use Rattle.walrus_rules.specs.Spelling.{IsSpelledAs}
+use Rattle.walrus_theorem.specs.Pinned.{IsWrittenAs}
+use Rattle.walrus_theorem.specs.Refused.{IsSayable, RefusesToWrite}
+use Rattle.walrus_theorem.specs.Spelling.{IsSpelledAs}
 use Rattle.walrus_writing.specs.declared.write.Choices.{Choices}
 use Rattle.walrus_writing.specs.Customs.{IsAsked, task}
 use Rattle.walrus_writing.specs.Emitted.{IsWrittenWith, refusal_of}

@@ -3,26 +3,27 @@ ghost use Rattle.std.specs.Prelude.{◌≡◌, ◌<◌, ◌≤◌, ◌+◌, ◌^
 ghost use Rattle.wasm_frames.specs.Record.{body_record};
 ghost use Rattle.wasm_payloads.specs.Lent.{locals_entry};
 ghost use Rattle.walrus_base.specs.Id.{place};
-ghost use Rattle.walrus_types.specs.Locals.{locals};
+ghost use Rattle.walrus_base.specs.Locals.{locals};
 ghost use Rattle.walrus_code.specs.Indices.{index_of};
 ghost use Rattle.walrus_items.specs.Functions.{functions};
-ghost use Rattle.walrus_names.specs.Names.{local_names, used_listed};
-ghost use Rattle.walrus_names.specs.Pushed.{with_map};
-ghost use Rattle.walrus_parts.specs.Errors.{out_of_memory};
+ghost use Rattle.walrus_writing.specs.Names.{local_names, used_listed};
+ghost use Rattle.walrus_writing.specs.Pushed.{with_map};
+ghost use Rattle.walrus_items.specs.Errors.{out_of_memory};
 ghost use Rattle.walrus_writing.specs.Bodies.{AreWritten, appended_seen, texts_in, texts_of};
 ghost use Rattle.walrus_writing.specs.Parts.{local_in, unplaced, IsIndexed, IsWrittenBody};
 ghost use Rattle.walrus_writing.specs.Refusals.{RefusesBodies};
 
 use crate::joined::WrittenBodies;
+use crate::locals::push_local_names;
 use std::alloc::Global;
+use walrus_base::FunctionId;
+use walrus_bodies::{Features, LocalFunction};
+use walrus_code::IdsToIndices;
 use walrus_contents::Parts;
 use walrus_functions::{AppendedBody, append_body, likely_length};
-use walrus_ir::{Features, FunctionId, IdsToIndices, LocalFunction};
-use walrus_items::{FunctionKind, ModuleFunctions};
-use walrus_names::push_local_names;
-use walrus_parts::{Error, Result};
+use walrus_items::{Error, FunctionKind, ModuleFunctions, Result};
+use wasm_frames::RawBody;
 use wasm_payloads::RawLocals;
-use wasm_wire::RawBody;
 
 /// What bodies are written under: the module's parts, the indices of its items, and the proposals that bodies may use.
 #[derive(Clone, Copy)]

@@ -9,15 +9,15 @@ ghost use Rattle.walrus_constants.specs.Segments.{named_data};
 ghost use Rattle.walrus_contents.specs.View.{data_kind_of, data_of};
 ghost use Rattle.walrus_items.specs.Data.{data_segments, data_value};
 ghost use Rattle.walrus_model.specs.Sections as said;
-ghost use Rattle.walrus_types.specs.Operators.{Memories};
+ghost use Rattle.walrus_base.specs.Operators.{Memories};
 ghost use Rattle.walrus_writing.specs.Segments.{IndexesData, IndexesMode, IsSpelledData, RefusesData};
 
 use std::alloc::Global;
+use walrus_base::MemoryId;
+use walrus_code::{IdsToIndices, IrError};
 use walrus_constants::raw_const;
-use walrus_ir::{IdsToIndices, IrError, MemoryId};
-use walrus_items::{Data, DataKind, ModuleData};
-use walrus_parts::Error;
-use wasm_wire::{RawData, RawDataMode};
+use walrus_items::{Data, DataKind, Error, ModuleData};
+use wasm_entries::{RawData, RawDataMode};
 
 // The index of a memory, if it has one, which is a number of 32 bits.
 fn memory_index(id: MemoryId, indices: &IdsToIndices) -> Option<u32>

@@ -10,20 +10,21 @@ ghost use Rattle.walrus_contents.specs.View.{element_items_of, element_kind_of, 
 ghost use Rattle.walrus_items.specs.Elements.{elements, element_value};
 ghost use Rattle.walrus_model.specs.Abstract.{Expressions};
 ghost use Rattle.walrus_model.specs.Sections as said;
-ghost use Rattle.walrus_rules.specs.Spelling.{ArePlain, IsNarrow};
-ghost use Rattle.walrus_types.specs.ConstOps.{const_ops};
-ghost use Rattle.walrus_types.specs.Operators.{Functions, Tables};
-ghost use Rattle.walrus_types.specs.Value.{ref_type};
+ghost use Rattle.walrus_theorem.specs.Spelling.{ArePlain, IsNarrow};
+ghost use Rattle.walrus_base.specs.ConstOps.{const_ops};
+ghost use Rattle.walrus_base.specs.Operators.{Functions, Tables};
+ghost use Rattle.walrus_base.specs.Value.{ref_type};
 ghost use Rattle.walrus_writing.specs.Elements.{ChoosesFlag, IndexesElement, IndexesFunctions, IndexesItems, IndexesMode, IsSpelledElement, RefusesElements};
 
 use crate::tables::raw_reference;
 use std::alloc::Global;
+use walrus_base::{ConstExpr, FunctionId, RefType, TableId};
+use walrus_code::{IdsToIndices, IrError};
 use walrus_constants::{raw_const, raw_consts};
-use walrus_ir::{ConstExpr, FunctionId, IdsToIndices, IrError, RefType, TableId};
-use walrus_items::{Element, ElementItems, ElementKind, ModuleElements, ModuleTables};
-use walrus_parts::Error;
+use walrus_items::{Element, ElementItems, ElementKind, Error, ModuleElements, ModuleTables};
+use wasm_entries::{RawElement, RawElementMode, RawItems};
+use wasm_forms::RawHeap;
 use wasm_opcodes::types::HEAP_FUNC;
-use wasm_wire::{RawElement, RawElementMode, RawHeap, RawItems};
 
 // The index of a table, if it has one, which is a number of 32 bits.
 fn table_index(id: TableId, indices: &IdsToIndices) -> Option<u32>

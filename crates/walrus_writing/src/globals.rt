@@ -6,20 +6,18 @@ ghost use Rattle.walrus_base.specs.Arena.{items};
 ghost use Rattle.walrus_code.specs.Indices.{index_of};
 ghost use Rattle.walrus_constants.specs.Named.{named_global};
 ghost use Rattle.walrus_contents.specs.View.{global_of};
-ghost use Rattle.walrus_types.specs.ConstOps.{const_ops};
+ghost use Rattle.walrus_base.specs.ConstOps.{const_ops};
 ghost use Rattle.walrus_items.specs.Globals.{globals, global_import, global_init, global_value};
 ghost use Rattle.walrus_model.specs.Sections as said;
 ghost use Rattle.walrus_plan.specs.Brought.{own_of};
 ghost use Rattle.walrus_writing.specs.Globals.{IndexesGlobal, IndexesInitialiser, IsSpelledGlobal, RefusesGlobals};
 
 use std::alloc::Global;
-use walrus_code::index_value;
+use walrus_code::{IdsToIndices, IrError, index_value};
 use walrus_constants::raw_const;
-use walrus_ir::{IdsToIndices, IrError};
-use walrus_items::{GlobalKind, ModuleGlobals};
-use walrus_parts::Error;
+use walrus_items::{Error, GlobalKind, ModuleGlobals};
 use walrus_plan::global_import;
-use wasm_wire::{RawExpression, RawGlobal, RawGlobalType};
+use wasm_entries::{RawExpression, RawGlobal, RawGlobalType};
 
 // The initialiser of a global that the module defines, over indices.
 fn raw_initialiser(

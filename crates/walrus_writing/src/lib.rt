@@ -1,21 +1,31 @@
-//! What a module's parts are written as: the records of their sections under a plan of them, and the bytes of these.
+//! What a module's parts are written as: the records of their sections under a plan of them, their names, and the bytes of these.
 #![tactic(auto)]
 
 mod bodies;
 mod customs;
 mod data;
 mod elements;
+mod exports;
+mod functions;
 mod globals;
-mod imported;
+mod imports;
 mod joined;
 mod law;
+mod locals;
 mod located;
+mod memories;
+mod names;
 mod offsets;
-mod records;
+mod producers;
+mod start;
 mod tables;
+mod tags;
 mod transform;
+mod types;
 mod write;
 
 pub use law::one_transform;
+pub use locals::push_local_names;
+pub use names::{first_index, names_payload};
 pub use transform::code_transform;
 pub use write::{Choices, write_prepared};

@@ -3,15 +3,16 @@ ghost use Rattle.std.specs.Prelude.{◌≡◌, ◌+◌, ◌<◌, ◌≤◌, ◌+
 ghost use Rattle.std.specs.List.{AllZip};
 ghost use Rattle.walrus_base.specs.Id.{place};
 ghost use Rattle.walrus_code.specs.Location.{location};
-ghost use Rattle.walrus_parts.specs.Errors.{out_of_memory};
-ghost use Rattle.walrus_parts.specs.Transform.{location_of, range_of};
+ghost use Rattle.walrus_items.specs.Errors.{out_of_memory};
+ghost use Rattle.walrus_items.specs.Transform.{location_of, range_of};
 ghost use Rattle.walrus_writing.specs.Located.{AreSorted, LastPlaces, all_placed_from, by_ends, ends_of, first_if_last, is_first_last, lasts, placed_from, placed_one};
 
 use crate::offsets::LocatedBody;
 use std::alloc::Global;
 use std::ops::Range;
-use walrus_ir::{FunctionId, InstrLocId};
-use walrus_parts::Result;
+use walrus_base::FunctionId;
+use walrus_code::InstrLocId;
+use walrus_items::Result;
 
 // Each function's id with where its body starts and ends, in the order of the bodies.
 fn pair_ranges(

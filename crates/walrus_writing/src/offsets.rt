@@ -4,18 +4,19 @@ ghost use Rattle.std.specs.List.{AllZip};
 ghost use Rattle.wasm_frames.specs.Record.{body_record};
 ghost use Rattle.walrus_base.specs.Id.{place};
 ghost use Rattle.walrus_code.specs.Indices.{index_of};
-ghost use Rattle.walrus_parts.specs.Errors.{out_of_memory};
-ghost use Rattle.walrus_parts.specs.Transform.{location_of};
+ghost use Rattle.walrus_items.specs.Errors.{out_of_memory};
+ghost use Rattle.walrus_items.specs.Transform.{location_of};
 ghost use Rattle.walrus_writing.specs.Located.{AreOffsets};
 ghost use Rattle.walrus_writing.specs.Parts.{unplaced, HasBytes, IsIndexed};
 ghost use Rattle.walrus_writing.specs.Refusals.{RefusesBodies};
 
 use crate::bodies::{Indexed, local_of};
 use std::alloc::Global;
+use walrus_base::FunctionId;
+use walrus_code::InstrLocId;
 use walrus_functions::emit_body;
-use walrus_ir::{FunctionId, InstrLocId};
-use walrus_parts::Result;
-use wasm_wire::RawBody;
+use walrus_items::Result;
+use wasm_frames::RawBody;
 
 /// The body of a function as it is written.
 #[derive(Drop)]

@@ -5,8 +5,8 @@ ghost use Rattle.wasm_entries.specs.Spelling.{InitialStands, TableStands};
 ghost use Rattle.wasm_entries.specs.TypeSpelling.{TableTypeStands};
 ghost use Rattle.wasm_forms.specs.Types.{HeapStands};
 ghost use Rattle.walrus_base.specs.Arena.{items};
-ghost use Rattle.walrus_types.specs.ConstOps.{const_ops};
-ghost use Rattle.walrus_types.specs.Value.{ref_type};
+ghost use Rattle.walrus_base.specs.ConstOps.{const_ops};
+ghost use Rattle.walrus_base.specs.Value.{ref_type};
 ghost use Rattle.walrus_code.specs.Indices.{index_of};
 ghost use Rattle.walrus_code.specs.Results.{IndexesIn, NeedsNoMemory, heap_is_exact};
 ghost use Rattle.walrus_constants.specs.Named.{named_ref, named_table};
@@ -16,14 +16,14 @@ ghost use Rattle.walrus_model.specs.Sections as said;
 ghost use Rattle.walrus_plan.specs.Brought.{own_of};
 ghost use Rattle.walrus_writing.specs.Tables.{IndexesInitial, IndexesTable, IsSpelledTable, RefusesTables};
 
-use crate::records::raw_limits;
+use crate::memories::raw_limits;
 use std::alloc::Global;
-use walrus_code::index_value;
+use walrus_base::{ConstExpr, RefType, ValType};
+use walrus_code::{IdsToIndices, IrError, index_value};
 use walrus_constants::raw_const;
-use walrus_ir::{ConstExpr, IdsToIndices, IrError, RefType, ValType};
-use walrus_items::{ModuleTables, Table};
-use walrus_parts::Error;
-use wasm_wire::{RawExpression, RawRef, RawTable, RawTableType, RawVal};
+use walrus_items::{Error, ModuleTables, Table};
+use wasm_entries::{RawExpression, RawTable, RawTableType};
+use wasm_forms::{RawRef, RawVal};
 
 /// The type of the elements of a table, or of what a segment holds.
 pub(crate) fn raw_reference(ty: RefType, indices: &IdsToIndices) -> Result<RawRef, IrError>

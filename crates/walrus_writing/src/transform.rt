@@ -21,18 +21,25 @@ use crate::bodies::Indexed;
 use crate::customs::copied;
 use crate::data::raw_data;
 use crate::elements::raw_elements;
+use crate::exports::raw_exports;
+use crate::functions::raw_functions;
 use crate::globals::raw_globals;
-use crate::imported::raw_imports;
+use crate::imports::raw_imports;
 use crate::located::{function_ranges, instruction_map};
+use crate::memories::raw_memories;
 use crate::offsets::{LocatedBody, located_bodies, raw_located};
-use crate::records::{raw_exports, raw_functions, raw_memories, raw_start, raw_tags, raw_types};
+use crate::start::raw_start;
 use crate::tables::raw_tables;
+use crate::tags::raw_tags;
+use crate::types::raw_types;
 use crate::write::Choices;
 use std::alloc::Global;
 use walrus_contents::Parts;
-use walrus_parts::{CodeTransform, Result};
+use walrus_items::{CodeTransform, Result};
 use walrus_plan::Prepared;
-use wasm_wire::{CodePlaces, Raw, RawCustom, code_places};
+use wasm_frames::{Raw, RawCustom};
+use wasm_wire::code_places;
+use wasm_writer::CodePlaces;
 
 // The places of the parts of the code section among the records of items that name nothing dead, in the order of their plan, by the indices
 // that it gives, behind these sections of dynamic linking.

@@ -7,7 +7,7 @@ ghost use Rattle.walrus_model.specs.Abstract.{Abstract};
 ghost use Rattle.walrus_model.specs.Config.{Config};
 ghost use Rattle.walrus_model.specs.Dead.{HasDead};
 ghost use Rattle.walrus_model.specs.Declared.{NothingUndeclared};
-ghost use Rattle.walrus_rules.specs.Refused.{RefusesToWrite};
+ghost use Rattle.walrus_theorem.specs.Refused.{RefusesToWrite};
 ghost use Rattle.walrus_contents.specs.View.{parts_view};
 ghost use Rattle.walrus_writing.specs.Customs.{IsAsked, task};
 ghost use Rattle.walrus_writing.specs.Emitted.{IsEmitted, IsWrittenWith, told};
@@ -18,21 +18,29 @@ ghost use Rattle.walrus_writing.specs.Refusals.{RefusesBodies, RefusesItems};
 ghost use Rattle.walrus_writing.specs.declared.write.Choices.{Choices};
 
 use crate::bodies::{Indexed, raw_bodies, written_bodies};
-use crate::customs::{Payloads, both_payloads, producers_payload, raw_customs};
+use crate::customs::{Payloads, both_payloads, raw_customs};
 use crate::data::raw_data;
 use crate::elements::raw_elements;
+use crate::exports::raw_exports;
+use crate::functions::raw_functions;
 use crate::globals::raw_globals;
-use crate::imported::raw_imports;
+use crate::imports::raw_imports;
 use crate::joined::WrittenBodies;
-use crate::records::{raw_exports, raw_functions, raw_memories, raw_start, raw_tags, raw_types};
+use crate::memories::raw_memories;
+use crate::names::{first_index, names_payload};
+use crate::producers::producers_payload;
+use crate::start::raw_start;
 use crate::tables::raw_tables;
+use crate::tags::raw_tags;
+use crate::types::raw_types;
 use std::alloc::Global;
+use walrus_bodies::Features;
+use walrus_code::IdsToIndices;
 use walrus_contents::Parts;
-use walrus_ir::{Features, IdsToIndices};
-use walrus_names::{first_index, names_payload};
-use walrus_parts::{Error, Result};
+use walrus_items::{Error, Result};
 use walrus_plan::Prepared;
-use wasm_wire::{Raw, RawCustom, written_module};
+use wasm_frames::{Raw, RawCustom};
+use wasm_wire::written_module;
 
 /// What a module is written under.
 #[derive(Clone, Copy, Debug)]

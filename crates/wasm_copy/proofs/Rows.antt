@@ -1,12 +1,8 @@
 -- Lists that are written entry by entry.
-use Rattle.std.proofs.Common.{◌≡◌, ℕ, zero, suc, ◌+◌, ◌<◌, List, [], ◌∷◌, ◌++◌, length, get_or, take, map, refl, ap, ◌∙◌, arith, append_assoc}
+use Rattle.std.proofs.Common.{◌≡◌, ℕ, ◌+◌, ◌<◌, List, [], ◌∷◌, ◌++◌, length, get_or, take, map, refl, ap, ◌∙◌, append_assoc}
 use Rattle.wasm_forms.specs.Spelling.{row_bytes}
 use Rattle.wasm_forms.proofs.Items.{row_push}
-
-any_default : {X : Type 0} (xs : List X) (i : ℕ) (d e : X) → i < length xs → get_or xs i d ≡ get_or xs i e
-any_default [] i d e l = absurd (omega arith)
-any_default (x ∷ xs) zero d e l = refl
-any_default (x ∷ xs) (suc i) d e l = any_default xs i d e (omega arith)
+use Rattle.wasm_forms.proofs.RowTurns.{default_any as any_default}
 
 -- one more entry
 pub row_more : {X : Type 0} (spell : X → List ℕ) (xs : List X) (i : ℕ) (d : X) (front now new : List ℕ) → i < length xs → now ≡ front ++ row_bytes spell (take i xs) → new ≡ now ++ spell (get_or xs i d) → new ≡ front ++ row_bytes spell (take (i + 1) xs)

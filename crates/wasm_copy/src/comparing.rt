@@ -2,7 +2,8 @@
 
 ghost use Rattle.std.specs.Prelude.{◌≡◌, true, map};
 
-use wasm_wire::{CustomGroup, Raw, RawBody, RawCustom};
+use wasm_frames::{Raw, RawBody, RawCustom};
+use wasm_wire::CustomGroup;
 
 // Whether the module holds anything in the section of this id. A section that holds nothing isn't written.
 fn holds(records: &Raw<'_>, id: u8) -> bool {

@@ -6,7 +6,7 @@ ghost use Rattle.wasm_copy.specs.Status.{status_of};
 use std::alloc::AllocError;
 use std::io;
 use thiserror::Error;
-use wasm_wire::WireError;
+use wasm_forms::WireError;
 
 /// Why the program fails, as it says on standard error.
 #[derive(Debug, Drop, Error)]

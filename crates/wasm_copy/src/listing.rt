@@ -11,10 +11,10 @@ ghost use Rattle.wasm_wire.specs.Context.{imported, desc_function};
 ghost use Rattle.wasm_copy.specs.Listing.{word_of, naming_line, value_line, field_lines, IsListed, AreListed, is_below, has_function};
 
 use std::alloc::{AllocError, Global};
-use wasm_wire::{
-    NameSink, NameSpace, Naming, Raw, RawCustom, RawDesc, RawField, RawImport, WireError,
-    read_names, read_producers,
-};
+use wasm_entries::{RawDesc, RawImport};
+use wasm_forms::WireError;
+use wasm_frames::{Raw, RawCustom};
+use wasm_payloads::{NameSink, NameSpace, Naming, RawField, read_names, read_producers};
 
 // Takes namings as lines, where so many functions are known.
 #[derive(Drop)]

@@ -13,7 +13,8 @@ use crate::listing::listing;
 use crate::task::Task;
 use std::alloc::Global;
 use std::io::{Read, Write};
-use wasm_wire::{Raw, check, read_module, written_module};
+use wasm_frames::{Raw, read_module};
+use wasm_wire::{check, written_module};
 
 // The records of a module that keeps the rules.
 fn read_checked(alloc: Global, bytes: &[u8]) -> Result<Raw<'_>, Failure>

@@ -23,7 +23,7 @@ wrote_signature t params results r old between new p q e l w =
     (adds_behind r old between new (vector_bytes value_bytes params) (vector_bytes value_bytes results) (FitsVector (λ v. Unit {0}) results) (FuncTypeFits t) e
     (λ h. (few, subst (λ (x : List RawVal). FitsLength x) q h.0)) (λ h. fits_free results (subst (λ (x : List RawVal). FitsLength x) (sym q) h.1)) w)
 
-group_many : (g : Group) → (length g ≡ 1 → ⊥) → 0x4E ∷ vector_bytes sub_bytes g ≡ group_bytes g
+pub group_many : (g : Group) → (length g ≡ 1 → ⊥) → 0x4E ∷ vector_bytes sub_bytes g ≡ group_bytes g
 group_many [] h = refl
 group_many (s ∷ []) h = absurd (h refl)
 group_many (s ∷ t ∷ rest) h = refl

@@ -11,11 +11,12 @@ use Rattle.std.proofs.lemmas.List.{map-id}
 use Rattle.wasm_forms.specs.declared.types.RawVal.{RawVal}
 use Rattle.wasm_forms.specs.Types.{value_from, value_type}
 use Rattle.wasm_forms.proofs.Refused.{refused}
-use Rattle.wasm_forms.proofs.Bind.{false_unless}
 use Rattle.wasm_entries.specs.declared.record.RawStorage.TheVariants as storages
 use Rattle.wasm_entries.specs.Record.{Expression, ActiveElements}
 use Rattle.wasm_entries.specs.TypeForms.{storage_from, signature, size_form}
 use Rattle.wasm_entries.specs.Forms.{expression_form, in_first}
+use Rattle.std.proofs.lemmas.Bool.{false_from_ne_true as false_unless}
+use Rattle.wasm_forms.proofs.Floats.{take_whole as keeps_self}
 
 -- ---- readers
 
@@ -108,10 +109,6 @@ put_behind old between new front back e h = h ∙ ap (λ l. l ++ back) e ∙ app
 keeps_front : (old front : List ℕ) → take (length old) (old ++ front) ≡ old
 keeps_front [] front = refl
 keeps_front (x ∷ xs) front = ap (λ l. x ∷ l) (keeps_front xs front)
-
-keeps_self : (old : List ℕ) → take (length old) old ≡ old
-keeps_self [] = refl
-keeps_self (x ∷ xs) = ap (λ l. x ∷ l) (keeps_self xs)
 
 pub keeps_same : (old new : List ℕ) → new ≡ old → Keeps old new
 keeps_same old new e = subst (λ l. Keeps old l) (sym e) (keeps_self old)

@@ -3,9 +3,7 @@
 ghost use Rattle.wasm_forms.specs.Grammar.{Is};
 ghost use Rattle.wasm_entries.specs.Record.{Expression, Import, Table, Global, Export, Element, Segment};
 ghost use Rattle.wasm_entries.specs.Forms.{expression_form, import_form, table_form, global_form, export_form, element_form, data_form};
-ghost use Rattle.wasm_entries.specs.Spelling.{expression_bytes, import_bytes, table_bytes, global_bytes, export_bytes, element_bytes, data_bytes};
-ghost use Rattle.wasm_entries.specs.Spelling.{ImportFits, TableFits, ExportFits, ElementFits, DataFits};
-ghost use Rattle.wasm_entries.specs.Spelling.{ExpressionStands, ImportStands, TableStands, GlobalStands, ExportStands, ElementStands, DataStands};
+ghost use Rattle.wasm_entries.specs.Spelling.{expression_bytes, import_bytes, table_bytes, global_bytes, export_bytes, element_bytes, data_bytes, ImportFits, TableFits, ExportFits, ElementFits, DataFits, ExpressionStands, ImportStands, TableStands, GlobalStands, ExportStands, ElementStands, DataStands};
 
 /// What is written for a constant expression is a text of the grammar with that value.
 pub fn expression_spelling_stands()

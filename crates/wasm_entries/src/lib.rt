@@ -33,4 +33,3 @@ pub use record::{
     RawExportKind, RawExpression, RawFieldType, RawFuncType, RawGlobal, RawGlobalType, RawGroup,
     RawImport, RawItems, RawLimits, RawStorage, RawSub, RawTable, RawTableType,
 };
-pub use wasm_forms::{RawHeap, RawRef, RawVal, WireError};

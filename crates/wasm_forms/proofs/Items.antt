@@ -4,11 +4,11 @@ use Rattle.std.proofs.lemmas.List.{take_more}
 use Rattle.wasm_forms.specs.Writing.{EachFits}
 use Rattle.wasm_forms.specs.Spelling.{row_bytes}
 
-row_bytes-append : {X : Type 0} (spell : X → List ℕ) (xs ys : List X) → row_bytes spell (xs ++ ys) ≡ row_bytes spell xs ++ row_bytes spell ys
+pub row_bytes-append : {X : Type 0} (spell : X → List ℕ) (xs ys : List X) → row_bytes spell (xs ++ ys) ≡ row_bytes spell xs ++ row_bytes spell ys
 row_bytes-append spell [] ys = refl
 row_bytes-append spell (x ∷ xs) ys = ap (λ l. spell x ++ l) (row_bytes-append spell xs ys) ∙ sym (append_assoc (spell x) (row_bytes spell xs) (row_bytes spell ys))
 
-each_append : {X : Type 0} (F : X → Type 0) (xs ys : List X) → EachFits F xs → EachFits F ys → EachFits F (xs ++ ys)
+pub each_append : {X : Type 0} (F : X → Type 0) (xs ys : List X) → EachFits F xs → EachFits F ys → EachFits F (xs ++ ys)
 each_append F [] ys h k = k
 each_append F (x ∷ xs) ys h k = (h.0, each_append F xs ys h.1 k)
 

@@ -16,3 +16,5 @@ pub mod Adding
 pub mod Stands
 pub mod Room
 pub mod Keeping
+pub mod RowTurns
+pub mod Writing

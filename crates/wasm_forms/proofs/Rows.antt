@@ -1,8 +1,9 @@
 -- One more value of a row.
-use Rattle.std.proofs.Common.{◌≡◌, ℕ, zero, suc, List, [], ◌∷◌, ◌++◌, refl, sym, ap, ◌∙◌, append_assoc, append-nil}
+use Rattle.std.proofs.Common.{◌≡◌, ℕ, zero, suc, List, [], ◌∷◌, ◌++◌, refl, ap, ◌∙◌, append-nil}
 use Rattle.std.specs.Prelude.{Option, Some, None}
 use Rattle.wasm_forms.specs.Reading.{◌>>=◌}
 use Rattle.wasm_forms.specs.Grammar.{row_at, behind}
+use Rattle.wasm_forms.proofs.RowTurns.{behind_more}
 
 abbrev Reader : Type 0 → Type 0
 Reader A = List ℕ → Option (A × List ℕ)
@@ -14,10 +15,6 @@ then_row f left x = row_at f left x.1 >>= λ xs. Some (x.0 ∷ xs.0, xs.1)
 row_more : {A : Type 0} (f : Reader A) (left : ℕ) (bytes : List ℕ) → row_at f (suc left) bytes ≡ (f bytes >>= then_row f left)
 unfolding row_at
 row_more f left bytes = refl
-
-behind_more : {A : Type 0} (done : List A) (x : A) (o : Option (List A × List ℕ)) → ((o >>= λ xs. Some (x ∷ xs.0, xs.1)) >>= behind done) ≡ (o >>= behind (done ++ x ∷ []))
-behind_more done x None = refl
-behind_more done x (Some xs) = ap (λ l. Some (l, xs.1)) (sym (append_assoc done (x ∷ []) xs.0))
 
 pub row_turn : {A : Type 0} (f : Reader A) (left : ℕ) (bytes rest : List ℕ) (done : List A) (x : A) → f bytes ≡ Some (x, rest) → (row_at f (suc left) bytes >>= behind done) ≡ (row_at f left rest >>= behind (done ++ x ∷ []))
 row_turn f left bytes rest done x e = ap (λ o. o >>= behind done) (row_more f left bytes ∙ ap (λ o. o >>= then_row f left) e) ∙ behind_more done x (row_at f left rest)

@@ -124,7 +124,7 @@ fits_from_mag half (negsuc n) h = h
 -- ---- no spelling is shorter
 
 -- a number of so many bytes is no larger than these hold
-unsigned_bound : (bytes : List ℕ) (n : ℕ) → AreBytes bytes → IsUnsigned bytes n → n < 128 ^ length bytes
+pub unsigned_bound : (bytes : List ℕ) (n : ℕ) → AreBytes bytes → IsUnsigned bytes n → n < 128 ^ length bytes
 unsigned_bound [] n a h = absurd h
 unsigned_bound (b ∷ []) n a h = omega (arith, h.0, h.1)
 unsigned_bound (b ∷ c ∷ bs) n a h =

@@ -3,7 +3,7 @@ use Rattle.std.proofs.Common.{◌≡◌, ℕ, ◌<◌, ◌≤◌, Bool, true, fa
 use Rattle.std.specs.Prelude.{All, nat_le, nat_eq, ◌&&◌}
 use Rattle.wasm_opcodes.specs.declared.types.TheConstants.{HEAP_EXN, HEAP_NO_EXN}
 use Rattle.std.proofs.lemmas.Int.{ints}
-use Rattle.std.proofs.lemmas.Bool.{ne_eqb, le-leb, lt-leb, leb-true}
+use Rattle.std.proofs.lemmas.Bool.{ne_eqb, le-leb, lt-leb, leb-true, and_parts as and_both}
 use Rattle.std.proofs.lemmas.List.Elements.{All-head, All-tail}
 use Rattle.wasm_forms.specs.declared.types.RawHeap.{RawHeap}
 use Rattle.wasm_forms.specs.declared.types.RawHeap.TheVariants.{Abstract, Index}
@@ -56,19 +56,13 @@ low_byte b h = ap (λ t. t && nat_le b HEAP_NO_EXN) (lt-leb HEAP_EXN b (omega (a
 high_byte : (b : ℕ) → 0x75 ≤ b → is_abstract b ≡ false
 high_byte b h = ap₂ (λ s t. s && t) (le-leb HEAP_EXN b (omega (arith, h))) (lt-leb b HEAP_NO_EXN (omega (arith, h)))
 
-not_minus : (b n : ℕ) → b < 128 → pos n ≡ pos b -ℤ pos 128 → ⊥
+pub not_minus : (b n : ℕ) → b < 128 → pos n ≡ pos b -ℤ pos 128 → ⊥
 not_minus b n h e = omega (arith, ints)
 
 index_byte : (b n : ℕ) (back : List ℕ) → IsSigned (b ∷ back) (pos n) → is_abstract b ≡ false
 index_byte b n [] (inl h) = low_byte b (omega (arith, h.0))
 index_byte b n [] (inr h) = absurd (not_minus b n h.1 h.2)
 index_byte b n (c ∷ bs) h = high_byte b (omega (arith, h.0))
-
-and_both : (s t : Bool) → (s && t) ≡ true → (s ≡ true) × (t ≡ true)
-and_both true true e = (refl, refl)
-and_both true false e = cc
-and_both false true e = cc
-and_both false false e = cc
 
 pub abstract_range : (b : ℕ) → is_abstract b ≡ true → (0x68 < b) × (b < 0x75)
 abstract_range b e =

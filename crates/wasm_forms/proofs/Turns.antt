@@ -1,6 +1,5 @@
 -- One more group in front of a number.
-use Rattle.std.proofs.Common.{◌≡◌, ℕ, zero, suc, ◌+◌, ◌-◌, ◌*◌, ◌<◌, ◌≤◌, Bool, true, false, List, [], ◌∷◌, ltb, refl, sym, ap, ◌∙◌, arith, lt-ltb, ltb-true, ltb-false, ℤ, pos, negsuc, ◌+ℤ◌, ◌*ℤ◌}
-use Rattle.std.proofs.Common.{◌^◌}
+use Rattle.std.proofs.Common.{◌≡◌, ℕ, zero, suc, ◌+◌, ◌-◌, ◌*◌, ◌<◌, ◌≤◌, Bool, true, false, List, [], ◌∷◌, ltb, refl, sym, ap, ◌∙◌, arith, lt-ltb, ltb-true, ltb-false, ℤ, pos, negsuc, ◌+ℤ◌, ◌*ℤ◌, ◌^◌}
 use Rattle.std.proofs.lemmas.Nat.{pow-add}
 use Rattle.std.proofs.Math.Nat.{mul-le-mul_left}
 use Rattle.std.proofs.Math.IntN.{pos-*ℤ-negsuc}
@@ -60,7 +59,7 @@ signed_stop left value scale [] h = ap (λ o. o >>= signed_above value scale) (s
 signed_stop left value scale (b ∷ after) h = ap (λ o. o >>= signed_above value scale) (sleb-last left b after h) ∙ sym (ap (λ t. (if t then Some (b, after) else None) >>= ends value scale) (lt-ltb b 128 h))
 
 -- the last byte that is allowed
-leb_at-zero : (bytes : List ℕ) → leb_at 0 bytes ≡ None
+pub leb_at-zero : (bytes : List ℕ) → leb_at 0 bytes ≡ None
 unfolding leb_at
 leb_at-zero bytes = refl
 

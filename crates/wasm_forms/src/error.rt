@@ -1,8 +1,7 @@
 //! Why bytes are refused.
 
-ghost use Rattle.std.specs.Prelude.{◌≡◌};
+ghost use Rattle.std.specs.Prelude.{◌≡◌, alloc_error};
 ghost use Rattle.wasm_forms.specs.declared.error.WireError.TheVariants.{Memory};
-ghost use Rattle.std.specs.Prelude.{alloc_error};
 
 use std::alloc::{AllocError, AllocFailed};
 

@@ -4,3 +4,4 @@ pub mod Contents
 pub mod Added
 pub mod Sections
 pub mod Modules
+pub mod SectionRows

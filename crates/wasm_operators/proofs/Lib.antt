@@ -8,3 +8,4 @@ pub mod Skipped
 pub mod Stands
 pub mod Taken
 pub mod Written
+pub mod TextsStand

@@ -1,8 +1,7 @@
 -- One argument that is spelled stands in the form of its kind.
-use Rattle.std.proofs.Common.{◌≡◌, ℕ, ◌+◌, ◌-◌, ◌/◌, ◌%◌, ◌<◌, ◌≤◌, Bool, true, false, List, [], ◌∷◌, ◌++◌, refl, sym, ap, ap₂, ◌∙◌, arith, append_assoc, lt-ltb, le-ltb, eqb, eqb-true, eq-eqb, ◌⊎◌, inl, inr, pos, ◌-ℤ◌}
+use Rattle.std.proofs.Common.{◌≡◌, ℕ, ◌+◌, ◌-◌, ◌/◌, ◌%◌, ◌<◌, ◌≤◌, Bool, true, false, List, [], ◌∷◌, ◌++◌, refl, sym, ap, ap₂, ◌∙◌, arith, append_assoc, lt-ltb, le-ltb, eqb, eqb-true, eq-eqb, ◌⊎◌, inl, inr, pos}
 use Rattle.std.specs.Prelude.{nat_lt, nat_eq, ◌&&◌, not, if◌then◌else◌}
-use Rattle.std.proofs.lemmas.Int.{ints}
-use Rattle.std.proofs.lemmas.Bool.{ne_eqb}
+use Rattle.std.proofs.lemmas.Bool.{ne_eqb, false≢true as untrue}
 use Rattle.wasm_forms.specs.declared.types.RawHeap.{RawHeap}
 use Rattle.wasm_forms.specs.declared.types.RawHeap.TheVariants.{Abstract, Index}
 use Rattle.wasm_forms.specs.declared.types.RawVal.{RawVal}
@@ -13,7 +12,7 @@ use Rattle.wasm_forms.specs.Spelling.{number_bytes, index_bytes}
 use Rattle.wasm_forms.specs.Types.{value_from, value_bytes, heap_bytes, reference_spelled, HeapStands, ValueStands}
 use Rattle.wasm_forms.proofs.Spelled.{number_stands, integer_stands, long_number_stands, long_integer_stands, index_stands}
 use Rattle.wasm_forms.proofs.Floats.{f32_stands, f64_stands}
-use Rattle.wasm_forms.proofs.Stands.{abstract_range, heap_stands, value_led, first_stands, second_stands}
+use Rattle.wasm_forms.proofs.Stands.{abstract_range, heap_stands, value_led, first_stands, second_stands, not_minus}
 use Rattle.wasm_operators.specs.declared.kind.Kind.{Kind}
 use Rattle.wasm_operators.specs.declared.kind.Kind.TheVariants as kinds
 use Rattle.wasm_operators.specs.declared.operator.RawArg.{RawArg}
@@ -23,12 +22,6 @@ use Rattle.wasm_operators.specs.declared.operator.RawBlock.TheVariants.{NoResult
 use Rattle.wasm_operators.specs.Forms.{block_from, block_type, has_memory, access_from, access, arg_form}
 use Rattle.wasm_operators.specs.Spelling.{block_bytes, access_bytes, arg_bytes}
 use Rattle.wasm_operators.specs.Standing.{heap_spells, value_spells, block_spells, is_of, HeapHeld, ValueHeld, BlockHeld, ArgHeld}
-
-pub and_both : (s t : Bool) → (s && t) ≡ true → (s ≡ true) × (t ≡ true)
-and_both true true e = (refl, refl)
-and_both true false e = cc
-and_both false true e = cc
-and_both false false e = cc
 
 -- ---- heap types and value types
 
@@ -68,9 +61,6 @@ value_leads F32 b back k e = leads 0x7D b back [] (omega arith) (omega arith) e
 value_leads F64 b back k e = leads 0x7C b back [] (omega arith) (omega arith) e
 value_leads V128 b back k e = leads 0x7B b back [] (omega arith) (omega arith) e
 value_leads (Ref r) b back k e = reference_leads r.nullable r.heap b back k e
-
-not_minus : (b n : ℕ) → b < 128 → pos n ≡ pos b -ℤ pos 128 → ⊥
-not_minus b n h e = omega (arith, ints)
 
 index_leads : (b n : ℕ) (back : List ℕ) → IsSigned (b ∷ back) (pos n) → (b < 64) ⊎ (128 ≤ b)
 index_leads b n [] (inl h) = inl h.0
@@ -129,10 +119,10 @@ block_stands (OfType n) s h =
 
 -- ---- accesses: bit 40 of the flags
 
-true_not_false : true ≡ false → ⊥
+pub true_not_false : true ≡ false → ⊥
 true_not_false e = cc
 
-bit_down_at : (t : Bool) → not t ≡ true → t ≡ false
+pub bit_down_at : (t : Bool) → not t ≡ true → t ≡ false
 bit_down_at true e = cc
 bit_down_at false e = refl
 
@@ -191,9 +181,6 @@ pub access_stands : (flags memory offset : ℕ) → not (has_memory flags) ≡ t
 access_stands flags memory offset b f m o = access_at flags memory offset (bit_down flags b) f m o (eqb memory 0) refl
 
 -- ---- an argument of a kind that is one
-
-untrue : false ≡ true → ⊥
-untrue e = cc
 
 pub one_stands : (kind : Kind) (arg : RawArg) → is_of kind arg ≡ true → ArgHeld arg → Is (arg_form kind) (arg_bytes arg) (arg ∷ [])
 unfolding arg_form

@@ -1,7 +1,7 @@
 -- What is spelled for an operator stands in the form of operators.
 use Rattle.std.proofs.Common.{◌≡◌, ℕ, zero, suc, ◌+◌, ◌*◌, ◌/◌, ◌%◌, ◌<◌, ◌≤◌, Bool, true, false, List, [], ◌∷◌, ◌++◌, length, map, refl, sym, ap, ap₂, subst, ◌∙◌, arith, append_assoc, append-nil, lt-ltb, le-ltb, ltb, ltb-true, ltb-false, ◌⊎◌, inl, inr}
 use Rattle.std.specs.Prelude.{Option, Some, None, flat_map, nat_lt, nat_le, ◌&&◌, if◌then◌else◌}
-use Rattle.std.proofs.lemmas.Bool.{le-leb, lt-leb}
+use Rattle.std.proofs.lemmas.Bool.{le-leb, lt-leb, and_parts as and_both}
 use Rattle.wasm_opcodes.specs.declared.one_byte.TheConstants.{PREFIX_FB, PREFIX_FE}
 use Rattle.wasm_forms.specs.Reading.{◌>>=◌}
 use Rattle.wasm_forms.specs.Grammar.{Form, Is, IsRow, Fails, Byte, Bytes, ◌then◌, Led, Made, Where, U32}
@@ -22,7 +22,7 @@ use Rattle.wasm_operators.specs.Forms.{catch_from, catch_clause, several, arg_fo
 use Rattle.wasm_operators.specs.Spelling.{arg_bytes, code_bytes, op_bytes}
 use Rattle.wasm_operators.specs.Standing.{value_spells, is_of, behind_one, behind_value, behind_catch, behind_entries, behind_counted, behind_kind, behind_kinds, is_done, spelled_by, spells, ArgHeld, OpStands}
 use Rattle.wasm_operators.proofs.Lookup.{kinds_within, past}
-use Rattle.wasm_operators.proofs.OneStands.{and_both, value_made, one_stands}
+use Rattle.wasm_operators.proofs.OneStands.{value_made, one_stands}
 
 abbrev Skip : Type 0
 Skip = List RawArg → Option (List RawArg)

@@ -108,7 +108,7 @@ counted_skip entry f make law bytes xs a i =
     let p = entries_skip entry f make law ys i.1.1.0 s.1 row.0 in
     skips_as (behind_counted entry) xs (args.Count n ∷ flat_map make ys) made.1.0 (λ rest. ap (λ k. behind_entries entry k (flat_map make ys ++ rest)) (sym row.1) ∙ p.0 rest, (i.1.1.1.1.small, p.1))
 
-row_of_bytes : (ys : List ℕ) → IsRow (Is Byte) ys ys
+pub row_of_bytes : (ys : List ℕ) → IsRow (Is Byte) ys ys
 row_of_bytes [] = refl
 row_of_bytes (y ∷ ys) = (y ∷ [], (ys, (refl, refl, row_of_bytes ys)))
 

@@ -3,6 +3,5 @@ pub mod Agreed
 pub mod Found
 pub mod Handing
 pub mod FieldTurns
-pub mod Writing
 pub mod Fields
 pub mod Entries

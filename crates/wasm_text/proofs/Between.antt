@@ -36,7 +36,7 @@ one_byte bytes at b e =
     ap (λ k. take k (drop at bytes)) n ∙ ap (take 1) e
 
 -- each is a byte
-bytes_of : (xs : List ℕ) → ((i : ℕ) → get_or xs i 0 < 256) → AreBytes xs
+pub bytes_of : (xs : List ℕ) → ((i : ℕ) → get_or xs i 0 < 256) → AreBytes xs
 bytes_of [] h = tt
 bytes_of (x ∷ xs) h = (h 0, bytes_of xs (λ i. h (suc i)))
 

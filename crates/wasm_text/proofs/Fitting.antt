@@ -9,15 +9,7 @@ use Rattle.wasm_text.specs.declared.places.TheConstants.{NO_PLACE}
 use Rattle.wasm_text.specs.Places.{between, IsPast, IsBehind}
 use Rattle.wasm_text.proofs.Between.{length_between, bytes_between}
 use Rattle.wasm_text.proofs.Forms.{fits_last}
-
--- a number is no larger than its bytes hold
-unsigned_bound : (bytes : List ℕ) (n : ℕ) → AreBytes bytes → IsUnsigned bytes n → n < 128 ^ length bytes
-unsigned_bound [] n a h = absurd h
-unsigned_bound (b ∷ []) n a h = omega (arith, h.0, h.1)
-unsigned_bound (b ∷ c ∷ bs) n a h =
-    let r = unsigned_bound (c ∷ bs) h.1.0 a.1 h.1.2 in
-    let e : length (c ∷ bs) + 1 ≡ length (b ∷ c ∷ bs) = omega arith in
-    omega (arith, a.0, h.0, h.1.1, pow-add 128 (length (c ∷ bs)) 1, ap (λ k. 128 ^ k) e)
+use Rattle.wasm_forms.proofs.Spelled.{unsigned_bound}
 
 -- the signed number that the bytes of an unsigned one spell
 record Signs (bytes : List ℕ) : Type 0 where

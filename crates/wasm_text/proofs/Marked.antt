@@ -1,7 +1,7 @@
 -- What stands at a mark, by its kind.
 use Rattle.std.proofs.Common.{◌≡◌, ℕ, zero, suc, ◌-◌, ◌≤◌, Bool, true, false, List, drop, length, refl, sym, ap, subst, ◌∙◌, arith, ℤ}
 use Rattle.std.specs.Prelude.{Option, Some, None, nat_eq, option_map}
-use Rattle.std.proofs.lemmas.Bool.{eqb-true}
+use Rattle.std.proofs.lemmas.Bool.{eqb-true, false≢true as untrue}
 use Rattle.std.proofs.lemmas.List.{length-drop}
 use Rattle.wasm_forms.specs.Grammar.{Form, Is, U32, U64, S32 as FormS32, S64 as FormS64, Made, Fails, ◌then◌, at, choose}
 use Rattle.wasm_forms.proofs.Bind.{some_same, some_not_none}
@@ -60,9 +60,6 @@ marked_of kind bytes arg =
 mapped : {B : Type 0} (make : B → RawArg) (o : Option B) (new : RawArg) → ((b : B) → is_marked (make b) ≡ true) → option_map make o ≡ Some new → is_marked new ≡ true
 mapped make None new all e = cc
 mapped make (Some b) new all e = ap is_marked (sym (some_same (make b) new e)) ∙ all b
-
-untrue : false ≡ true → ⊥
-untrue e = cc
 
 renamed_marked : (number : Numbering) (arg new : RawArg) → is_marked arg ≡ true → renamed number arg ≡ Some new → is_marked new ≡ true
 renamed_marked number (args.Function n) new m e = mapped args.Function (number MARK_FUNCTION n) new (λ k. refl) e

@@ -1,11 +1,11 @@
 -- Numbers by the places where they stand.
-use Rattle.std.proofs.Common.{◌≡◌, ℕ, suc, ◌+◌, ◌-◌, ◌*◌, ◌<◌, ◌≤◌, List, [], ◌∷◌, length, drop, refl, sym, ap, subst, ◌∙◌, arith}
+use Rattle.std.proofs.Common.{◌≡◌, ℕ, suc, ◌+◌, ◌-◌, ◌*◌, ◌<◌, ◌≤◌, List, [], ◌∷◌, length, drop, sym, ap, subst, ◌∙◌, arith}
 use Rattle.std.specs.Prelude.{Some, None}
 use Rattle.wasm_forms.specs.Reading.{◌>>=◌}
 use Rattle.wasm_forms.specs.Number.{IsUnsigned, leb_at, above}
 use Rattle.wasm_forms.proofs.Bind.{some_same, some_not_none}
 use Rattle.wasm_forms.proofs.Leb.{leb_takes, leb_again, leb-last, leb-none}
-use Rattle.wasm_forms.proofs.Turns.{unsigned_turn, unsigned_start}
+use Rattle.wasm_forms.proofs.Turns.{unsigned_turn, unsigned_start, leb_at-zero as leb_zero}
 use Rattle.wasm_text.specs.Places.{between, StandsNumber, IsNumberAt}
 use Rattle.wasm_text.proofs.Between.{cut, front_is, length_between}
 
@@ -55,10 +55,6 @@ passed_last most taken all rest after value scale b l e h p =
 -- no number stands where the bytes end, or where so many groups all have more behind them
 pub passed_end : (most left : ℕ) (all rest : List ℕ) (value scale : ℕ) → rest ≡ [] → Passed most left all rest value scale → leb_at most all ≡ None
 passed_end most left all rest value scale e p = p ∙ ap (λ x. leb_at left x >>= above value scale) e ∙ ap (λ o. o >>= above value scale) (leb-none left)
-
-leb_zero : (bytes : List ℕ) → leb_at 0 bytes ≡ None
-unfolding leb_at
-leb_zero bytes = refl
 
 pub passed_all : (most left : ℕ) (all rest : List ℕ) (value scale : ℕ) → left ≡ 0 → Passed most left all rest value scale → leb_at most all ≡ None
 passed_all most left all rest value scale e p = p ∙ ap (λ k. leb_at k rest >>= above value scale) e ∙ ap (λ o. o >>= above value scale) (leb_zero rest)

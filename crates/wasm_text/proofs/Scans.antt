@@ -181,7 +181,7 @@ s64_scans limits bytes start at behind old new place (inr (z, s)) m =
 
 -- ---- accesses
 
-no_memory : (flags : ℕ) → flags < 64 → has_memory flags ≡ false
+pub no_memory : (flags : ℕ) → flags < 64 → has_memory flags ≡ false
 no_memory flags h = ne_eqb ((flags / 64) % 2) 1 (λ e. omega (arith, e, h))
 
 pub access_text : (bytes : List ℕ) (at mid behind flags offset : ℕ) → flags < 64 → Stands U32 bytes at mid flags → Stands U64 bytes mid behind offset → Is access (between at behind bytes) (args.Access flags 0 offset)

@@ -13,6 +13,7 @@ use Rattle.wasm_operators.specs.Spelling.{arg_bytes, op_bytes}
 use Rattle.wasm_text.specs.Places.{between, Stands}
 use Rattle.wasm_text.specs.Marks.{place_of, kind_of, shifted, form_of, argument, args_at, arg_names, naming, Leaves, Shows, Holds, HoldsOne, all_args, with}
 use Rattle.wasm_text.proofs.Filling.{found_is, fill_next, fill_append, order_append, args_append}
+use Rattle.wasm_forms.proofs.Items.{row_bytes-append as row_bytes_append}
 
 abbrev Spell : Type 0
 Spell = (RawArg → RawArg) → List ℕ
@@ -66,10 +67,6 @@ shows_marked bytes kind arg args spell small some is same named = record {
 pub row_append : {A : Type 0} (R : List ℕ → A → Type 0) (bytes more : List ℕ) (xs ys : List A) → IsRow R bytes xs → IsRow R more ys → IsRow R (bytes ++ more) (xs ++ ys)
 row_append R bytes more [] ys h k = subst (λ (m : List ℕ). IsRow R m ys) (sym (ap (λ m. m ++ more) h)) k
 row_append R bytes more (x ∷ xs) ys (front, (back, (e, is, h))) k = (front, (back ++ more, (ap (λ m. m ++ more) e ∙ append_assoc front back more, is, row_append R back more xs ys h k)))
-
-pub row_bytes_append : {A : Type 0} (spell : A → List ℕ) (xs ys : List A) → row_bytes spell (xs ++ ys) ≡ row_bytes spell xs ++ row_bytes spell ys
-row_bytes_append spell [] ys = refl
-row_bytes_append spell (x ∷ xs) ys = ap (λ k. spell x ++ k) (row_bytes_append spell xs ys) ∙ sym (append_assoc (spell x) (row_bytes spell xs) (row_bytes spell ys))
 
 -- ---- the laws
 

@@ -5,7 +5,6 @@ use Rattle.std.proofs.lemmas.List.{append-nil, map-append, length-append}
 use Rattle.std.proofs.lemmas.Grind.{flat_map-append}
 use Rattle.wasm_forms.specs.Grammar.{Form, Is, IsRow, U32, Row}
 use Rattle.wasm_forms.specs.Spelling.{row_bytes}
-use Rattle.wasm_forms.specs.Writing.{EachFits}
 use Rattle.wasm_operators.specs.declared.operator.RawArg.{RawArg}
 use Rattle.wasm_operators.specs.declared.operator.RawArg.TheVariants as args
 use Rattle.wasm_operators.specs.declared.kind.Kind.{Kind}
@@ -17,7 +16,8 @@ use Rattle.wasm_text.specs.Places.{between}
 use Rattle.wasm_text.specs.Marks.{shifted, Shows}
 use Rattle.wasm_text.specs.Scans.{IsWithin, HasArgs, count_form, labels_form}
 use Rattle.wasm_text.proofs.Between.{length_between, join}
-use Rattle.wasm_text.proofs.Showing.{shows_append, shows_as, shows_plain, row_append, row_bytes_append}
+use Rattle.wasm_text.proofs.Showing.{shows_append, shows_as, shows_plain, row_append}
+use Rattle.wasm_forms.proofs.Items.{row_bytes-append as row_bytes_append, each_append}
 
 -- ---- one behind another
 
@@ -36,10 +36,6 @@ put_twice start at mid old now new marks marks' h k e e' =
     ∙ append_assoc old (map (shifted (at - start)) marks) (map (shifted (mid - start)) marks')
     ∙ ap (λ x. old ++ (map (shifted (at - start)) marks ++ x)) (sym (shift_twice (at - start) (mid - at) (mid - start) marks' s))
     ∙ ap (λ x. old ++ x) (sym (map-append (shifted (at - start)) marks (map (shifted (mid - at)) marks')))
-
-each_append : {X : Type 0} (F : X → Type 0) (xs ys : List X) → EachFits F xs → EachFits F ys → EachFits F (xs ++ ys)
-each_append F [] ys h k = k
-each_append F (x ∷ xs) ys h k = (h.0, each_append F xs ys h.1 k)
 
 pub then_has : (first second whole : Form (List RawArg)) (limits : Limits) (bytes : List ℕ) (start at mid behind : ℕ) (old now new : List ℕ)
     → ((b c : List ℕ) (xs ys : List RawArg) → Is first b xs → Is second c ys → Is whole (b ++ c) (xs ++ ys)) → start ≤ at

@@ -5,8 +5,7 @@ ghost use Rattle.wasm_forms.specs.Writing.{Keeps};
 ghost use Rattle.wasm_operators.specs.declared.kind.Kind.TheVariants as kinds;
 ghost use Rattle.wasm_operators.specs.Forms.{args_form};
 ghost use Rattle.wasm_text.specs.Places.{IfPlace};
-ghost use Rattle.wasm_text.specs.Scans.{IsMarked, IsMarkedIfPadded, IsIndexed, Scans, ScansArgs, ScansClass};
-ghost use Rattle.wasm_text.specs.Scans.{ScansOperator, labels_form};
+ghost use Rattle.wasm_text.specs.Scans.{IsMarked, IsMarkedIfPadded, IsIndexed, Scans, ScansArgs, ScansClass, ScansOperator, labels_form};
 ghost use Rattle.wasm_text.specs.declared.class.Class.TheVariants as class;
 
 use crate::class::{Class, class_of};

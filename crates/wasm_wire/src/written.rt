@@ -6,8 +6,7 @@ ghost use Rattle.wasm_frames.specs.Frames.{CustomSection, Start, DataCount};
 ghost use Rattle.wasm_writer.specs.Measuring.{Tells};
 ghost use Rattle.wasm_writer.specs.Spelling.{all_spelled, SectionFits};
 ghost use Rattle.wasm_writer.specs.Writing.{written};
-ghost use Rattle.wasm_wire.specs.ModuleSpelling.{is_debug_name, is_in, group_of, if_given, up_to_globals, before_code, sections_in_order};
-ghost use Rattle.wasm_wire.specs.ModuleSpelling.{ModuleFits, WritesModule, ModuleFrames};
+ghost use Rattle.wasm_wire.specs.ModuleSpelling.{is_debug_name, is_in, group_of, if_given, up_to_globals, before_code, sections_in_order, ModuleFits, WritesModule, ModuleFrames};
 ghost use Rattle.wasm_wire.specs.ModuleWriting.{front_of, IsUnlessHuge, Tried, TellsLen, Appends};
 
 use std::alloc::Global;

@@ -1,5 +1,7 @@
 pub mod Listed
 pub mod WrittenModule
 pub mod Ranges
-pub mod Measured
+pub mod MeasuredSections
 pub mod Opened
+pub mod Lengths
+pub mod Groups

@@ -6,12 +6,13 @@ use Rattle.wasm_forms.specs.declared.error.WireError.{WireError}
 use Rattle.wasm_forms.specs.Writing.{EachFits, FitsLength}
 use Rattle.wasm_forms.specs.Spelling.{row_bytes}
 use Rattle.wasm_forms.proofs.Items.{each_push}
-use Rattle.wasm_measure.specs.Measuring.{Measures}
-use Rattle.wasm_measure.proofs.Lengths.{default_any, row_item}
+use Rattle.wasm_writer.specs.Measures.{Measures}
+use Rattle.wasm_writer.proofs.Lengths.{row_item}
 use Rattle.wasm_frames.specs.Record.{body_record}
 use Rattle.wasm_frames.specs.Spelling.{body_bytes}
 use Rattle.wasm_frames.specs.declared.record.RawBody.{RawBody}
 use Rattle.wasm_writer.specs.Spelling.{placed_bodies, range_of}
+use Rattle.wasm_forms.proofs.RowTurns.{default_any}
 
 abbrev pub bytes_from : List RawBody → List ℕ
 bytes_from raws = row_bytes body_bytes (map body_record raws)

@@ -3,10 +3,9 @@ use Rattle.std.proofs.Common.{◌≡◌, ℕ, suc, ◌+◌, List, [], ◌∷◌,
 use Rattle.std.specs.List.{All}
 use Rattle.std.specs.Str.{IsUtf8}
 use Rattle.std.proofs.lemmas.List.Elements.{All-head, All-tail}
-use Rattle.wasm_forms.specs.Grammar.{Form, Is, U32, Vector}
+use Rattle.wasm_forms.specs.Grammar.{Is, U32, Vector}
 use Rattle.wasm_forms.specs.Spelling.{number_bytes, block_bytes, row_bytes, vector_bytes}
 use Rattle.wasm_forms.specs.Writing.{FitsLength, FitsVector, EachFits}
-use Rattle.wasm_forms.proofs.Adding.{fits_free}
 use Rattle.wasm_forms.proofs.Spelled.{number_stands, name_stands}
 use Rattle.wasm_forms.proofs.Stands.{list_stands}
 use Rattle.wasm_entries.specs.TypeForms.{group_form, memory_type, tag_type}
@@ -16,17 +15,11 @@ use Rattle.wasm_entries.specs.Spelling.{import_bytes, table_bytes, global_bytes,
 use Rattle.wasm_entries.proofs.TypesStand.{group_stands}
 use Rattle.wasm_entries.proofs.LimitsStand.{memory_stands, tag_stands}
 use Rattle.wasm_entries.proofs.Entries.{import_stands, table_stands, global_stands, export_stands}
-use Rattle.wasm_entries.proofs.Segments.{element_stands, data_stands}
+use Rattle.wasm_entries.proofs.Segments.{element_stands, data_stands, list_stands as small_stand}
 use Rattle.wasm_frames.specs.Record.{Body, Custom}
 use Rattle.wasm_frames.specs.Frames.{Section, CustomSection, Types, Imports, Functions, Tables, Memories, Globals, Exports, Start, Elements, Code, DataSegments, DataCount, Tags, id_of, IsCustom, AreBodies, IsCode, IsContent, IsSection, AreSections}
 use Rattle.wasm_frames.specs.Spelling.{custom_bytes, body_bytes}
 use Rattle.wasm_writer.specs.Spelling.{tag_bytes, content_bytes, spelled, all_spelled, CanBeWritten, placed_bodies, placed, all_placed, WrittenFrames}
-
--- ---- lists of entries
-
--- entries of which none is too large
-small_stand : {A : Type 0} (f : Form A) (spell : A → List ℕ) (S : A → Type 0) → ((x : A) → S x → Is f (spell x) x) → (xs : List A) → FitsLength xs → All S xs → Is (Vector f) (vector_bytes spell xs) xs
-small_stand f spell S stands xs short k = list_stands f spell (λ x. Unit {0}) S (λ x u s. stands x s) xs (fits_free xs short) k
 
 -- ---- bodies
 

@@ -1,3 +1,4 @@
 pub mod Spelling
 pub mod Writing
 pub mod Measuring
+pub mod Measures

@@ -3,22 +3,23 @@
 ghost use Rattle.std.specs.Prelude.{◌≡◌, ◌≤◌, ℕ, [], List, length, map, sum_by, if◌then◌else◌};
 ghost use Rattle.wasm_forms.specs.Writing.{FitsLength, FitsVector};
 ghost use Rattle.wasm_forms.specs.Spelling.{row_bytes, vector_bytes};
-ghost use Rattle.wasm_measure.specs.Measuring.{Measures, Sums};
+ghost use Rattle.wasm_writer.specs.Measures.{Measures, Sums};
 ghost use Rattle.wasm_frames.specs.Frames as frames;
 ghost use Rattle.wasm_frames.specs.Record.{Body, body_record};
 ghost use Rattle.wasm_frames.specs.Spelling.{custom_bytes, body_bytes};
 ghost use Rattle.wasm_writer.specs.Spelling.{tag_bytes, spelled, content_bytes, EntriesFit};
 ghost use Rattle.wasm_writer.specs.Measuring.{body_len, size_with_count, IsOf, appended, Tells};
 
+use crate::composite::measured_groups;
+use crate::number::number_len;
 use crate::places::code_len;
+use crate::sum::plus;
+use crate::vector::{counted_len, measured_name, measured_vector};
 use wasm_entries::{
     RawData, RawElement, RawExport, RawGlobal, RawGroup, RawImport, RawLimits, RawTable,
 };
 use wasm_forms::WireError;
 use wasm_frames::RawBody;
-use wasm_measure::{
-    counted_len, measured_groups, measured_name, measured_vector, number_len, plus,
-};
 
 /// A section to be measured, by its kind (Binary Format > Modules): its records, as the [`crate::Writer`] takes them. Of a custom section
 /// `len` is the number of the bytes behind its name; of a code section it is enough to know how many bytes each body has, its size not

@@ -3,17 +3,19 @@
 ghost use Rattle.std.specs.Prelude.{◌≡◌, ◌+◌, ◌<◌, ◌^◌, length, map, IfOk};
 ghost use Rattle.wasm_forms.specs.Writing.{Adds, Keeps, TakesRoom, EachFits, FitsLength, FitsVector};
 ghost use Rattle.wasm_forms.specs.Spelling.{row_bytes, vector_bytes};
-ghost use Rattle.wasm_measure.specs.Measuring.{Measures};
+ghost use Rattle.wasm_writer.specs.Measures.{Measures};
 ghost use Rattle.wasm_frames.specs.Record.{body_record};
 ghost use Rattle.wasm_frames.specs.Spelling.{body_bytes};
 ghost use Rattle.wasm_writer.specs.Spelling.{count_place, first_body, placed_bodies, range_of};
 ghost use Rattle.wasm_writer.specs.Measuring.{TellsPlaces};
 
+use crate::number::number_len;
+use crate::sum::plus;
+use crate::vector::measured_block;
 use std::alloc::{AllocError, Global};
 use std::ops::Range;
 use wasm_forms::{WireError, leb128_len, write_vector};
 use wasm_frames::RawBody;
-use wasm_measure::{measured_block, number_len, plus};
 
 /// Where the parts of a code section stand, in bytes from the start of all that is written: the count of its bodies, and each
 /// body behind its size, in their order. Of no bodies no section is written: the place is 0, and there is no range.

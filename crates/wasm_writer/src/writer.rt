@@ -12,9 +12,12 @@ ghost use Rattle.wasm_frames.specs.Frames.{CustomSection, Types, Imports, Functi
 ghost use Rattle.wasm_writer.specs.Writing.{written, unless_empty, room, UsesRoom};
 ghost use Rattle.wasm_writer.specs.Spelling.{section_bytes, spelled, listed, SectionFits, WrittenFrames, count_place, first_body, placed_bodies, range_of};
 
+use crate::composite::measured_groups;
 use crate::measuring::{custom_content_len, tags_content_len};
+use crate::number::number_len;
 use crate::places::{CodePlaces, code_len, places_of_code, write_bodies};
 use crate::tag::write_tags;
+use crate::vector::{Measured, measured_vector};
 use std::alloc::Global;
 use wasm_entries::{
     RawConst, RawData, RawElement, RawExport, RawGlobal, RawGroup, RawImport, RawLimits, RawTable,
@@ -22,7 +25,6 @@ use wasm_entries::{
 };
 use wasm_forms::{WireError, Written, write_block, write_name, write_u32, write_vector};
 use wasm_frames::{RawBody, RawCustom};
-use wasm_measure::{Measured, measured_groups, measured_vector, number_len};
 
 /// The magic number and the version (Binary Format > Modules).
 const HEADER: [u8; 8] = [0x00, 0x61, 0x73, 0x6D, 0x01, 0x00, 0x00, 0x00];

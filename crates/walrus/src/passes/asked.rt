@@ -2,7 +2,7 @@
 
 ghost use Rattle.std.specs.Prelude.{OnOk, map};
 ghost use Rattle.walrus_base.specs.Id.{place};
-ghost use Rattle.walrus_types.specs.Operators.{Functions, Globals, Memories, Tables, Tags};
+ghost use Rattle.walrus_base.specs.Operators.{Functions, Globals, Memories, Tables, Tags};
 ghost use Rattle.walrus_contents.specs.Named.{Puts};
 ghost use Rattle.walrus.specs.Asked.{asked_items};
 

@@ -1,8 +1,8 @@
 //! Dropping what nothing reaches.
 
 ghost use Rattle.std.specs.Prelude.{◌≡◌, IfErr, OnErr, OnOk};
-ghost use Rattle.walrus_types.specs.ModuleTypes.{type_names, type_slots};
-ghost use Rattle.walrus_types.specs.Operators.{Item, DataSegments, Elements, Functions, Globals, Memories, Tables, Tags, Types};
+ghost use Rattle.walrus_base.specs.ModuleTypes.{type_names, type_slots};
+ghost use Rattle.walrus_base.specs.Operators.{Item, DataSegments, Elements, Functions, Globals, Memories, Tables, Tags, Types};
 ghost use Rattle.walrus_items.specs.Data.{data_segments};
 ghost use Rattle.walrus_items.specs.Elements.{elements};
 ghost use Rattle.walrus_items.specs.Globals.{globals};

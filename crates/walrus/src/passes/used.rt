@@ -9,7 +9,7 @@ ghost use Rattle.walrus_model.specs.Kept.{ReachedCount};
 ghost use Rattle.walrus_model.specs.Live.{IsLive};
 ghost use Rattle.walrus_module.specs.Asked.{OneMayRefuse};
 ghost use Rattle.walrus_module.specs.View.{contents_of, meanings, view};
-ghost use Rattle.walrus_types.specs.Operators.{Types};
+ghost use Rattle.walrus_base.specs.Operators.{Types};
 ghost use Rattle.walrus_contents.specs.Named.{NamesItself, export_names, group_names};
 ghost use Rattle.walrus_contents.specs.There.{IsRefusal, IsSound};
 ghost use Rattle.walrus_contents.specs.View.{parts_view};

@@ -9,7 +9,7 @@ ghost use Rattle.walrus_model.specs.Live.{IsLive};
 ghost use Rattle.walrus_model.specs.Roots.{IsRoot};
 ghost use Rattle.walrus_module.specs.Asked.{OneMayRefuse};
 ghost use Rattle.walrus_module.specs.View.{meanings, view};
-ghost use Rattle.walrus_parts.specs.Items.{is_item};
+ghost use Rattle.walrus_items.specs.Items.{is_item};
 ghost use Rattle.walrus.specs.Asked.{searched_view};
 ghost use Rattle.walrus.specs.Marked.{ReachesUnsound};
 ghost use Rattle.walrus.specs.Traced.{IsTraced, LeadsBack, Names, PointsBack, Traces};

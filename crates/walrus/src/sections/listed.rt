@@ -1,12 +1,13 @@
 //! A custom section that lists functions which are to be kept.
 ghost use Rattle.std.specs.Prelude.{◌≡◌, ◌++◌, [], false, IfOk, IsOkUnless};
 ghost use Rattle.std.specs.String.{string_bytes};
-ghost use Rattle.walrus_parts.specs.Errors.{out_of_memory};
-ghost use Rattle.walrus_parts.specs.Roots.{places};
+ghost use Rattle.walrus_items.specs.Errors.{out_of_memory};
+ghost use Rattle.walrus_items.specs.Roots.{places};
 ghost use Rattle.walrus.specs.Listed.{found_bytes, listed_contents, listed_functions, listed_name, listed_roots};
 
 use std::alloc::Global;
-use walrus_parts::{CodeTransform, CustomSection, FunctionId, IdsToIndices, Result, Roots};
+use walrus_ir::{FunctionId, IdsToIndices};
+use walrus_items::{CodeTransform, CustomSection, Result, Roots};
 
 /// A custom section that lists functions, which it asks to keep.
 ///

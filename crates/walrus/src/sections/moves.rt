@@ -2,13 +2,14 @@
 ghost use Rattle.std.specs.Prelude.{◌≡◌, ℕ, IfOk, IsOkUnless, OnOk, Some, if◌then◌else◌, map, nat_eq};
 ghost use Rattle.std.specs.HashMap.{get};
 ghost use Rattle.walrus_code.specs.Location.{location};
-ghost use Rattle.walrus_parts.specs.Errors.{out_of_memory};
-ghost use Rattle.walrus_parts.specs.Transform.{location_of};
+ghost use Rattle.walrus_items.specs.Errors.{out_of_memory};
+ghost use Rattle.walrus_items.specs.Transform.{location_of};
 ghost use Rattle.walrus.specs.Places.{fitting, last_place};
 
 use std::alloc::Global;
 use std::collections::HashMap;
-use walrus_parts::{InstrLocId, Result};
+use walrus_ir::InstrLocId;
+use walrus_items::Result;
 
 // Takes the new place of this move for its old one.
 fn note_move(places: &mut HashMap<u32, usize>, entry: &(InstrLocId, usize)) -> Result<()>

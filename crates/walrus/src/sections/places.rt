@@ -2,13 +2,14 @@
 ghost use Rattle.std.specs.Prelude.{◌≡◌, ◌++◌, ◌∷◌, [], IfOk, OnOk, OnErr, IsOkUnless, false, map, nat_eq};
 ghost use Rattle.std.specs.HashMap.{get};
 ghost use Rattle.std.specs.String.{string_bytes};
-ghost use Rattle.walrus_parts.specs.Errors.{out_of_memory};
+ghost use Rattle.walrus_items.specs.Errors.{out_of_memory};
 ghost use Rattle.walrus.specs.Places.{moved_by, new_pair, pairs_of, places_after, places_contents, places_name, places_state, written_at};
 
 use crate::sections::moves::{fitting, moves_by_place};
 use std::alloc::Global;
 use std::collections::HashMap;
-use walrus_parts::{CodeTransform, CustomSection, IdsToIndices, Result, Roots};
+use walrus_ir::IdsToIndices;
+use walrus_items::{CodeTransform, CustomSection, Result, Roots};
 
 // A place in the input, what stands for it, and where the operator stands that began there, once that was told.
 #[derive(Clone, Copy)]

@@ -7,7 +7,7 @@ use Rattle.walrus_module.specs.Customs.{sections}
 use Rattle.walrus_module.proofs.KeptRaw.{none_asked_refuses, none_refuses}
 use Rattle.walrus_module.specs.Emitted.{told}
 use Rattle.walrus.proofs.HeadlineLemmas.{answers_gc, answers_kept, nothing_dead_left}
-use Rattle.walrus.proofs.RawStays.{all_raw, leaves_whole, none_refuses_then}
+use Rattle.walrus_module.proofs.RawStays.{all_raw, leaves_whole, none_refuses_then}
 use Rattle.walrus.proofs.work.smaller.Goals as goal
 
 pub returns-in_err-run : goal.returns-in_err-run

@@ -1,9 +1,9 @@
 use Rattle.std.proofs.Common.{◌≡◌, ◌+◌, ◌<◌, ◌∷◌, ◌++◌, [], ℕ, List, length, take, get_or, ap, ◌∙◌, subst, sym, arith, add-one, Option}
 use Rattle.std.proofs.Math.Seq.{take-suc}
-use Rattle.walrus_types.specs.Locals.{locals}
-use Rattle.walrus_types.specs.declared.locals.Local.{Local}
-use Rattle.walrus_types.specs.declared.value.ValType.{ValType}
-use Rattle.walrus_types.specs.declared.value.ValType.TheVariants.{I32}
+use Rattle.walrus_base.specs.Locals.{locals}
+use Rattle.walrus_base.specs.declared.locals.Local.{Local}
+use Rattle.walrus_base.specs.declared.value.ValType.{ValType}
+use Rattle.walrus_base.specs.declared.value.ValType.TheVariants.{I32}
 use Rattle.walrus_bodies.specs.BodyRead.{AddsLocals, Grows}
 use Rattle.walrus_bodies.proofs.BodyLemmas.{adds-more, grows-some, grows-one}
 use Rattle.std.proofs.lemmas.Result.{err_from_is_err_and}

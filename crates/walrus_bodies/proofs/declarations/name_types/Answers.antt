@@ -3,7 +3,7 @@ use Rattle.std.proofs.lemmas.List.{map-append, append-nil, drop_all}
 use Rattle.std.proofs.Math.Seq.{drop-cons}
 use Rattle.wasm_forms.specs.declared.types.RawVal.TheVariants.{I32}
 use Rattle.walrus_base.specs.Types.{ValType}
-use Rattle.walrus_types.specs.Value.{val_type}
+use Rattle.walrus_base.specs.Value.{val_type}
 use Rattle.walrus_code.specs.Indices.{ids_at}
 use Rattle.walrus_bodies.specs.declared.declarations.Declaration.{Declaration}
 use Rattle.walrus_bodies.specs.Body.{declared_types}

@@ -1,7 +1,7 @@
 use Rattle.std.proofs.Common.{◌≡◌, ℕ, zero, suc, List, [], ◌∷◌, ◌++◌, replicate, refl, ap, ◌∙◌, sym, arith, add-one, append_assoc}
 use Rattle.std.proofs.lemmas.List.{append-nil}
 use Rattle.std.proofs.lemmas.Result.{err_from_is_err_and}
-use Rattle.walrus_types.specs.declared.value.ValType.{ValType}
+use Rattle.walrus_base.specs.declared.value.ValType.{ValType}
 use Rattle.walrus_bodies.proofs.declarations.push_times.Goals as goal
 
 replicate_more : (n : ℕ) (x : ValType) → replicate n x ++ x ∷ [] ≡ replicate (suc n) x

@@ -2,7 +2,7 @@ use Rattle.std.proofs.Common.{◌≡◌, ℕ, ◌+◌, ◌<◌, ◌≤◌, suc, 
 use Rattle.std.proofs.lemmas.List.{drop_all}
 use Rattle.std.proofs.lemmas.Result.{err_from_is_err_and}
 use Rattle.std.proofs.Math.Seq.{drop-cons}
-use Rattle.walrus_types.specs.Operators.{Arg, Op}
+use Rattle.walrus_base.specs.Operators.{Arg, Op}
 use Rattle.walrus_code.specs.Code.{arg_of, op_of, ops_of}
 use Rattle.walrus_code.specs.declared.operator.Operator.{Operator}
 use Rattle.walrus_bodies.specs.declared.blocks.Opened.{Opened}

@@ -1,6 +1,6 @@
 use Rattle.std.proofs.Common.{◌≡◌, ◌<◌, ◌≤◌, ℕ, List, [], ◌∷◌, ◌++◌, ◌+◌, suc, length, map, take, drop, get_or, ap, ◌∙◌, subst, sym, refl, rules, arith}
 use Rattle.std.proofs.lemmas.List.{append-nil, map-append, take_all}
-use Rattle.walrus_types.specs.Operators.{Op}
+use Rattle.walrus_base.specs.Operators.{Op}
 use Rattle.walrus_code.specs.Code.{op_of, ops_of}
 use Rattle.walrus_code.specs.Indices.{index_of, local_index}
 use Rattle.walrus_code.specs.declared.location.InstrLocId.{InstrLocId}

@@ -7,7 +7,7 @@ use Rattle.walrus_code.specs.Indices.{ids_at}
 use Rattle.walrus_code.specs.Results.{locals_at}
 use Rattle.walrus_code.specs.declared.location.InstrLocId.{InstrLocId}
 use Rattle.walrus_code.specs.declared.operator.Operator.{Operator}
-use Rattle.walrus_types.specs.Operators.{Op}
+use Rattle.walrus_base.specs.Operators.{Op}
 use Rattle.walrus_bodies.specs.declared.blocks.Opened.{Opened}
 use Rattle.walrus_bodies.specs.declared.blocks.Opened.TheVariants.{Plain}
 use Rattle.walrus_bodies.specs.Body.{Context, context}

@@ -1,6 +1,6 @@
 use Rattle.std.proofs.Common.{◌∙◌, ◌∷◌, [], ap, sym, append-nil}
 use Rattle.walrus_base.specs.Id.{place}
-use Rattle.walrus_types.specs.Operators.{arg_locals}
+use Rattle.walrus_base.specs.Operators.{arg_locals}
 use Rattle.walrus_code.specs.Code.{arg_of}
 use Rattle.walrus_code.proofs.Arguments.{pushed, all_pushed, no_local}
 use Rattle.walrus_code.proofs.items.push_arg_locals.Goals as goal

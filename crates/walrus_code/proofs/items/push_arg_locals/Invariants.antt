@@ -1,6 +1,6 @@
 use Rattle.std.proofs.Common.{◌≡◌, ◌++◌, ◌≤◌, length, map, flat_map, take, drop}
 use Rattle.walrus_base.specs.Id.{place}
-use Rattle.walrus_types.specs.Operators.{arg_locals}
+use Rattle.walrus_base.specs.Operators.{arg_locals}
 use Rattle.walrus_code.specs.Code.{arg_of}
 use Rattle.walrus_code.proofs.items.push_arg_locals.Given as goal
 

@@ -1,5 +1,5 @@
 use Rattle.std.proofs.Common.{◌≡◌, ◌++◌, ◌≤◌, length, map, flat_map, take, drop}
-use Rattle.walrus_types.specs.Operators.{arg_names}
+use Rattle.walrus_base.specs.Operators.{arg_names}
 use Rattle.walrus_code.specs.Code.{arg_of, item_of}
 use Rattle.walrus_code.proofs.items.push_items.Given as goal
 

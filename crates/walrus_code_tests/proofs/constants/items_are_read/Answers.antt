@@ -1,5 +1,5 @@
 use Rattle.std.proofs.Common.{arith, lit<}
-use Rattle.walrus_types.specs.Operators.{Globals}
+use Rattle.walrus_base.specs.Operators.{Globals}
 use Rattle.walrus_code_tests.proofs.constants.items_are_read.Goals as goal
 
 pub push_global-requires-clause-is_new : goal.push_global-requires-clause-is_new

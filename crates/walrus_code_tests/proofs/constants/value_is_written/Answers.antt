@@ -1,4 +1,4 @@
-use Rattle.walrus_types.specs.Operators.{Globals}
+use Rattle.walrus_base.specs.Operators.{Globals}
 use Rattle.walrus_code_tests.proofs.constants.value_is_written.Goals as goal
 
 pub push_global-requires-clause-is_new : goal.push_global-requires-clause-is_new

@@ -1,4 +1,4 @@
-use Rattle.walrus_types.specs.Operators.{Functions}
+use Rattle.walrus_base.specs.Operators.{Functions}
 use Rattle.walrus_code_tests.proofs.operators.is_indexed.Goals as goal
 
 pub push_func-requires-clause-is_new : goal.push_func-requires-clause-is_new

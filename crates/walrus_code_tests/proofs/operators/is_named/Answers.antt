@@ -1,5 +1,5 @@
 use Rattle.std.proofs.Common.{arith, lit<}
-use Rattle.walrus_types.specs.Operators.{Functions}
+use Rattle.walrus_base.specs.Operators.{Functions}
 use Rattle.walrus_code_tests.proofs.operators.is_named.Goals as goal
 
 pub push_func-requires-clause-is_new : goal.push_func-requires-clause-is_new

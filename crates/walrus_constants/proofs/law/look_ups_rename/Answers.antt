@@ -1,6 +1,6 @@
 use Rattle.std.proofs.Common.{◌∙◌, ℕ, Option, ap}
 use Rattle.std.specs.Prelude.{unwrap_or}
-use Rattle.walrus_types.specs.Operators.{Space}
+use Rattle.walrus_base.specs.Operators.{Space}
 use Rattle.walrus_constants.proofs.law.look_ups_rename.Goals as goal
 
 pub returns : goal.returns

@@ -1,5 +1,5 @@
 use Rattle.std.proofs.Common.{◌∙◌, ap, sym}
-use Rattle.walrus_rules.proofs.OneEntry.{raw_consts, consts_back}
+use Rattle.walrus_model.proofs.OneEntry.{raw_consts, consts_back}
 use Rattle.walrus_constants.proofs.law.operators_have_one_record.Goals as goal
 
 pub returns : goal.returns

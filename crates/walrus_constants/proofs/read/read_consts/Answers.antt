@@ -4,8 +4,8 @@ use Rattle.std.proofs.lemmas.List.{drop_all}
 use Rattle.std.proofs.lemmas.List.Elements.{All-nil, All-push}
 use Rattle.std.proofs.lemmas.Result.{err_from_is_err_and}
 use Rattle.wasm_entries.specs.Record.{expression}
-use Rattle.walrus_types.specs.ConstOps.{const_ops}
-use Rattle.walrus_types.specs.declared.const_expr.ConstExpr.{ConstExpr}
+use Rattle.walrus_base.specs.ConstOps.{const_ops}
+use Rattle.walrus_base.specs.declared.const_expr.ConstExpr.{ConstExpr}
 use Rattle.walrus_code.specs.Indices.{ids_at}
 use Rattle.walrus_model.specs.Constants.{consts_of}
 use Rattle.walrus_constants.specs.Named.{named_const}

@@ -1,12 +1,12 @@
 use Rattle.std.proofs.Common.{◌≡◌, true, map, drop, All}
 use Rattle.wasm_entries.specs.Record.{expression}
-use Rattle.walrus_types.specs.ConstOps.{const_ops}
+use Rattle.walrus_base.specs.ConstOps.{const_ops}
 use Rattle.walrus_code.specs.Indices.{ids_at}
 use Rattle.walrus_groups.specs.Named.{each}
 use Rattle.walrus_model.specs.Constants.{consts_of}
 use Rattle.walrus_constants.specs.Named.{named_const}
 use Rattle.walrus_constants.specs.Short.{is_short}
-use Rattle.walrus_constants.proofs.Loops.{behind}
+use Rattle.walrus_groups.proofs.Loops.{behind}
 use Rattle.walrus_constants.proofs.read.read_consts.Given as goal
 
 -- what was found so far and what is left are what is found for all; each that was found is in its shortest form

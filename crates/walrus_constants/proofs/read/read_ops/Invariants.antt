@@ -1,9 +1,9 @@
 use Rattle.std.proofs.Common.{◌≡◌, length, map, drop}
-use Rattle.walrus_types.specs.ConstOps.{const_op}
+use Rattle.walrus_base.specs.ConstOps.{const_op}
 use Rattle.walrus_code.specs.Indices.{ids_at}
 use Rattle.walrus_model.specs.Constants.{consts_of}
 use Rattle.walrus_constants.specs.Named.{named_const}
-use Rattle.walrus_constants.proofs.Loops.{behind}
+use Rattle.walrus_groups.proofs.Loops.{behind}
 use Rattle.walrus_constants.proofs.read.read_ops.Given as goal
 
 -- what was found so far and what is left are what is found for all; as many were found as were looked up

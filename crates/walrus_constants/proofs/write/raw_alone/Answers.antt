@@ -1,6 +1,6 @@
 use Rattle.std.proofs.Common.{[], ◌∷◌, Ok, Err}
 use Rattle.std.proofs.lemmas.Result.{err_from_is_err_and}
-use Rattle.walrus_types.specs.ConstOps.{const_op}
+use Rattle.walrus_base.specs.ConstOps.{const_op}
 use Rattle.walrus_code.specs.Indices.{index_of}
 use Rattle.walrus_model.specs.Constants.{const_of}
 use Rattle.walrus_constants.proofs.Causes.{alone_written, const_written}

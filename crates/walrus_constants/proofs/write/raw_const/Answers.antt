@@ -1,8 +1,8 @@
 use Rattle.std.proofs.Common.{List, [], ◌∷◌, map, subst}
 use Rattle.wasm_entries.specs.Record.{expression}
-use Rattle.walrus_types.specs.Operators.{Op}
-use Rattle.walrus_types.specs.ConstOps.{const_op}
-use Rattle.walrus_types.specs.declared.const_expr.ConstOp.{ConstOp}
+use Rattle.walrus_base.specs.Operators.{Op}
+use Rattle.walrus_base.specs.ConstOps.{const_op}
+use Rattle.walrus_base.specs.declared.const_expr.ConstOp.{ConstOp}
 use Rattle.walrus_code.specs.Indices.{index_of}
 use Rattle.walrus_model.specs.Constants.{consts_of}
 use Rattle.walrus_constants.specs.Written.{IndexesConst}

@@ -6,7 +6,7 @@ use Rattle.std.proofs.lemmas.Result.{err_from_is_err_and}
 use Rattle.wasm_entries.specs.Record.{expression}
 use Rattle.wasm_entries.specs.Spelling.{ExpressionStands}
 use Rattle.wasm_entries.specs.declared.record.RawExpression.{RawExpression}
-use Rattle.walrus_types.specs.ConstOps.{const_ops}
+use Rattle.walrus_base.specs.ConstOps.{const_ops}
 use Rattle.walrus_code.specs.Indices.{index_of}
 use Rattle.walrus_model.specs.Constants.{consts_of}
 use Rattle.walrus_constants.proofs.Listed.{next_of, mapped_push, all_pushed, written_begins, written_next, written_refused, written_all}

@@ -1,7 +1,7 @@
 use Rattle.std.proofs.Common.{map, drop, All}
 use Rattle.wasm_entries.specs.Record.{expression}
 use Rattle.wasm_entries.specs.Spelling.{ExpressionStands}
-use Rattle.walrus_types.specs.ConstOps.{const_ops}
+use Rattle.walrus_base.specs.ConstOps.{const_ops}
 use Rattle.walrus_code.specs.Indices.{index_of}
 use Rattle.walrus_model.specs.Constants.{consts_of}
 use Rattle.walrus_constants.proofs.Listed.{SoFar}

@@ -1,10 +1,10 @@
 use Rattle.wasm_entries.specs.Spelling.{ConstStands}
-use Rattle.walrus_types.specs.ConstOps.{const_op}
+use Rattle.walrus_base.specs.ConstOps.{const_op}
 use Rattle.walrus_code.specs.Indices.{index_of}
 use Rattle.walrus_code.specs.Results.{args_are_exact}
 use Rattle.walrus_model.specs.Constants.{const_of}
 use Rattle.walrus_constants.specs.Named.{named_const_op}
-use Rattle.walrus_constants.proofs.Loops.{written_next}
+use Rattle.walrus_groups.proofs.Loops.{written_next}
 use Rattle.walrus_constants.proofs.write.raw_each.Goals as goal
 
 pub loop-op-preserved : goal.loop-op-preserved

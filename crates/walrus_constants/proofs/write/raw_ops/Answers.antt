@@ -2,7 +2,7 @@ use Rattle.std.proofs.Common.{rules, ◌≢◌, length, Ok, Err}
 use Rattle.std.specs.Global.{Vec}
 use Rattle.wasm_entries.specs.declared.record.RawConst.{RawConst}
 use Rattle.std.proofs.lemmas.Result.{err_from_is_err_and}
-use Rattle.walrus_types.specs.ConstOps.{const_op}
+use Rattle.walrus_base.specs.ConstOps.{const_op}
 use Rattle.walrus_code.specs.Indices.{index_of}
 use Rattle.walrus_model.specs.Constants.{consts_of}
 use Rattle.walrus_constants.proofs.Causes.{some_made, const_written, const_stands}

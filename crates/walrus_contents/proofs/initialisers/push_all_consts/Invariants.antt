@@ -1,6 +1,6 @@
 use Rattle.std.proofs.Common.{◌≡◌, ◌++◌, drop, flat_map, map}
-use Rattle.walrus_types.specs.ConstOps.{const_ops}
-use Rattle.walrus_types.specs.Operators.{names_of}
+use Rattle.walrus_base.specs.ConstOps.{const_ops}
+use Rattle.walrus_base.specs.Operators.{names_of}
 use Rattle.walrus_contents.specs.Named.{items_in}
 use Rattle.walrus_contents.proofs.initialisers.push_all_consts.Given as goal
 

@@ -1,6 +1,6 @@
 use Rattle.std.proofs.Common.{◌≡◌, ◌++◌, drop, map}
-use Rattle.walrus_types.specs.ConstOps.{const_op}
-use Rattle.walrus_types.specs.Operators.{names_of}
+use Rattle.walrus_base.specs.ConstOps.{const_op}
+use Rattle.walrus_base.specs.Operators.{names_of}
 use Rattle.walrus_contents.specs.Named.{items_in}
 use Rattle.walrus_contents.proofs.initialisers.push_const_ops.Given as goal
 

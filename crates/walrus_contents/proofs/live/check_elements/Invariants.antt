@@ -1,8 +1,8 @@
-use Rattle.walrus_types.specs.Operators.{Elements}
+use Rattle.walrus_base.specs.Operators.{Elements}
 use Rattle.walrus_items.specs.Elements.{elements, element_entries_left}
 use Rattle.walrus_contents.specs.There.{IsWhole}
 use Rattle.walrus_contents.specs.View.{parts_view}
-use Rattle.walrus_contents.proofs.Walked.{Walked}
+use Rattle.walrus_model.proofs.Walked.{Walked}
 use Rattle.walrus_contents.proofs.live.check_elements.Given as goal
 
 -- the segments that aren't left are whole

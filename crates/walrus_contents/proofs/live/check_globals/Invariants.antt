@@ -1,8 +1,8 @@
-use Rattle.walrus_types.specs.Operators.{Globals}
+use Rattle.walrus_base.specs.Operators.{Globals}
 use Rattle.walrus_items.specs.Globals.{globals, global_entries_left}
 use Rattle.walrus_contents.specs.There.{IsWhole}
 use Rattle.walrus_contents.specs.View.{parts_view}
-use Rattle.walrus_contents.proofs.Walked.{Walked}
+use Rattle.walrus_model.proofs.Walked.{Walked}
 use Rattle.walrus_contents.proofs.live.check_globals.Given as goal
 
 -- the globals that aren't left are whole

@@ -1,14 +1,14 @@
 use Rattle.std.proofs.Common.{ap, ◌∙◌, refl, subst}
 use Rattle.std.proofs.lemmas.Result.{err_from_is_err_and}
 use Rattle.walrus_base.specs.Arena.{item_at}
-use Rattle.walrus_types.specs.Operators.{Item}
+use Rattle.walrus_base.specs.Operators.{Item}
 use Rattle.walrus_items.specs.Imports.{imports, import_entries_left}
 use Rattle.walrus_model.specs.Dead.{HasDead}
 use Rattle.walrus_model.specs.Live.{IsLive}
 use Rattle.walrus_contents.specs.View.{parts_view}
 use Rattle.walrus_contents.proofs.LiveLemmas.{BringsLive, import_goes, import_stops, import_there}
 use Rattle.walrus_contents.proofs.NamedLemmas.{refusal_map}
-use Rattle.walrus_contents.proofs.Walked.{walk_begins, walk_ends}
+use Rattle.walrus_model.proofs.Walked.{walk_begins, walk_ends}
 use Rattle.walrus_contents.proofs.live.check_imports.Goals as goal
 
 pub loop-import-init : goal.loop-import-init

@@ -1,7 +1,7 @@
 use Rattle.walrus_items.specs.Imports.{imports, import_entries_left}
 use Rattle.walrus_contents.specs.View.{parts_view}
 use Rattle.walrus_contents.proofs.LiveLemmas.{BringsLive}
-use Rattle.walrus_contents.proofs.Walked.{Walked}
+use Rattle.walrus_model.proofs.Walked.{Walked}
 use Rattle.walrus_contents.proofs.live.check_imports.Given as goal
 
 -- what the imports bring that aren't left is there

@@ -1,8 +1,8 @@
-use Rattle.walrus_types.specs.Operators.{Tables}
+use Rattle.walrus_base.specs.Operators.{Tables}
 use Rattle.walrus_items.specs.Tables.{tables, table_entries_left}
 use Rattle.walrus_contents.specs.There.{IsWhole}
 use Rattle.walrus_contents.specs.View.{parts_view}
-use Rattle.walrus_contents.proofs.Walked.{Walked}
+use Rattle.walrus_model.proofs.Walked.{Walked}
 use Rattle.walrus_contents.proofs.live.check_tables.Given as goal
 
 -- the tables that aren't left are whole

@@ -2,13 +2,14 @@ use Rattle.std.proofs.Common.{ℕ, ap, ◌∙◌}
 use Rattle.std.proofs.lemmas.Result.{err_from_is_err_and}
 use Rattle.walrus_base.specs.Arena.{item_at}
 use Rattle.walrus_base.specs.Id.{place}
-use Rattle.walrus_types.specs.Operators.{Tags}
+use Rattle.walrus_base.specs.Operators.{Tags}
 use Rattle.walrus_items.specs.Tags.{TagValue, tags, tag_entries_left, tag_value}
 use Rattle.walrus_contents.specs.There.{IsWhole}
 use Rattle.walrus_contents.specs.View.{tag_of, parts_view}
-use Rattle.walrus_contents.proofs.LiveLemmas.{seen_there, was_there}
-use Rattle.walrus_contents.proofs.Walked.{next_there, walk_begins, walk_goes, walk_ends}
+use Rattle.walrus_contents.proofs.LiveLemmas.{seen_there}
+use Rattle.walrus_model.proofs.Walked.{next_there, walk_begins, walk_goes, walk_ends}
 use Rattle.walrus_contents.proofs.live.check_tags.Goals as goal
+use Rattle.walrus_base.proofs.Standing.{was_some as was_there}
 
 pub loop-id-init : goal.loop-id-init
 loop-id-init c =

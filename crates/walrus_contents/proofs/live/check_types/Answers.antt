@@ -2,13 +2,13 @@ use Rattle.std.proofs.Common.{◌≡◌, ℕ, Some, sym, ap, ◌∙◌, subst, r
 use Rattle.std.specs.Prelude.{IsSome}
 use Rattle.std.proofs.lemmas.Result.{err_from_is_err_and}
 use Rattle.walrus_base.specs.Arena.{item_at}
-use Rattle.walrus_types.specs.ModuleTypes.{type_slots}
-use Rattle.walrus_types.specs.Operators.{Types}
-use Rattle.walrus_types.specs.TypeDef.{type_def, type_place}
-use Rattle.walrus_types.specs.TypesLeft.{place_and_def, types_left}
+use Rattle.walrus_base.specs.ModuleTypes.{type_slots}
+use Rattle.walrus_base.specs.Operators.{Types}
+use Rattle.walrus_base.specs.TypeDef.{type_def, type_place}
+use Rattle.walrus_base.specs.TypesLeft.{place_and_def, types_left}
 use Rattle.walrus_contents.specs.There.{IsWhole}
 use Rattle.walrus_contents.specs.View.{parts_view}
-use Rattle.walrus_contents.proofs.Walked.{walk_begins, walk_goes, walk_ends, next_there}
+use Rattle.walrus_model.proofs.Walked.{walk_begins, walk_goes, walk_ends, next_there}
 use Rattle.walrus_contents.proofs.live.check_types.Goals as goal
 
 pub loop-ty-init : goal.loop-ty-init

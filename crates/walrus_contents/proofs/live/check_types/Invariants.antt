@@ -1,9 +1,9 @@
-use Rattle.walrus_types.specs.ModuleTypes.{type_slots}
-use Rattle.walrus_types.specs.Operators.{Types}
-use Rattle.walrus_types.specs.TypesLeft.{types_left}
+use Rattle.walrus_base.specs.ModuleTypes.{type_slots}
+use Rattle.walrus_base.specs.Operators.{Types}
+use Rattle.walrus_base.specs.TypesLeft.{types_left}
 use Rattle.walrus_contents.specs.There.{IsWhole}
 use Rattle.walrus_contents.specs.View.{parts_view}
-use Rattle.walrus_contents.proofs.Walked.{Walked}
+use Rattle.walrus_model.proofs.Walked.{Walked}
 use Rattle.walrus_contents.proofs.live.check_types.Given as goal
 
 -- the types that aren't left are whole

@@ -1,6 +1,6 @@
 use Rattle.std.proofs.Common.{◌≡◌, ◌++◌, map, not}
 use Rattle.std.specs.Prelude.{filter}
-use Rattle.walrus_types.specs.Operators.{DataSegments}
+use Rattle.walrus_base.specs.Operators.{DataSegments}
 use Rattle.walrus_items.specs.Data.{data_segment_entries_left, is_passive_data}
 use Rattle.walrus_contents.specs.Named.{active_names, items_in}
 use Rattle.walrus_contents.proofs.names.push_active_data.Given as goal

@@ -1,6 +1,6 @@
 use Rattle.std.proofs.Common.{◌≡◌, ◌++◌, map}
 use Rattle.walrus_base.specs.IdSet.{ids_in, ids_left}
-use Rattle.walrus_types.specs.Operators.{DataSegments}
+use Rattle.walrus_base.specs.Operators.{DataSegments}
 use Rattle.walrus_contents.specs.Named.{items_in}
 use Rattle.walrus_contents.proofs.names.push_data_ids.Given as goal
 

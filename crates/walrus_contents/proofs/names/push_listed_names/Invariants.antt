@@ -1,6 +1,6 @@
 use Rattle.std.proofs.Common.{◌≡◌, ◌++◌, drop}
 use Rattle.walrus_code.specs.Code.{ops_of}
-use Rattle.walrus_types.specs.Operators.{names_of}
+use Rattle.walrus_base.specs.Operators.{names_of}
 use Rattle.walrus_contents.specs.Named.{items_in}
 use Rattle.walrus_contents.proofs.names.push_listed_names.Given as goal
 

@@ -2,7 +2,7 @@ use Rattle.std.proofs.Common.{◌≡◌, get_or, rules, subst, sym}
 use Rattle.std.proofs.lemmas.Result.{err_from_is_err_and}
 use Rattle.walrus_code.specs.Code.{op_of, ops_of}
 use Rattle.walrus_code.specs.declared.operator.Operator.{Operator}
-use Rattle.walrus_types.specs.Operators.{locals_of, op_locals}
+use Rattle.walrus_base.specs.Operators.{locals_of, op_locals}
 use Rattle.walrus_contents.specs.Named.{OneIsMissing, PutsTypes}
 use Rattle.walrus_contents.proofs.LocalTypes.{missing_among, types_all, types_more, types_none}
 use Rattle.walrus_contents.proofs.NamedLemmas.{refusal_map}

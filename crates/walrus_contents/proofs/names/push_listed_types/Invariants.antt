@@ -1,6 +1,6 @@
 use Rattle.std.proofs.Common.{take}
 use Rattle.walrus_code.specs.Code.{ops_of}
-use Rattle.walrus_types.specs.Operators.{locals_of}
+use Rattle.walrus_base.specs.Operators.{locals_of}
 use Rattle.walrus_contents.specs.Named.{PutsTypes}
 use Rattle.walrus_contents.proofs.names.push_listed_types.Given as goal
 

@@ -1,7 +1,7 @@
 use Rattle.std.proofs.Common.{List, flat_map, subst}
 use Rattle.std.proofs.lemmas.Result.{err_from_is_err_and}
 use Rattle.walrus_code.specs.Code.{arg_of, op_of}
-use Rattle.walrus_types.specs.Operators.{Arg, arg_locals, op_locals}
+use Rattle.walrus_base.specs.Operators.{Arg, arg_locals, op_locals}
 use Rattle.walrus_contents.specs.Named.{OneIsMissing, PutsTypes}
 use Rattle.walrus_contents.proofs.LocalTypes.{missing_among, types_all, types_more, types_none}
 use Rattle.walrus_contents.proofs.NamedLemmas.{refusal_map}

@@ -1,6 +1,6 @@
 use Rattle.std.proofs.Common.{flat_map, map, take}
 use Rattle.walrus_code.specs.Code.{arg_of}
-use Rattle.walrus_types.specs.Operators.{arg_locals}
+use Rattle.walrus_base.specs.Operators.{arg_locals}
 use Rattle.walrus_contents.specs.Named.{PutsTypes}
 use Rattle.walrus_contents.proofs.names.push_operator_types.Given as goal
 

@@ -1,6 +1,6 @@
 use Rattle.std.proofs.Common.{◌≡◌, ◌++◌, map, not}
 use Rattle.std.specs.Prelude.{filter}
-use Rattle.walrus_types.specs.Operators.{Elements}
+use Rattle.walrus_base.specs.Operators.{Elements}
 use Rattle.walrus_items.specs.Elements.{element_entries_left}
 use Rattle.walrus_contents.specs.Named.{are_passive, items_in, root_elements}
 use Rattle.walrus_contents.proofs.names.push_root_elements.Given as goal

@@ -1,6 +1,6 @@
 use Rattle.std.proofs.Common.{◌≡◌, ◌++◌, drop, map}
 use Rattle.walrus_base.specs.Id.{place}
-use Rattle.walrus_types.specs.Operators.{type_item}
+use Rattle.walrus_base.specs.Operators.{type_item}
 use Rattle.walrus_contents.specs.Named.{items_in}
 use Rattle.walrus_contents.proofs.names.push_type_ids.Given as goal
 

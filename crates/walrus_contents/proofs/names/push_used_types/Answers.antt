@@ -1,7 +1,7 @@
 use Rattle.std.proofs.Common.{List, ap, sym, subst, refl, ◌∙◌, ◌++◌}
 use Rattle.std.proofs.lemmas.List.{append-nil}
 use Rattle.std.specs.Prelude.{MatchResult}
-use Rattle.walrus_types.specs.Operators.{Item, Op, locals_of}
+use Rattle.walrus_base.specs.Operators.{Item, Op, locals_of}
 use Rattle.walrus_contents.specs.Named.{OneIsMissing, PutsTypes, items_in}
 use Rattle.walrus_contents.specs.There.{IsRefusal}
 use Rattle.walrus_contents.proofs.names.push_used_types.Goals as goal

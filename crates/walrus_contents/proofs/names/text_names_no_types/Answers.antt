@@ -1,5 +1,5 @@
 use Rattle.std.proofs.Common.{List, subst, sym}
-use Rattle.walrus_types.specs.Operators.{Op, locals_of}
+use Rattle.walrus_base.specs.Operators.{Op, locals_of}
 use Rattle.walrus_contents.specs.Named.{NamesNoTypes}
 use Rattle.walrus_contents.proofs.PlainBodies.{each_plain, locals_within, no_types}
 use Rattle.walrus_model.specs.Text.{first_local_of, local_count_of, ops_in}

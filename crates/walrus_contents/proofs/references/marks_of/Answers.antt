@@ -1,6 +1,6 @@
 use Rattle.walrus_base.specs.Id.{place}
 use Rattle.walrus_base.specs.Marks.{is_marked}
-use Rattle.walrus_types.specs.PlaceList.{has}
+use Rattle.walrus_base.specs.PlaceList.{has}
 use Rattle.std.proofs.Common.{map}
 use Rattle.walrus_contents.proofs.ExportedRefs.{left_at, marks_go, room_here, room_later}
 use Rattle.walrus_contents.proofs.references.marks_of.Goals as goal

@@ -1,7 +1,7 @@
 use Rattle.std.proofs.Common.{◌≡◌, ◌<◌, ◌||◌, ℕ, drop, map, true}
 use Rattle.walrus_base.specs.Id.{place}
 use Rattle.walrus_base.specs.Marks.{is_marked, mark_places}
-use Rattle.walrus_types.specs.PlaceList.{has}
+use Rattle.walrus_base.specs.PlaceList.{has}
 use Rattle.walrus_contents.proofs.references.marks_of.Given as goal
 
 -- what is left has marks, and each id is marked or left

@@ -1,5 +1,5 @@
 use Rattle.std.proofs.Common.{refl, ⊎_elim}
-use Rattle.walrus_types.specs.declared.const_expr.ConstExpr.TheVariants as expression
+use Rattle.walrus_base.specs.declared.const_expr.ConstExpr.TheVariants as expression
 use Rattle.walrus_contents.proofs.ExportedRefs.{no_ref, value_alone}
 use Rattle.walrus_contents.proofs.references.only_ref.Goals as goal
 

@@ -1,7 +1,7 @@
 use Rattle.std.proofs.Common.{◌≡◌, ◌++◌, drop, map}
 use Rattle.std.specs.Prelude.{filter_map}
 use Rattle.walrus_base.specs.Id.{place}
-use Rattle.walrus_types.specs.ConstOps.{const_op}
+use Rattle.walrus_base.specs.ConstOps.{const_op}
 use Rattle.walrus_contents.specs.References.{op_ref}
 use Rattle.walrus_contents.proofs.references.push_const_refs.Given as goal
 

@@ -6,15 +6,15 @@ use Rattle.walrus_base.specs.Arena.{item_at}
 use Rattle.walrus_base.specs.Id.{place}
 use Rattle.walrus_base.specs.declared.id.Id.{Id}
 use Rattle.walrus_base.specs.declared.keys.TypeKey.{TypeKey}
-use Rattle.walrus_types.specs.ModuleTypes.{type_slots}
-use Rattle.walrus_types.specs.Operators.{Op, locals_of}
-use Rattle.walrus_types.specs.TypeDef.{TypeDef}
+use Rattle.walrus_base.specs.ModuleTypes.{type_slots}
+use Rattle.walrus_base.specs.Operators.{Op, locals_of}
+use Rattle.walrus_base.specs.TypeDef.{TypeDef}
 use Rattle.walrus_bodies.specs.Blocks.{blocks_hold}
 use Rattle.walrus_bodies.specs.FunctionTypes.{is_function_at}
-use Rattle.walrus_text.specs.Function.{arg_count_of, args_of, as_text, body_of, function_type}
-use Rattle.walrus_text.specs.Plain.{are_plain}
-use Rattle.walrus_text.specs.Text.{first_local_of, local_count_of, ops_in}
-use Rattle.walrus_text.specs.declared.text.Text.{Text}
+use Rattle.walrus_bodies.specs.Function.{arg_count_of, args_of, as_text, body_of, function_type}
+use Rattle.walrus_bodies.specs.Plain.{are_plain}
+use Rattle.walrus_bodies.specs.Text.{first_local_of, local_count_of, ops_in}
+use Rattle.walrus_bodies.specs.declared.text.Text.{Text}
 use Rattle.walrus_functions.specs.EmittedBody.{FitsType, index_in, source_of, takes}
 use Rattle.walrus_functions.specs.declared.append.AppendedBody.{AppendedBody}
 use Rattle.walrus_functions.proofs.AppendLemmas.{refused_behind, same_ground}

@@ -9,16 +9,16 @@ use Rattle.walrus_base.specs.Arena.{item_at}
 use Rattle.walrus_base.specs.Id.{place}
 use Rattle.walrus_base.specs.declared.id.Id.{Id}
 use Rattle.walrus_base.specs.declared.keys.LocalKey.{LocalKey}
-use Rattle.walrus_types.specs.Operators.{Op, locals_of}
+use Rattle.walrus_base.specs.Operators.{Op, locals_of}
 use Rattle.walrus_code.specs.declared.error.IrError.{IrError}
 use Rattle.walrus_bodies.specs.Blocks.{blocks_hold}
 use Rattle.walrus_bodies.specs.Declarations.{declaration, declarations_of}
 use Rattle.walrus_bodies.specs.FunctionTypes.{is_function_at}
 use Rattle.walrus_bodies.specs.declared.declarations.Declaration.{Declaration}
-use Rattle.walrus_text.specs.Function.{arg_count_of, args_of, as_text}
-use Rattle.walrus_text.specs.Locals.{AreMarked}
-use Rattle.walrus_text.specs.Text.{first_local_of, local_count_of, ops_in}
-use Rattle.walrus_text.specs.declared.text.Text.{Text}
+use Rattle.walrus_bodies.specs.Function.{arg_count_of, args_of, as_text}
+use Rattle.walrus_bodies.specs.Locals.{AreMarked}
+use Rattle.walrus_bodies.specs.Text.{first_local_of, local_count_of, ops_in}
+use Rattle.walrus_bodies.specs.declared.text.Text.{Text}
 use Rattle.walrus_functions.specs.EmittedBody.{EmitsBody, FitsType, Source, index_in, source_of}
 use Rattle.walrus_functions.specs.Kept.{KeepsIndices}
 use Rattle.walrus_functions.specs.declared.append.AppendedBody.{AppendedBody}

@@ -2,7 +2,7 @@ use Rattle.std.proofs.Common.{List, [], ◌++◌, ℕ, ap, ◌∙◌}
 use Rattle.std.proofs.lemmas.Result.{err_from_is_err_and}
 use Rattle.walrus_code.specs.Indices.{index_of}
 use Rattle.walrus_bodies.specs.Declarations.{declarations_of}
-use Rattle.walrus_text.specs.Text.{ops_in}
+use Rattle.walrus_bodies.specs.Text.{ops_in}
 use Rattle.walrus_functions.proofs.AppendLemmas.{behind, front_refused}
 use Rattle.walrus_functions.proofs.SpellingLemmas.{spelled_same}
 use Rattle.walrus_functions.proofs.append.write_kept.Goals as goal

@@ -1,5 +1,5 @@
 use Rattle.std.proofs.Common.{◌≡◌, ◌∙◌, ℕ, Bool, true, false, List, [], map, Option, Result, Ok, Err, IsErrAnd, IfOk, ap, refl, subst, sym}
-use Rattle.walrus_types.specs.Operators.{Op}
+use Rattle.walrus_base.specs.Operators.{Op}
 use Rattle.walrus_code.specs.Names.{Lookup}
 use Rattle.walrus_code.specs.declared.error.IrError.{IrError}
 use Rattle.walrus_code.specs.declared.error.IrError.TheVariants.{Malformed, Memory, NoIndex, NotWritable, TooLarge}

@@ -1,7 +1,7 @@
 use Rattle.std.proofs.Common.{ℕ, map, subst, sym}
 use Rattle.walrus_base.specs.Id.{place}
-use Rattle.walrus_types.specs.Operators.{locals_of}
-use Rattle.walrus_text.specs.Text.{ops_in}
+use Rattle.walrus_base.specs.Operators.{locals_of}
+use Rattle.walrus_bodies.specs.Text.{ops_in}
 use Rattle.walrus_functions.specs.Marked.{AreMarked}
 use Rattle.walrus_functions.proofs.MarkLemmas.{taken_once}
 use Rattle.walrus_functions.proofs.code.text_locals.Goals as goal

@@ -3,9 +3,9 @@ use Rattle.std.specs.List.{IsDistinct, list_any}
 use Rattle.std.proofs.lemmas.Cmp.{nat_eq_equiv}
 use Rattle.std.proofs.lemmas.Map.Keys.{IsDistinct-push}
 use Rattle.walrus_base.specs.Id.{place}
-use Rattle.walrus_code.proofs.Turns.{split_at, map_more}
+use Rattle.walrus_base.proofs.Turns.{split_at, map_more}
 use Rattle.walrus_functions.specs.Declaring.{is_taken}
-use Rattle.walrus_functions.proofs.DistinctLemmas.{twice, not_false, not_true, among-more}
+use Rattle.walrus_base.proofs.DistinctLemmas.{twice, not_false, not_true, among-more}
 use Rattle.walrus_functions.proofs.declared.distinct_places.Goals as goal
 
 pub returns-then-not-branch : goal.returns-then-not-branch

@@ -5,7 +5,7 @@ use Rattle.std.proofs.Math.Seq.{drop-cons}
 use Rattle.walrus_base.specs.Id.{place}
 use Rattle.walrus_base.specs.declared.id.Id.{Id}
 use Rattle.walrus_base.specs.declared.keys.LocalKey.{LocalKey}
-use Rattle.walrus_code.proofs.Turns.{map_snoc}
+use Rattle.walrus_base.proofs.Turns.{map_snoc}
 use Rattle.walrus_functions.proofs.declared.ids_of.Goals as goal
 
 abbrev third : ℕ × ℕ × ℕ → ℕ

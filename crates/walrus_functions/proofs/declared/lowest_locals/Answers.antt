@@ -1,8 +1,8 @@
 use Rattle.std.proofs.Common.{ℕ, List, ◌≤◌, length, sym, subst, take, arith}
 use Rattle.std.proofs.lemmas.List.{take_all}
-use Rattle.walrus_types.specs.declared.value.ValType.{ValType as DeclaredValType}
+use Rattle.walrus_base.specs.declared.value.ValType.{ValType as DeclaredValType}
 use Rattle.walrus_functions.specs.Declaring.{AreLowest, lowest_of}
-use Rattle.walrus_code.proofs.Turns.{one_more}
+use Rattle.walrus_base.proofs.Turns.{one_more}
 use Rattle.walrus_functions.proofs.LowestLemmas.{lowest-more}
 use Rattle.walrus_functions.proofs.ValueLemmas.{lowest_alike}
 use Rattle.walrus_functions.proofs.declared.lowest_locals.Goals as goal

@@ -2,7 +2,7 @@ use Rattle.std.proofs.Common.{◌≡◌, ◌+◌, ◌<◌, ◌≤◌, ℕ, List,
 use Rattle.std.proofs.lemmas.List.{append-nil, drop_all}
 use Rattle.std.proofs.lemmas.Result.{err_from_is_err_and}
 use Rattle.walrus_base.specs.Id.{place}
-use Rattle.walrus_types.specs.Operators.{Op, locals_of, op_locals}
+use Rattle.walrus_base.specs.Operators.{Op, locals_of, op_locals}
 use Rattle.walrus_code.specs.Code.{op_of, ops_of}
 use Rattle.walrus_code.specs.declared.operator.Operator.{Operator}
 use Rattle.walrus_functions.proofs.HandlerLemmas.{next_op}

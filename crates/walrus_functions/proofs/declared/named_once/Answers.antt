@@ -1,6 +1,6 @@
 use Rattle.std.proofs.Common.{Bool, List, [], ℕ, map, refl, subst, sym}
 use Rattle.walrus_base.specs.Id.{place}
-use Rattle.walrus_types.specs.Operators.{locals_of}
+use Rattle.walrus_base.specs.Operators.{locals_of}
 use Rattle.walrus_code.specs.Code.{ops_of}
 use Rattle.walrus_functions.specs.Declaring.{AreOnce}
 use Rattle.walrus_functions.specs.Marked.{AreMarked}

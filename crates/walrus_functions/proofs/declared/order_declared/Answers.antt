@@ -1,8 +1,8 @@
 use Rattle.std.proofs.Common.{◌≡◌, ℕ, List, map, sym, subst}
 use Rattle.walrus_base.specs.Id.{place}
-use Rattle.walrus_types.specs.Locals.{locals}
-use Rattle.walrus_types.specs.Value.{val_type}
-use Rattle.walrus_types.specs.declared.value.ValType.{ValType as DeclaredValType}
+use Rattle.walrus_base.specs.Locals.{locals}
+use Rattle.walrus_base.specs.Value.{val_type}
+use Rattle.walrus_base.specs.declared.value.ValType.{ValType as DeclaredValType}
 use Rattle.walrus_functions.specs.Declaring.{is_taken, AreTyped, AreInOrder, typed}
 use Rattle.walrus_functions.specs.EmittedBody.{types_of}
 use Rattle.walrus_functions.proofs.OnceLemmas.{ordered_ids}

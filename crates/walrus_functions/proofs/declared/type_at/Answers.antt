@@ -1,10 +1,10 @@
 use Rattle.std.proofs.Common.{sym, ap, ◌∙◌, Some}
 use Rattle.std.specs.Prelude.{option_map}
 use Rattle.walrus_base.specs.Id.{place}
-use Rattle.walrus_types.specs.Locals.{locals, local_type}
-use Rattle.walrus_types.specs.Value.{val_type}
-use Rattle.walrus_functions.proofs.TypedLemmas.{item_at-map}
+use Rattle.walrus_base.specs.Locals.{locals, local_type}
+use Rattle.walrus_base.specs.Value.{val_type}
 use Rattle.walrus_functions.proofs.declared.type_at.Goals as goal
+use Rattle.walrus_base.proofs.SlotLemmas.{item_at-map}
 
 pub returns-then-contains : goal.returns-then-contains
 returns-then-contains c =

@@ -1,14 +1,14 @@
 use Rattle.std.proofs.Common.{ℕ, ◌+◌, List, [], ◌∷◌, ◌++◌, sym, ap, subst, ◌∙◌, map, take, inl, inr, nat_eq}
 use Rattle.walrus_base.specs.Id.{place}
 use Rattle.walrus_base.specs.Arena.{item_at}
-use Rattle.walrus_types.specs.Locals.{locals}
-use Rattle.walrus_types.specs.Value.{val_type}
+use Rattle.walrus_base.specs.Locals.{locals}
+use Rattle.walrus_base.specs.Value.{val_type}
 use Rattle.walrus_functions.specs.Declaring.{is_taken, typed, AreTyped, same_local}
 use Rattle.walrus_functions.specs.EmittedBody.{types_of}
-use Rattle.walrus_code.proofs.Turns.{map_more, map_snoc, split_at}
+use Rattle.walrus_base.proofs.Turns.{map_more, map_snoc, split_at}
 use Rattle.std.specs.List.{IsDistinct, list_any}
-use Rattle.walrus_types.specs.declared.value.ValType.{ValType as DeclaredValType}
-use Rattle.walrus_functions.proofs.DistinctLemmas.{not_before}
+use Rattle.walrus_base.specs.declared.value.ValType.{ValType as DeclaredValType}
+use Rattle.walrus_base.proofs.DistinctLemmas.{not_before}
 use Rattle.walrus_functions.proofs.OnceLemmas.{new-distinct, none-distinct, none-typed}
 use Rattle.walrus_functions.proofs.TypedLemmas.{typed-skip, typed-more}
 use Rattle.walrus_functions.proofs.declared.typed_locals.Goals as goal

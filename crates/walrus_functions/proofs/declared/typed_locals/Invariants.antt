@@ -1,7 +1,7 @@
 use Rattle.std.proofs.Common.{map, take}
 use Rattle.std.specs.List.{IsDistinct}
 use Rattle.walrus_base.specs.Id.{place}
-use Rattle.walrus_types.specs.Locals.{locals}
+use Rattle.walrus_base.specs.Locals.{locals}
 use Rattle.walrus_functions.specs.Declaring.{is_taken, AreTyped, typed, same_local}
 use Rattle.walrus_functions.specs.EmittedBody.{types_of}
 use Rattle.walrus_functions.proofs.declared.typed_locals.Given as goal

@@ -1,8 +1,8 @@
 use Rattle.std.proofs.Common.{◌≡◌, Some, map, take}
 use Rattle.walrus_base.specs.Arena.{item_at}
 use Rattle.walrus_base.specs.Id.{place}
-use Rattle.walrus_types.specs.Locals.{locals}
-use Rattle.walrus_types.specs.Value.{val_type}
+use Rattle.walrus_base.specs.Locals.{locals}
+use Rattle.walrus_base.specs.Value.{val_type}
 use Rattle.walrus_functions.specs.EmittedBody.{types_of}
 use Rattle.walrus_functions.proofs.declared.types_at.Given as goal
 

@@ -10,10 +10,10 @@ use Rattle.wasm_forms.specs.declared.types.RawVal.{RawVal}
 use Rattle.walrus_base.specs.Id.{place}
 use Rattle.walrus_base.specs.declared.id.Id.{Id}
 use Rattle.walrus_base.specs.declared.keys.LocalKey.{LocalKey}
-use Rattle.walrus_types.specs.Locals.{locals}
-use Rattle.walrus_types.specs.Operators.{Op, locals_of}
-use Rattle.walrus_types.specs.Shape.{place_in}
-use Rattle.walrus_text.specs.Function.{body_of, args_of}
+use Rattle.walrus_base.specs.Locals.{locals}
+use Rattle.walrus_base.specs.Operators.{Op, locals_of}
+use Rattle.walrus_base.specs.Shape.{place_in}
+use Rattle.walrus_bodies.specs.Function.{body_of, args_of}
 use Rattle.walrus_code.specs.Indices.{index_of, local_index}
 use Rattle.walrus_code.specs.declared.error.IrError.{IrError}
 use Rattle.walrus_code.specs.declared.local_numbers.LocalNumbers.{LocalNumbers}

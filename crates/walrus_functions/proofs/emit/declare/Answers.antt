@@ -1,8 +1,8 @@
 use Rattle.std.proofs.Common.{map, subst}
 use Rattle.walrus_base.specs.Id.{place}
-use Rattle.walrus_types.specs.Locals.{locals}
+use Rattle.walrus_base.specs.Locals.{locals}
 use Rattle.walrus_code.specs.Indices.{index_of}
-use Rattle.walrus_types.specs.Value.{val_type}
+use Rattle.walrus_base.specs.Value.{val_type}
 use Rattle.walrus_bodies.specs.Declarations.{declarations_of}
 use Rattle.walrus_functions.specs.Declaring.{group_of, AreRuns, Declares}
 use Rattle.walrus_functions.specs.EmittedBody.{types_of}

@@ -1,6 +1,6 @@
 use Rattle.std.proofs.Common.{ℕ, List, subst}
-use Rattle.walrus_types.specs.Operators.{locals_of}
-use Rattle.walrus_text.specs.Function.{body_of, args_of}
+use Rattle.walrus_base.specs.Operators.{locals_of}
+use Rattle.walrus_bodies.specs.Function.{body_of, args_of}
 use Rattle.walrus_functions.specs.Declaring.{HasPlaces}
 use Rattle.walrus_functions.proofs.emit.find_declared.Goals as goal
 

@@ -1,12 +1,12 @@
 use Rattle.std.proofs.Common.{map, sym, ap, ◌∙◌}
 use Rattle.walrus_base.specs.Arena.{item_at}
 use Rattle.walrus_base.specs.Id.{place}
-use Rattle.walrus_types.specs.Locals.{locals}
-use Rattle.walrus_types.specs.ModuleTypes.{type_slots}
-use Rattle.walrus_types.specs.Value.{val_type}
-use Rattle.walrus_types.specs.contracts.value.ValTypePartialEq.TheImpl as equality
-use Rattle.walrus_types.proofs.FunctionSame.{val_same, pointwise_same}
-use Rattle.walrus_text.specs.Function.{function_type, args_of}
+use Rattle.walrus_base.specs.Locals.{locals}
+use Rattle.walrus_base.specs.ModuleTypes.{type_slots}
+use Rattle.walrus_base.specs.Value.{val_type}
+use Rattle.walrus_base.specs.contracts.value.ValTypePartialEq.TheImpl as equality
+use Rattle.walrus_base.proofs.FunctionSame.{val_same, pointwise_same}
+use Rattle.walrus_bodies.specs.Function.{function_type, args_of}
 use Rattle.walrus_functions.specs.EmittedBody.{types_of, takes, comp_takes}
 use Rattle.walrus_functions.proofs.FitLemmas.{fit}
 use Rattle.walrus_functions.proofs.emit.parameters_fit.Goals as goal

@@ -1,14 +1,14 @@
 use Rattle.std.proofs.Common.{ℕ, ◌≤◌, length, List, [], ◌∷◌, ◌++◌, get_or, map, take, sym, ap, ◌∙◌, subst, arith}
 use Rattle.wasm_forms.specs.declared.types.RawVal.{RawVal}
 use Rattle.walrus_base.specs.Types.{ValType}
-use Rattle.walrus_types.specs.Value.{val_type}
-use Rattle.walrus_types.specs.declared.value.ValType.{ValType as DeclaredValType}
-use Rattle.walrus_types.specs.declared.value.ValType.TheVariants as declared_value
+use Rattle.walrus_base.specs.Value.{val_type}
+use Rattle.walrus_base.specs.declared.value.ValType.{ValType as DeclaredValType}
+use Rattle.walrus_base.specs.declared.value.ValType.TheVariants as declared_value
 use Rattle.walrus_bodies.specs.declared.declarations.Declaration.{Declaration}
 use Rattle.walrus_code.specs.Indices.{index_of}
 use Rattle.walrus_bodies.specs.Declarations.{declaration, declarations_of}
 use Rattle.walrus_functions.specs.Declaring.{AreDeclarations, group_of}
-use Rattle.walrus_code.proofs.Turns.{split_at, map_more, map_snoc}
+use Rattle.walrus_base.proofs.Turns.{split_at, map_more, map_snoc}
 use Rattle.walrus_functions.proofs.DeclarationLemmas.{declared-more, declares-refused}
 use Rattle.std.proofs.lemmas.List.{take_all}
 use Rattle.std.proofs.lemmas.Result.{err_from_is_err_and}

@@ -2,7 +2,7 @@ use Rattle.std.proofs.Common.{◌≡◌, ◌+◌, map, take, length, sym, ap, �
 use Rattle.std.proofs.lemmas.List.{length-map}
 use Rattle.walrus_base.specs.Id.{place}
 use Rattle.walrus_code.proofs.Placing.{new_at}
-use Rattle.walrus_code.proofs.Turns.{map_more}
+use Rattle.walrus_base.proofs.Turns.{map_more}
 use Rattle.walrus_functions.proofs.NumberedLemmas.{numbered-more}
 use Rattle.walrus_functions.proofs.groups.number_locals.Goals as goal
 

@@ -1,6 +1,6 @@
 use Rattle.std.proofs.Common.{◌≡◌, ℕ, map, take}
 use Rattle.walrus_base.specs.Id.{place}
-use Rattle.walrus_types.specs.Shape.{place_in}
+use Rattle.walrus_base.specs.Shape.{place_in}
 use Rattle.walrus_code.specs.Indices.{local_index, locals_given}
 use Rattle.walrus_functions.proofs.groups.number_locals.Given as goal
 

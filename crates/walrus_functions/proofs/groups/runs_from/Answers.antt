@@ -1,11 +1,11 @@
 use Rattle.std.proofs.Common.{◌≡◌, ◌+◌, ℕ, List, [], ◌∷◌, ◌++◌, true, false, map, take, get_or, sym, ap, ◌∙◌, subst, arith}
 use Rattle.walrus_base.specs.Types.{ValType}
-use Rattle.walrus_types.specs.Value.{val_type}
-use Rattle.walrus_types.specs.declared.value.ValType.TheVariants as declared_value
-use Rattle.walrus_types.specs.contracts.value.ValTypePartialEq.TheImpl as equality
-use Rattle.walrus_types.proofs.FunctionSame.{val_same}
+use Rattle.walrus_base.specs.Value.{val_type}
+use Rattle.walrus_base.specs.declared.value.ValType.TheVariants as declared_value
+use Rattle.walrus_base.specs.contracts.value.ValTypePartialEq.TheImpl as equality
+use Rattle.walrus_base.proofs.FunctionSame.{val_same}
 use Rattle.walrus_functions.specs.Declaring.{AreRuns, group_of}
-use Rattle.walrus_code.proofs.Turns.{map_more, map_snoc}
+use Rattle.walrus_base.proofs.Turns.{map_more, map_snoc}
 use Rattle.walrus_functions.proofs.RunLemmas.{runs-same, runs-next}
 use Rattle.walrus_functions.proofs.groups.runs_from.Goals as goal
 use Rattle.walrus_functions.proofs.groups.runs_from.Goals.{then-eq, else-eq+in_ok-push}

@@ -1,5 +1,5 @@
 use Rattle.std.proofs.Common.{◌≤◌, ◌+◌, ◌++◌, ◌∷◌, [], map, take}
-use Rattle.walrus_types.specs.Value.{val_type}
+use Rattle.walrus_base.specs.Value.{val_type}
 use Rattle.walrus_functions.specs.Declaring.{group_of, AreRuns}
 use Rattle.walrus_functions.proofs.groups.runs_from.Given as goal
 

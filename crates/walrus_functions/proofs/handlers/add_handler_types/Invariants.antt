@@ -1,7 +1,7 @@
 use Rattle.std.proofs.Common.{map, drop, length}
 use Rattle.walrus_base.specs.Arena.{item_at}
 use Rattle.walrus_base.specs.Id.{place}
-use Rattle.walrus_types.specs.ModuleTypes.{type_slots}
+use Rattle.walrus_base.specs.ModuleTypes.{type_slots}
 use Rattle.walrus_code.specs.Code.{ops_of}
 use Rattle.walrus_functions.specs.Known.{AreKnown}
 use Rattle.walrus_functions.specs.Signatures.{opened, slots_of, tag_places}

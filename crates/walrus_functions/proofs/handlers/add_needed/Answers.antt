@@ -2,8 +2,8 @@ use Rattle.std.proofs.Common.{◌≡◌, ◌∷◌, [], List, map, Option, Some,
 use Rattle.std.proofs.lemmas.List.{append-nil, map-append}
 use Rattle.std.specs.Option.{option_copied}
 use Rattle.walrus_base.specs.Id.{place}
-use Rattle.walrus_types.specs.Composite.{FunctionType}
-use Rattle.walrus_types.specs.ModuleTypes.{type_slots}
+use Rattle.walrus_base.specs.Composite.{FunctionType}
+use Rattle.walrus_base.specs.ModuleTypes.{type_slots}
 use Rattle.walrus_functions.specs.Known.{id_at}
 use Rattle.walrus_functions.specs.ReadFunction.{AddsTypes}
 use Rattle.walrus_functions.specs.Signatures.{needed_by, pair_of, pair_type, slots_of, types_below}

@@ -1,8 +1,8 @@
 use Rattle.std.proofs.Common.{◌∷◌, [], map, ap, ◌∙◌}
 use Rattle.std.proofs.lemmas.List.{map-append}
 use Rattle.walrus_base.specs.Id.{place}
-use Rattle.walrus_types.specs.Composite.{function_type}
-use Rattle.walrus_types.specs.ModuleTypes.{type_names, type_slots}
+use Rattle.walrus_base.specs.Composite.{function_type}
+use Rattle.walrus_base.specs.ModuleTypes.{type_names, type_slots}
 use Rattle.walrus_functions.specs.Signatures.{slots_of}
 use Rattle.walrus_functions.proofs.HandlerLemmas.{adds_one}
 use Rattle.walrus_functions.proofs.KnownLemmas.{noted_first}

@@ -1,9 +1,9 @@
 use Rattle.std.proofs.Common.{◌≡◌, ◌∷◌, [], List, map, Option, option_to_list, ap, ◌∙◌, sym, subst}
 use Rattle.std.proofs.lemmas.List.{append-nil}
 use Rattle.walrus_base.specs.Id.{place}
-use Rattle.walrus_types.specs.Composite.{FunctionType, function_type}
-use Rattle.walrus_types.specs.ModuleTypes.{type_slots}
-use Rattle.walrus_types.specs.declared.composite.FunctionType.{FunctionType as DeclaredFunctionType}
+use Rattle.walrus_base.specs.Composite.{FunctionType, function_type}
+use Rattle.walrus_base.specs.ModuleTypes.{type_slots}
+use Rattle.walrus_base.specs.declared.composite.FunctionType.{FunctionType as DeclaredFunctionType}
 use Rattle.walrus_functions.specs.Known.{AddsIds}
 use Rattle.walrus_functions.specs.Signatures.{pair_of, pair_type, slots_of, types_below}
 use Rattle.walrus_functions.proofs.HandlerLemmas.{adds_none}

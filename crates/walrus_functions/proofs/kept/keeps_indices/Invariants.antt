@@ -1,5 +1,5 @@
 use Rattle.std.proofs.Common.{ℕ, ◌≤◌, ◌<◌, ◌+◌}
-use Rattle.walrus_types.specs.Locals.{locals}
+use Rattle.walrus_base.specs.Locals.{locals}
 use Rattle.walrus_functions.specs.EmittedBody.{types_of}
 use Rattle.walrus_functions.specs.Kept.{KeepsIndices, rank_at}
 use Rattle.walrus_functions.proofs.kept.keeps_indices.Given as goal

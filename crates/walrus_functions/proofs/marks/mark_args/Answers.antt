@@ -1,5 +1,5 @@
 use Rattle.std.proofs.Common.{◌≤◌, length, arith, ◌∙◌, refl}
-use Rattle.walrus_types.specs.Operators.{arg_locals}
+use Rattle.walrus_base.specs.Operators.{arg_locals}
 use Rattle.walrus_code.specs.Code.{arg_of}
 use Rattle.walrus_functions.proofs.MarkLemmas.{marks_next, marks_all}
 use Rattle.walrus_functions.proofs.marks.mark_args.Goals as goal

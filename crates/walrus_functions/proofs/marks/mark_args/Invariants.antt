@@ -1,5 +1,5 @@
 use Rattle.std.proofs.Common.{◌≡◌, flat_map, length, map, take}
-use Rattle.walrus_types.specs.Operators.{arg_locals}
+use Rattle.walrus_base.specs.Operators.{arg_locals}
 use Rattle.walrus_code.specs.Code.{arg_of}
 use Rattle.walrus_functions.specs.Marked.{Marks}
 use Rattle.walrus_functions.proofs.marks.mark_args.Given as goal

@@ -1,5 +1,5 @@
 use Rattle.std.proofs.Common.{◌≡◌, ◌<◌, ◌≤◌, ℕ, List, flat_map, get_or, length, map, arith, ◌∙◌, refl, sym, ap, subst, rules}
-use Rattle.walrus_types.specs.Operators.{arg_locals, op_locals}
+use Rattle.walrus_base.specs.Operators.{arg_locals, op_locals}
 use Rattle.walrus_code.specs.Code.{arg_of, op_of}
 use Rattle.walrus_functions.specs.Marked.{Marks}
 use Rattle.walrus_functions.proofs.MarkLemmas.{marks_next, marks_all}

@@ -1,5 +1,5 @@
 use Rattle.std.proofs.Common.{◌≡◌, length, take}
-use Rattle.walrus_types.specs.Operators.{locals_of}
+use Rattle.walrus_base.specs.Operators.{locals_of}
 use Rattle.walrus_code.specs.Code.{ops_of}
 use Rattle.walrus_functions.specs.Marked.{Marks}
 use Rattle.walrus_functions.proofs.marks.mark_named.Given as goal

@@ -2,9 +2,9 @@ use Rattle.std.proofs.Common.{◌≡◌, ◌+◌, ◌-◌, ◌^◌, ℕ, List, l
 use Rattle.walrus_bodies.specs.Declarations.{declarations_of}
 use Rattle.walrus_bodies.specs.FunctionTypes.{is_function_at}
 use Rattle.walrus_bodies.specs.declared.declarations.Declaration.{Declaration}
-use Rattle.walrus_text.specs.PlainBody.{with_locals}
-use Rattle.walrus_text.specs.PlainCode.{limits_in}
-use Rattle.walrus_text.specs.Scanned.{IsScanned}
+use Rattle.walrus_bodies.specs.PlainBody.{with_locals}
+use Rattle.walrus_bodies.specs.PlainCode.{limits_in}
+use Rattle.walrus_bodies.specs.Scanned.{IsScanned}
 use Rattle.walrus_functions.specs.Plain.{total}
 use Rattle.walrus_functions.specs.declared.plain.PlainBody.{PlainBody}
 use Rattle.walrus_functions.proofs.PlainLemmas.{Found, plain_read}

@@ -1,17 +1,18 @@
 use Rattle.std.proofs.Common.{◌≡◌, ◌<◌, ◌≤◌, List, [], ◌++◌, Option, length, take, get_or, subst, sym, arith}
-use Rattle.walrus_types.specs.Locals.{locals}
-use Rattle.walrus_types.specs.declared.value.ValType.{ValType}
-use Rattle.walrus_types.specs.declared.value.ValType.TheVariants.{I32}
+use Rattle.walrus_base.specs.Locals.{locals}
+use Rattle.walrus_base.specs.declared.value.ValType.{ValType}
+use Rattle.walrus_base.specs.declared.value.ValType.TheVariants.{I32}
 use Rattle.walrus_bodies.specs.BodyRead.{AddsLocals}
-use Rattle.walrus_functions.proofs.ParameterLemmas.{adds_nothing, adds_one_more, adds_stay, take_next}
+use Rattle.walrus_functions.proofs.ParameterLemmas.{adds_nothing, adds_stay, take_next}
 use Rattle.std.proofs.lemmas.List.{take_all}
 use Rattle.std.proofs.lemmas.Result.{err_from_is_err_and}
 use Rattle.walrus_base.specs.declared.id.Id.{Id}
 use Rattle.walrus_base.specs.declared.keys.LocalKey.{LocalKey}
-use Rattle.walrus_types.specs.declared.locals.Local.{Local}
+use Rattle.walrus_base.specs.declared.locals.Local.{Local}
 use Rattle.walrus_functions.specs.ReadFunction.{StaysInFront}
 use Rattle.walrus_functions.proofs.HandlerLemmas.{stays_trans}
 use Rattle.walrus_functions.proofs.read.add_locals.Goals as goal
+use Rattle.walrus_bodies.proofs.BodyLemmas.{adds-more as adds_one_more}
 
 pub loop-ty-preserved : goal.loop-ty-preserved
 loop-ty-preserved c =

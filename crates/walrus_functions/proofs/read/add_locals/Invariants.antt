@@ -1,5 +1,5 @@
 use Rattle.std.proofs.Common.{take}
-use Rattle.walrus_types.specs.Locals.{locals}
+use Rattle.walrus_base.specs.Locals.{locals}
 use Rattle.walrus_bodies.specs.BodyRead.{AddsLocals}
 use Rattle.walrus_functions.proofs.read.add_locals.Given as goal
 

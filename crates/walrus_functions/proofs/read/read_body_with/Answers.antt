@@ -3,13 +3,13 @@ use Rattle.std.specs.Fn.{FnReturnsAt}
 use Rattle.std.proofs.lemmas.List.{length-map}
 use Rattle.walrus_base.specs.Arena.{item_at}
 use Rattle.walrus_base.specs.Id.{place}
-use Rattle.walrus_types.specs.Locals.{locals}
-use Rattle.walrus_types.specs.ModuleTypes.{type_slots}
-use Rattle.walrus_types.specs.Value.{val_type}
+use Rattle.walrus_base.specs.Locals.{locals}
+use Rattle.walrus_base.specs.ModuleTypes.{type_slots}
+use Rattle.walrus_base.specs.Value.{val_type}
 use Rattle.walrus_code.specs.Indices.{ids_at}
 use Rattle.walrus_bodies.specs.FunctionTypes.{is_function_at}
-use Rattle.walrus_text.specs.PlainCode.{limits_in}
-use Rattle.walrus_text.specs.Scanned.{AreInPlace, IsPlace}
+use Rattle.walrus_bodies.specs.PlainCode.{limits_in}
+use Rattle.walrus_bodies.specs.Scanned.{AreInPlace, IsPlace}
 use Rattle.walrus_functions.specs.Handlers.{params_of}
 use Rattle.walrus_functions.specs.Plain.{IfPlain, IsPlainRead}
 use Rattle.walrus_functions.specs.ReadFunction.{Given}

@@ -5,17 +5,17 @@ use Rattle.walrus_base.specs.Arena.{item_at}
 use Rattle.walrus_base.specs.Id.{place}
 use Rattle.walrus_base.specs.declared.id.Id.{Id}
 use Rattle.walrus_base.specs.declared.keys.LocalKey.{LocalKey}
-use Rattle.walrus_types.specs.Locals.{locals}
-use Rattle.walrus_types.specs.ModuleTypes.{type_slots}
-use Rattle.walrus_types.specs.Operators.{Op}
-use Rattle.walrus_types.specs.Value.{val_type}
+use Rattle.walrus_base.specs.Locals.{locals}
+use Rattle.walrus_base.specs.ModuleTypes.{type_slots}
+use Rattle.walrus_base.specs.Operators.{Op}
+use Rattle.walrus_base.specs.Value.{val_type}
 use Rattle.walrus_code.specs.Code.{ops_of}
 use Rattle.walrus_code.specs.Indices.{ids_at}
 use Rattle.walrus_code.specs.declared.location.InstrLocId.{InstrLocId}
 use Rattle.walrus_bodies.specs.Body.{Context, BodyReads, context}
 use Rattle.walrus_bodies.specs.BodyRead.{BodyIsRead, BodyLocated, ReadsBody}
 use Rattle.walrus_bodies.specs.FunctionTypes.{is_function_at}
-use Rattle.walrus_text.specs.Function.{body_of}
+use Rattle.walrus_bodies.specs.Function.{body_of}
 use Rattle.walrus_functions.specs.Handlers.{handlers_of, params_of}
 use Rattle.walrus_functions.specs.ReadFunction.{AddsTypes, locals_from}
 use Rattle.walrus_functions.specs.Signatures.{slots_of, tag_places}

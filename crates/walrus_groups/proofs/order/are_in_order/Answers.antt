@@ -1,8 +1,8 @@
 use Rattle.std.proofs.Common.{false, ap, ◌∙◌, sym, subst, ◌&&◌}
 use Rattle.std.specs.List.{list_all}
 use Rattle.walrus_base.proofs.Entries.{AllThere, entries_there}
-use Rattle.walrus_types.specs.ModuleTypes.{type_slots}
-use Rattle.walrus_types.specs.TypesLeft.{types_left}
+use Rattle.walrus_base.specs.ModuleTypes.{type_slots}
+use Rattle.walrus_base.specs.TypesLeft.{types_left}
 use Rattle.walrus_groups.specs.Ordered.{is_ordered}
 use Rattle.walrus_groups.proofs.OrderWhole.{told, told_out}
 use Rattle.walrus_groups.proofs.order.are_in_order.Goals as goal

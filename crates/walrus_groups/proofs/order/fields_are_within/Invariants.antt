@@ -1,5 +1,5 @@
 use Rattle.std.proofs.Common.{◌≡◌, map, drop}
-use Rattle.walrus_types.specs.Composite.{field_type}
+use Rattle.walrus_base.specs.Composite.{field_type}
 use Rattle.walrus_groups.specs.Ordered.{fields_within}
 use Rattle.walrus_groups.proofs.order.fields_are_within.Given as goal
 

@@ -1,5 +1,5 @@
 use Rattle.std.proofs.Common.{◌≡◌, map, drop}
-use Rattle.walrus_types.specs.Value.{val_type}
+use Rattle.walrus_base.specs.Value.{val_type}
 use Rattle.walrus_groups.specs.Ordered.{vals_within}
 use Rattle.walrus_groups.proofs.order.values_are_within.Given as goal
 

@@ -1,8 +1,8 @@
 use Rattle.std.proofs.Common.{◌≡◌, ◌+◌, length, sym, ap, ◌∙◌, arith}
 use Rattle.std.proofs.lemmas.List.FromFn.{length-range_with_len}
-use Rattle.walrus_types.specs.Operators.{Types}
+use Rattle.walrus_base.specs.Operators.{Types}
 use Rattle.walrus_code.specs.Indices.{places_in}
-use Rattle.walrus_code.proofs.Ranges.{counted-on, not-in-range, place-in-range}
+use Rattle.walrus_base.proofs.Ranges.{counted-on, not-in-range, place-in-range}
 use Rattle.walrus_groups.proofs.read.give_indices.Goals as goal
 
 pub push_type-requires-clause-is_new : goal.push_type-requires-clause-is_new

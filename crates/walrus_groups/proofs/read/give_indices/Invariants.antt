@@ -1,6 +1,6 @@
 use Rattle.std.proofs.Common.{◌≡◌, ◌+◌, length}
 use Rattle.std.specs.List.{range_with_len}
-use Rattle.walrus_types.specs.Operators.{Types}
+use Rattle.walrus_base.specs.Operators.{Types}
 use Rattle.walrus_code.specs.Indices.{places_in}
 use Rattle.walrus_groups.specs.Reading.{OnlyTypesChange}
 use Rattle.walrus_groups.proofs.read.give_indices.Given as goal

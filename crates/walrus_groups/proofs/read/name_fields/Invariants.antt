@@ -1,5 +1,5 @@
 use Rattle.std.proofs.Common.{◌≡◌, map, drop}
-use Rattle.walrus_types.specs.Composite.{field_type}
+use Rattle.walrus_base.specs.Composite.{field_type}
 use Rattle.walrus_code.specs.Indices.{ids_at}
 use Rattle.walrus_groups.specs.Groups.{field_of}
 use Rattle.walrus_groups.specs.Named.{named_fields}

@@ -1,6 +1,6 @@
 use Rattle.std.proofs.Common.{◌≡◌, map, drop}
 use Rattle.wasm_entries.specs.Record.{sub}
-use Rattle.walrus_types.specs.Composite.{new_sub}
+use Rattle.walrus_base.specs.Composite.{new_sub}
 use Rattle.walrus_code.specs.Indices.{ids_at}
 use Rattle.walrus_groups.specs.Groups.{sub_of}
 use Rattle.walrus_groups.specs.Named.{each}

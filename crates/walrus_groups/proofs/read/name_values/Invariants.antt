@@ -1,5 +1,5 @@
 use Rattle.std.proofs.Common.{◌≡◌, map, drop}
-use Rattle.walrus_types.specs.Value.{val_type}
+use Rattle.walrus_base.specs.Value.{val_type}
 use Rattle.walrus_code.specs.Indices.{ids_at}
 use Rattle.walrus_code.specs.FromRaw.{val_of}
 use Rattle.walrus_groups.specs.Named.{named_vals}

@@ -2,8 +2,8 @@ use Rattle.std.proofs.Common.{length, map, sym, ap, ◌∙◌}
 use Rattle.std.specs.List.{range_with_len}
 use Rattle.std.proofs.lemmas.Result.{err_from_is_err_and}
 use Rattle.wasm_entries.specs.Record.{sub}
-use Rattle.walrus_types.specs.Operators.{Types}
-use Rattle.walrus_types.specs.ModuleTypes.{type_slots}
+use Rattle.walrus_base.specs.Operators.{Types}
+use Rattle.walrus_base.specs.ModuleTypes.{type_slots}
 use Rattle.walrus_code.specs.Indices.{places_in}
 use Rattle.walrus_groups.proofs.GroupLemmas.{counted, ids-behind-types, places-after, group-long, group-read, group-refused, members-refused}
 use Rattle.walrus_groups.proofs.Unnamed.{group_added}

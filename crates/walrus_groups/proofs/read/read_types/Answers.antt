@@ -1,7 +1,7 @@
 use Rattle.std.proofs.Common.{◌+◌, List, map, drop, Ok, Err, sym, ◌∙◌, subst}
 use Rattle.std.proofs.lemmas.Result.{err_from_is_err_and}
 use Rattle.wasm_entries.specs.Record.{Group, sub, group}
-use Rattle.walrus_types.specs.ModuleTypes.{type_slots}
+use Rattle.walrus_base.specs.ModuleTypes.{type_slots}
 use Rattle.walrus_groups.specs.Groups.{ReadsTypes}
 use Rattle.walrus_groups.proofs.GroupLemmas.{none-read, group-then, group-ends, groups-next, groups-end}
 use Rattle.walrus_groups.proofs.Unnamed.{added_then}

@@ -1,7 +1,7 @@
 use Rattle.std.proofs.Common.{List, map, drop, Option, Result}
 use Rattle.wasm_entries.specs.Record.{group}
-use Rattle.walrus_types.specs.ModuleTypes.{type_names, type_slots}
-use Rattle.walrus_types.specs.TypeDef.{TypeDef}
+use Rattle.walrus_base.specs.ModuleTypes.{type_names, type_slots}
+use Rattle.walrus_base.specs.TypeDef.{TypeDef}
 use Rattle.walrus_code.specs.declared.error.IrError.{IrError}
 use Rattle.walrus_groups.specs.Groups.{ReadsTypes}
 use Rattle.walrus_groups.specs.Reading.{AddsUnnamed, TypesInPlace, OnlyTypesChange}

@@ -1,5 +1,5 @@
 use Rattle.wasm_entries.specs.TypeSpelling.{FieldStands}
-use Rattle.walrus_types.specs.Composite.{field_type}
+use Rattle.walrus_base.specs.Composite.{field_type}
 use Rattle.walrus_groups.specs.Groups.{field_of}
 use Rattle.walrus_code.specs.Indices.{index_of}
 use Rattle.walrus_groups.specs.Named.{named_field}

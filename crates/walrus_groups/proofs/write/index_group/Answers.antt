@@ -1,9 +1,9 @@
 use Rattle.std.proofs.Common.{ap, ◌∙◌, sym, subst}
 use Rattle.wasm_entries.specs.Record.{sub}
 use Rattle.walrus_base.specs.Id.{place}
-use Rattle.walrus_types.specs.ModuleTypes.{type_slots}
-use Rattle.walrus_types.specs.TypesLeft.{ids_left}
-use Rattle.walrus_types.specs.TypeSlots.{group_at}
+use Rattle.walrus_base.specs.ModuleTypes.{type_slots}
+use Rattle.walrus_base.specs.TypesLeft.{ids_left}
+use Rattle.walrus_base.specs.TypeSlots.{group_at}
 use Rattle.walrus_code.specs.Indices.{index_of}
 use Rattle.walrus_groups.specs.Written.{StandsFor}
 use Rattle.walrus_groups.proofs.WrittenTurns.{AllLive, completes_first, completes_next, completes_last, group_live, live_after}

@@ -1,8 +1,8 @@
 use Rattle.wasm_entries.specs.Record.{sub}
 use Rattle.walrus_base.specs.Id.{place}
-use Rattle.walrus_types.specs.ModuleTypes.{type_slots}
-use Rattle.walrus_types.specs.TypesLeft.{ids_left}
-use Rattle.walrus_types.specs.TypeSlots.{group_at}
+use Rattle.walrus_base.specs.ModuleTypes.{type_slots}
+use Rattle.walrus_base.specs.TypesLeft.{ids_left}
+use Rattle.walrus_base.specs.TypeSlots.{group_at}
 use Rattle.walrus_code.specs.Indices.{index_of}
 use Rattle.walrus_groups.specs.Written.{StandsFor}
 use Rattle.walrus_groups.proofs.WrittenTurns.{AllLive, Completes}

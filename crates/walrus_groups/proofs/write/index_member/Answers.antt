@@ -1,6 +1,6 @@
 use Rattle.walrus_base.specs.Id.{place}
-use Rattle.walrus_types.specs.ModuleTypes.{type_slots}
-use Rattle.walrus_types.specs.TypeDef.{type_def}
+use Rattle.walrus_base.specs.ModuleTypes.{type_slots}
+use Rattle.walrus_base.specs.TypeDef.{type_def}
 use Rattle.walrus_code.specs.Indices.{index_of}
 use Rattle.walrus_groups.proofs.WrittenCauses.{member_written}
 use Rattle.walrus_groups.proofs.write.index_member.Goals as goal

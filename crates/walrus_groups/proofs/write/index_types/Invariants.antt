@@ -1,8 +1,8 @@
 use Rattle.wasm_entries.specs.Record.{group}
 use Rattle.walrus_base.specs.Arena.{entries}
 use Rattle.walrus_base.proofs.Entries.{AllThere}
-use Rattle.walrus_types.specs.ModuleTypes.{type_slots}
-use Rattle.walrus_types.specs.TypesLeft.{types_left}
+use Rattle.walrus_base.specs.ModuleTypes.{type_slots}
+use Rattle.walrus_base.specs.TypesLeft.{types_left}
 use Rattle.walrus_code.specs.Indices.{index_of}
 use Rattle.walrus_groups.specs.Written.{GroupStandsFor, firsts}
 use Rattle.walrus_groups.proofs.WrittenTurns.{Completes}

@@ -1,5 +1,5 @@
 use Rattle.wasm_forms.specs.Types.{ValueStands}
-use Rattle.walrus_types.specs.Value.{val_type}
+use Rattle.walrus_base.specs.Value.{val_type}
 use Rattle.walrus_code.specs.FromRaw.{val_of}
 use Rattle.walrus_code.specs.Indices.{index_of}
 use Rattle.walrus_code.specs.Names.{named_val}

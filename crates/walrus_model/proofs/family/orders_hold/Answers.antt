@@ -1,12 +1,12 @@
 use Rattle.std.proofs.Common.{ℕ, List, map, sym, subst, refl}
 use Rattle.std.specs.Prelude.{Option}
 use Rattle.std.specs.List.{AllZip}
-use Rattle.walrus_types.specs.Operators.{Tables}
+use Rattle.walrus_base.specs.Operators.{Tables}
 use Rattle.walrus_model.specs.Abstract.{Global, Table}
 use Rattle.walrus_model.specs.Ordered.{StandsFor}
 use Rattle.walrus_model.specs.Spaces.{SameThing}
 use Rattle.walrus_model.proofs.AlongRecords.{stand_by_records}
-use Rattle.walrus_model.proofs.Lists.{map-itself}
+use Rattle.walrus_base.proofs.Lists.{map-itself}
 use Rattle.walrus_model.proofs.OrderOfPlaces.{origins_in_order}
 use Rattle.walrus_model.proofs.family.orders_hold.Goals as goal
 

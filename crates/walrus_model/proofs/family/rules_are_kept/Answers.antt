@@ -1,5 +1,5 @@
 use Rattle.std.specs.Prelude.{◌<◌}
-use Rattle.walrus_types.specs.Operators.{Types, Globals}
+use Rattle.walrus_base.specs.Operators.{Types, Globals}
 use Rattle.walrus_model.specs.Order.{ByImport}
 use Rattle.walrus_model.proofs.RulesSteps.{collected_keeps_rules}
 use Rattle.walrus_model.proofs.RulesTaken.{whole_keeps_rules}

@@ -1,6 +1,6 @@
 use Rattle.std.proofs.Common.{sym, ◌∙◌}
 use Rattle.walrus_contents.specs.View.{lent}
-use Rattle.walrus_module.proofs.Deciding.{decides_by, refused}
+use Rattle.walrus_model.proofs.Deciding.{decides_by, refused}
 use Rattle.walrus_module.proofs.RulesTested.{exports_hold, names_kept, start_kept}
 use Rattle.walrus_module.proofs.check.are_exports_kept.Goals as goal
 

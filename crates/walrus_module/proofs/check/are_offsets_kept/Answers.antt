@@ -1,6 +1,6 @@
 use Rattle.std.proofs.Common.{sym, ◌∙◌}
 use Rattle.walrus_contents.specs.View.{lent}
-use Rattle.walrus_module.proofs.Deciding.{refused, told_last}
+use Rattle.walrus_model.proofs.Deciding.{refused, told_last}
 use Rattle.walrus_module.proofs.OffsetsTested.{data_kept, elements_kept, offsets_hold}
 use Rattle.walrus_module.proofs.check.are_offsets_kept.Goals as goal
 

@@ -2,7 +2,7 @@ use Rattle.std.proofs.Common.{ℕ, List, ◌++◌, map, sym, ap, ap₂, ◌∙�
 use Rattle.std.specs.Bool.{Decides}
 use Rattle.std.proofs.lemmas.List.{length-map}
 use Rattle.walrus_base.specs.Id.{place}
-use Rattle.walrus_types.specs.Operators.{locals_of}
+use Rattle.walrus_base.specs.Operators.{locals_of}
 use Rattle.walrus_functions.specs.Declaring.{AreOnce}
 use Rattle.walrus_items.specs.Function.{args_of, body_of}
 use Rattle.walrus_module.specs.Tested.{DeclaresFew}

@@ -1,6 +1,6 @@
 use Rattle.walrus_items.specs.Functions.{FunctionValue}
 use Rattle.walrus_module.specs.Tested.{KindDeclaresFew}
-use Rattle.walrus_module.proofs.Deciding.{all_goes}
+use Rattle.walrus_model.proofs.Deciding.{all_goes}
 use Rattle.walrus_module.proofs.declared.do_all_declare_few.Goals as goal
 
 pub loop-function-preserved : goal.loop-function-preserved

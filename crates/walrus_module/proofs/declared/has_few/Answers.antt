@@ -1,7 +1,7 @@
 use Rattle.std.proofs.Common.{arith, subst, ◌≤◌, List}
 use Rattle.std.specs.Prelude.{Contains}
 use Rattle.std.proofs.lemmas.Bool.{leb-true}
-use Rattle.walrus_types.specs.Operators.{Op, locals_of}
+use Rattle.walrus_base.specs.Operators.{Op, locals_of}
 use Rattle.walrus_contents.proofs.PlainBodies.{each_plain, locals_within}
 use Rattle.walrus_model.specs.Text.{first_local_of, local_count_of, ops_in}
 use Rattle.walrus_module.proofs.FewLocals.{few_within}

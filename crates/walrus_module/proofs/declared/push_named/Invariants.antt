@@ -1,6 +1,6 @@
 use Rattle.std.proofs.Common.{◌≡◌, ◌++◌, map, drop}
 use Rattle.walrus_base.specs.Id.{place}
-use Rattle.walrus_types.specs.Operators.{locals_of}
+use Rattle.walrus_base.specs.Operators.{locals_of}
 use Rattle.walrus_code.specs.Code.{ops_of}
 use Rattle.walrus_module.proofs.declared.push_named.Given as goal
 

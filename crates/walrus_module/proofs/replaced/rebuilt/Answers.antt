@@ -2,9 +2,9 @@ use Rattle.std.proofs.Common.{rules, ◌≡◌, List, [], refl, inr, subst}
 use Rattle.std.specs.Prelude.{Result}
 use Rattle.walrus_base.specs.declared.id.Id.{Id}
 use Rattle.walrus_base.specs.declared.keys.LocalKey.{LocalKey}
-use Rattle.walrus_builder.specs.Sequence.{built}
-use Rattle.walrus_builder.specs.declared.sequence.InstrSeqBuilder.{InstrSeqBuilder}
-use Rattle.walrus_parts.specs.declared.error.Error.{Error}
+use Rattle.walrus_ir.specs.Sequence.{built}
+use Rattle.walrus_ir.specs.declared.sequence.InstrSeqBuilder.{InstrSeqBuilder}
+use Rattle.walrus_items.specs.declared.error.Error.{Error}
 use Rattle.walrus_module.specs.Replaced.{Builds, IsBuilt}
 use Rattle.walrus_module.proofs.replaced.rebuilt.Goals as goal
 

@@ -1,8 +1,8 @@
 use Rattle.std.specs.Prelude.{◌≡◌}
 use Rattle.std.specs.List.{list_all}
 use Rattle.walrus_base.specs.Arena.{entries}
-use Rattle.walrus_types.specs.ModuleTypes.{type_slots}
-use Rattle.walrus_types.specs.TypesLeft.{types_left}
+use Rattle.walrus_base.specs.ModuleTypes.{type_slots}
+use Rattle.walrus_base.specs.TypesLeft.{types_left}
 use Rattle.walrus_module.specs.Tested.{entry_is_spelled}
 use Rattle.walrus_module.proofs.spelled.are_types_spelled.Given as goal
 

@@ -1,7 +1,7 @@
 use Rattle.std.specs.Prelude.{◌≡◌, drop, map}
 use Rattle.std.specs.List.{list_all}
 use Rattle.walrus_module.specs.Tested.{val_is_spelled}
-use Rattle.walrus_types.specs.Value.{val_type}
+use Rattle.walrus_base.specs.Value.{val_type}
 use Rattle.walrus_module.proofs.spelled.are_vals_spelled.Given as goal
 
 -- bytes spell each so far: whether they spell all shows in those that are still to come

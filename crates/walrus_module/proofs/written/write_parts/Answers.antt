@@ -3,7 +3,7 @@ use Rattle.std.specs.Global.{Vec}
 use Rattle.std.proofs.lemmas.Result.{err_from_is_err_and}
 use Rattle.walrus_code.specs.Indices.{index_of}
 use Rattle.walrus_contents.specs.View.{lent, parts_view}
-use Rattle.walrus_parts.specs.declared.transform.CodeTransform.{CodeTransform}
+use Rattle.walrus_items.specs.declared.transform.CodeTransform.{CodeTransform}
 use Rattle.walrus_writing.specs.Emitted.{refusal_of, told}
 use Rattle.walrus_writing.proofs.RefusesAll.{plan_refused_of}
 use Rattle.walrus_module.specs.Asked.{OneAskedMayRefuse, all_asked, asked_first}

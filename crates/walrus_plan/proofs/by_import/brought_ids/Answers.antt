@@ -1,5 +1,5 @@
 use Rattle.walrus_base.specs.Arena.{items}
-use Rattle.walrus_types.specs.Operators.{Functions, Tables, Memories, Tags, Globals}
+use Rattle.walrus_base.specs.Operators.{Functions, Tables, Memories, Tags, Globals}
 use Rattle.walrus_items.specs.Imports.{import_value, imports}
 use Rattle.walrus_plan.proofs.BroughtBy.{comes_on}
 use Rattle.walrus_plan.proofs.by_import.brought_ids.Goals as goal

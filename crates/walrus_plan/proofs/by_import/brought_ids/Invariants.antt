@@ -1,7 +1,7 @@
 use Rattle.std.proofs.Common.{map}
 use Rattle.walrus_base.specs.Arena.{items}
 use Rattle.walrus_base.specs.Id.{place}
-use Rattle.walrus_types.specs.Operators.{Functions, Tables, Memories, Tags, Globals}
+use Rattle.walrus_base.specs.Operators.{Functions, Tables, Memories, Tags, Globals}
 use Rattle.walrus_items.specs.Imports.{imports, imports_left}
 use Rattle.walrus_plan.proofs.BroughtBy.{Comes}
 use Rattle.walrus_plan.proofs.by_import.brought_ids.Given as goal

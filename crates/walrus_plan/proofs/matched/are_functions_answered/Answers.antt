@@ -1,10 +1,10 @@
 use Rattle.std.proofs.Common.{ap, sym, ◌∙◌, refl}
-use Rattle.walrus_types.specs.Operators.{Functions}
+use Rattle.walrus_base.specs.Operators.{Functions}
 use Rattle.walrus_items.specs.Functions.{functions, function_entries_left, function_value}
 use Rattle.walrus_model.specs.WellMade.{kind_import}
 use Rattle.walrus_contents.specs.View as seen
 use Rattle.walrus_contents.specs.View.{parts_view}
-use Rattle.walrus_contents.proofs.Walked.{walk_begins}
+use Rattle.walrus_model.proofs.Walked.{walk_begins}
 use Rattle.walrus_plan.proofs.Matching.{AnsweredAt, all_answered, answers_go, function_says, lacks_here}
 use Rattle.walrus_plan.proofs.matched.are_functions_answered.Goals as goal
 

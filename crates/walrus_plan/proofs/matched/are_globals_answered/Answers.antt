@@ -1,10 +1,10 @@
 use Rattle.std.proofs.Common.{ap, sym, ◌∙◌, refl}
-use Rattle.walrus_types.specs.Operators.{Globals}
+use Rattle.walrus_base.specs.Operators.{Globals}
 use Rattle.walrus_items.specs.Globals.{globals, global_entries_left, global_value}
 use Rattle.walrus_model.specs.WellMade.{origin_import}
 use Rattle.walrus_contents.specs.View as seen
 use Rattle.walrus_contents.specs.View.{parts_view}
-use Rattle.walrus_contents.proofs.Walked.{walk_begins}
+use Rattle.walrus_model.proofs.Walked.{walk_begins}
 use Rattle.walrus_plan.proofs.Matching.{AnsweredAt, all_answered, answers_go, global_says, lacks_here}
 use Rattle.walrus_plan.proofs.matched.are_globals_answered.Goals as goal
 

@@ -1,7 +1,7 @@
-use Rattle.walrus_types.specs.Operators.{Globals}
+use Rattle.walrus_base.specs.Operators.{Globals}
 use Rattle.walrus_items.specs.Globals.{globals, global_entries_left}
 use Rattle.walrus_contents.specs.View.{parts_view}
-use Rattle.walrus_contents.proofs.Walked.{Walked}
+use Rattle.walrus_model.proofs.Walked.{Walked}
 use Rattle.walrus_plan.proofs.Matching.{AnsweredAt}
 use Rattle.walrus_plan.proofs.matched.are_globals_answered.Given as goal
 

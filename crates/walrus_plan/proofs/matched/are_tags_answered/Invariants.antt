@@ -1,7 +1,7 @@
-use Rattle.walrus_types.specs.Operators.{Tags}
+use Rattle.walrus_base.specs.Operators.{Tags}
 use Rattle.walrus_items.specs.Tags.{tags, tag_entries_left}
 use Rattle.walrus_contents.specs.View.{parts_view}
-use Rattle.walrus_contents.proofs.Walked.{Walked}
+use Rattle.walrus_model.proofs.Walked.{Walked}
 use Rattle.walrus_plan.proofs.Matching.{AnsweredAt}
 use Rattle.walrus_plan.proofs.matched.are_tags_answered.Given as goal
 

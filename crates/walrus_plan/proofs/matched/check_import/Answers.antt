@@ -1,11 +1,11 @@
 use Rattle.std.proofs.Common.{◌∙◌, ap, sym}
 use Rattle.std.proofs.lemmas.Bool.{eqb-false}
 use Rattle.walrus_base.specs.Id.{place}
-use Rattle.walrus_parts.specs.Kinds.{imported}
+use Rattle.walrus_items.specs.Kinds.{imported}
 use Rattle.walrus_model.specs.WellMade.{import_of}
 use Rattle.walrus_contents.specs.View.{parts_view}
-use Rattle.walrus_rules.specs.Refused.{NotBrought}
-use Rattle.walrus_rules.proofs.Matches.{imported_twice, local_imported}
+use Rattle.walrus_theorem.specs.Refused.{NotBrought}
+use Rattle.walrus_theorem.proofs.Matches.{imported_twice, local_imported}
 use Rattle.walrus_plan.proofs.matched.check_import.Goals as goal
 
 pub returns-in_default : goal.returns-in_default

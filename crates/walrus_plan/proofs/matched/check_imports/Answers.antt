@@ -3,8 +3,8 @@ use Rattle.std.proofs.lemmas.Result.{err_from_is_err_and}
 use Rattle.walrus_items.specs.Imports.{import_value, imports, import_entries_left}
 use Rattle.walrus_contents.specs.View as seen
 use Rattle.walrus_contents.specs.View.{parts_view}
-use Rattle.walrus_contents.proofs.Walked.{walk_begins}
-use Rattle.walrus_rules.proofs.Matches.{imports_live}
+use Rattle.walrus_model.proofs.Walked.{walk_begins}
+use Rattle.walrus_theorem.proofs.Matches.{imports_live}
 use Rattle.walrus_plan.proofs.Matching.{MatchedAt, import_there, imports_all, imports_go}
 use Rattle.walrus_plan.proofs.matched.check_imports.Goals as goal
 

@@ -1,6 +1,6 @@
 use Rattle.walrus_items.specs.Imports.{imports, import_entries_left}
 use Rattle.walrus_contents.specs.View.{parts_view}
-use Rattle.walrus_contents.proofs.Walked.{Walked}
+use Rattle.walrus_model.proofs.Walked.{Walked}
 use Rattle.walrus_plan.proofs.Matching.{MatchedAt}
 use Rattle.walrus_plan.proofs.matched.check_imports.Given as goal
 

@@ -1,7 +1,7 @@
 use Rattle.std.proofs.Common.{arith}
 use Rattle.std.proofs.lemmas.List.{length-map}
 use Rattle.walrus_base.specs.Id.{place}
-use Rattle.walrus_types.specs.Operators.{Types, Functions, Tables, Memories, Tags, Globals, Elements, DataSegments}
+use Rattle.walrus_base.specs.Operators.{Types, Functions, Tables, Memories, Tags, Globals, Elements, DataSegments}
 use Rattle.walrus_plan.proofs.plan.check_counts.Goals as goal
 use Rattle.walrus_plan.proofs.plan.check_counts.Goals.{then-len-most-via-then-len-most, then-len-most-via-else-len-most+then-has_too_many_functions, then-len-most-via-else-len-most+else-has_too_many_functions+then-len-most-2, then-len-most-via-else-len-most+else-has_too_many_functions+else-len-most-2+then-len-most-3, then-len-most-via-else-len-most+else-has_too_many_functions+else-len-most-2+else-len-most-3+then-len-most-4, then-len-most-via-else-len-most+else-has_too_many_functions+else-len-most-2+else-len-most-3+else-len-most-4+then-len-most-5, then-len-most-via-else-len-most+else-has_too_many_functions+else-len-most-2+else-len-most-3+else-len-most-4+else-len-most-5+then-len-most-6, then-len-most-via-else-len-most+else-has_too_many_functions+else-len-most-2+else-len-most-3+else-len-most-4+else-len-most-5+else-len-most-6+then-len-most-7}
 

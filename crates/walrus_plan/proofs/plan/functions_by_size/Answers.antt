@@ -3,9 +3,9 @@ use Rattle.std.specs.List.Sorted.{IsPermutation}
 use Rattle.std.proofs.lemmas.List.Sorted.{IsPermutation-map}
 use Rattle.std.specs.Ordering.{is_lt}
 use Rattle.walrus_base.specs.Id.{place}
-use Rattle.walrus_model.proofs.Lists.{map-map}
+use Rattle.walrus_base.proofs.Lists.{map-map}
 use Rattle.walrus_plan.specs.Sizes.{by_size}
-use Rattle.walrus_plan.proofs.Turns.{sorted_seen}
+use Rattle.walrus_base.proofs.ZipTurns.{sorted_seen}
 use Rattle.walrus_plan.proofs.plan.functions_by_size.Goals as goal
 
 pub returns-clause-value : goal.returns-clause-value

@@ -1,6 +1,6 @@
 use Rattle.std.proofs.Common.{refl}
 use Rattle.walrus_base.specs.Id.{place}
-use Rattle.walrus_plan.proofs.Rows.{left_turn, left_end}
+use Rattle.walrus_base.proofs.Rows.{left_turn, left_end}
 use Rattle.walrus_plan.proofs.plan.ids_of.Goals as goal
 
 pub loop-id-preserved : goal.loop-id-preserved

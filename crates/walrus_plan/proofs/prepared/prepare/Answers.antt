@@ -3,11 +3,11 @@ use Rattle.std.specs.Bool.{OnFalse}
 use Rattle.std.proofs.lemmas.List.{length-map}
 use Rattle.std.proofs.lemmas.Result.{err_from_is_err_and}
 use Rattle.walrus_base.specs.Id.{place}
-use Rattle.walrus_types.specs.ModuleTypes.{type_slots}
-use Rattle.walrus_types.specs.Operators.{DataSegments}
+use Rattle.walrus_base.specs.ModuleTypes.{type_slots}
+use Rattle.walrus_base.specs.Operators.{DataSegments}
 use Rattle.walrus_groups.specs.Indexed.{IsOutOfOrder}
 use Rattle.walrus_contents.specs.View.{parts_view}
-use Rattle.walrus_rules.specs.Spelling.{IsCount}
+use Rattle.walrus_theorem.specs.Spelling.{IsCount}
 use Rattle.walrus_plan.specs.Places.{places}
 use Rattle.walrus_plan.proofs.RefusesIndex.{out_of_order}
 use Rattle.walrus_plan.proofs.RefusesPlanned.{counts_refused, unmatched_refused}

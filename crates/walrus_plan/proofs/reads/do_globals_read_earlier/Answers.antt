@@ -3,9 +3,9 @@ use Rattle.std.specs.Prelude.{IsSome}
 use Rattle.walrus_base.specs.Id.{place}
 use Rattle.walrus_items.specs.Globals.{GlobalValue, globals, global_entries_left, global_value}
 use Rattle.walrus_contents.specs.View.{origin_of}
-use Rattle.walrus_contents.proofs.Walked.{next_there, walk_begins, walk_goes, walk_ends}
+use Rattle.walrus_model.proofs.Walked.{next_there, walk_begins, walk_goes, walk_ends}
 use Rattle.walrus_model.specs.Abstract.{Defined}
-use Rattle.walrus_model.proofs.Standing.{some_inj}
+use Rattle.walrus_base.proofs.Standing.{some_inj}
 use Rattle.walrus_plan.proofs.ReadsBefore.{GlobalPasses, global_lacks, globals_read, kind_own}
 use Rattle.walrus_plan.proofs.reads.do_globals_read_earlier.Goals as goal
 

@@ -1,5 +1,5 @@
 use Rattle.walrus_items.specs.Globals.{globals, global_entries_left}
-use Rattle.walrus_contents.proofs.Walked.{Walked}
+use Rattle.walrus_model.proofs.Walked.{Walked}
 use Rattle.walrus_plan.proofs.ReadsBefore.{GlobalPasses}
 use Rattle.walrus_plan.proofs.reads.do_globals_read_earlier.Given as goal
 

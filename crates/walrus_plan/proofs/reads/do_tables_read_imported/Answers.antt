@@ -4,7 +4,7 @@ use Rattle.walrus_base.specs.Id.{place}
 use Rattle.walrus_items.specs.Tables.{TableValue, tables, table_entries_left, table_value}
 use Rattle.walrus_contents.specs.View.{table_of}
 use Rattle.walrus_contents.proofs.LiveLemmas.{seen_there}
-use Rattle.walrus_contents.proofs.Walked.{next_there, walk_begins, walk_goes, walk_ends}
+use Rattle.walrus_model.proofs.Walked.{next_there, walk_begins, walk_goes, walk_ends}
 use Rattle.walrus_plan.proofs.ReadsBefore.{TablePasses, table_lacks, tables_read}
 use Rattle.walrus_plan.proofs.reads.do_tables_read_imported.Goals as goal
 

@@ -1,5 +1,5 @@
 use Rattle.walrus_items.specs.Tables.{tables, table_entries_left}
-use Rattle.walrus_contents.proofs.Walked.{Walked}
+use Rattle.walrus_model.proofs.Walked.{Walked}
 use Rattle.walrus_plan.proofs.ReadsBefore.{TablePasses}
 use Rattle.walrus_plan.proofs.reads.do_tables_read_imported.Given as goal
 

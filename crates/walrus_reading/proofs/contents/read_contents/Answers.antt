@@ -14,7 +14,7 @@ use Rattle.wasm_entries.specs.declared.record.RawTable.{RawTable}
 use Rattle.wasm_entries.specs.Record.{data_entry, element_entry, export_entry, global_entry, table_entry}
 use Rattle.wasm_frames.specs.Record.{body_record, custom_record, sections}
 use Rattle.walrus_base.specs.Id.{place}
-use Rattle.walrus_types.specs.ModuleTypes.{type_slots}
+use Rattle.walrus_base.specs.ModuleTypes.{type_slots}
 use Rattle.walrus_code.specs.Indices.{ids_at}
 use Rattle.walrus_functions.specs.Signatures.{slots_of, tag_places}
 use Rattle.walrus_items.specs.Data.{data_segments}

@@ -8,7 +8,7 @@ use Rattle.wasm_entries.specs.Record.{Import, group, import_entry}
 use Rattle.wasm_frames.specs.Record.{sections}
 use Rattle.walrus_code.specs.Indices.{ids_at}
 use Rattle.walrus_groups.specs.Groups.{types_from, AreDeclared}
-use Rattle.walrus_records.proofs.TypesRefer.{types_declared}
+use Rattle.walrus_theorem.proofs.TypesRefer.{types_declared}
 use Rattle.walrus_reading.specs.Stays.{DescStays}
 use Rattle.walrus_reading.proofs.Numbered.{imports_stay}
 use Rattle.walrus_reading.proofs.contents.read_imported.Goals as goal

@@ -3,8 +3,8 @@ use Rattle.walrus_base.specs.Id.{place}
 use Rattle.walrus_contents.specs.View.{element_kind_of}
 use Rattle.walrus_items.specs.Tables.{tables}
 use Rattle.walrus_model.specs.Sections.{is_on_table}
-use Rattle.walrus_parts.specs.declared.segments.ElementKind.TheVariants.{Declared, Passive}
-use Rattle.walrus_parts.specs.declared.segments.ElementKind.{ElementKind}
+use Rattle.walrus_items.specs.declared.segments.ElementKind.TheVariants.{Declared, Passive}
+use Rattle.walrus_items.specs.declared.segments.ElementKind.{ElementKind}
 use Rattle.walrus_reading.proofs.KeptSegments.{inactive_kept}
 use Rattle.walrus_reading.proofs.elements.keep_active.Goals as goal
 

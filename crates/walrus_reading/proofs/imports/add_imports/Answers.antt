@@ -2,7 +2,7 @@ use Rattle.std.proofs.Common.{◌∙◌, refl, sym, subst}
 use Rattle.wasm_entries.specs.Record.{Import, import_entry}
 use Rattle.wasm_entries.specs.declared.record.RawImport.{RawImport}
 use Rattle.walrus_code.specs.Indices.{ids_at}
-use Rattle.walrus_contents.proofs.Taking.{mapped_all}
+use Rattle.walrus_base.proofs.Taking.{mapped_all}
 use Rattle.walrus_reading.specs.Imported.{AddsImport}
 use Rattle.walrus_reading.specs.Stays.{DescStays}
 use Rattle.walrus_reading.proofs.Brought.{all_imported, none_imported, one_more_imported}

@@ -2,7 +2,7 @@ use Rattle.std.proofs.Common.{◌++◌, ap, ◌∙◌, map, sym}
 use Rattle.wasm_frames.specs.Record.{custom_record}
 use Rattle.wasm_payloads.specs.Producers.{field_record}
 use Rattle.walrus_producers.specs.Seen.{producers}
-use Rattle.walrus_rules.specs.Headline.{field_of}
+use Rattle.walrus_theorem.specs.Headline.{field_of}
 use Rattle.walrus_reading.proofs.ProducersHeld.{fields_read}
 use Rattle.walrus_reading.proofs.producers.add_fields.Goals as goal
 

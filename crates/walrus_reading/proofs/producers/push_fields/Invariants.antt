@@ -1,7 +1,7 @@
 use Rattle.std.proofs.Common.{◌≡◌, ◌++◌, map, take}
 use Rattle.wasm_payloads.specs.Producers.{field_record}
 use Rattle.walrus_producers.specs.Seen.{producers}
-use Rattle.walrus_rules.specs.Headline.{field_of}
+use Rattle.walrus_theorem.specs.Headline.{field_of}
 use Rattle.walrus_reading.proofs.producers.push_fields.Given as goal
 
 -- the fields so far stand behind those that were there

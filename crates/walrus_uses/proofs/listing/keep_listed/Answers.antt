@@ -4,7 +4,7 @@ use Rattle.std.specs.Prelude.{Err, None, Ok}
 use Rattle.std.specs.String.{string_bytes}
 use Rattle.std.proofs.lemmas.Result.{err_from_is_err_and}
 use Rattle.walrus_items.specs.Functions.{functions}
-use Rattle.walrus_parts.specs.Roots.{places}
+use Rattle.walrus_items.specs.Roots.{places}
 use Rattle.walrus_module.specs.Flags.{Flags, config_of, defaults}
 use Rattle.walrus_module.specs.Meaning.{Meaning}
 use Rattle.walrus_module.specs.declared.entry.SectionEntry.TheVariants.{Boxed}

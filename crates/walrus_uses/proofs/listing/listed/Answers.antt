@@ -3,7 +3,7 @@ use Rattle.std.proofs.lemmas.List.{map-append}
 use Rattle.std.proofs.lemmas.Result.{err_from_is_err_and}
 use Rattle.walrus_base.specs.Id.{place}
 use Rattle.walrus_items.specs.Functions.{functions}
-use Rattle.walrus_parts.specs.Roots.{places}
+use Rattle.walrus_items.specs.Roots.{places}
 use Rattle.walrus_uses.proofs.ListedBytes.{SoFar, next, none_listed}
 use Rattle.walrus_uses.proofs.listing.listed.Goals as goal
 

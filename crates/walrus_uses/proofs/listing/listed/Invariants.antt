@@ -1,6 +1,6 @@
 use Rattle.std.proofs.Common.{length}
 use Rattle.walrus_items.specs.Functions.{functions}
-use Rattle.walrus_parts.specs.Roots.{places}
+use Rattle.walrus_items.specs.Roots.{places}
 use Rattle.walrus_uses.proofs.ListedBytes.{SoFar}
 use Rattle.walrus_uses.proofs.listing.listed.Given as goal
 

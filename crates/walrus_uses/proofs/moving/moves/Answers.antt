@@ -1,14 +1,14 @@
 use Rattle.std.proofs.Common.{ℕ, Result, Ok, Err, refl, ap, ◌∙◌}
 use Rattle.std.proofs.lemmas.Result.{err_from_is_err_and}
 use Rattle.std.specs.Global.{Vec}
-use Rattle.walrus_parts.specs.declared.error.Error.{Error}
-use Rattle.walrus_parts.specs.declared.transform.CodeTransform.{CodeTransform}
-use Rattle.walrus_parts.specs.Transform.{location_of, transform_of}
+use Rattle.walrus_items.specs.declared.error.Error.{Error}
+use Rattle.walrus_items.specs.declared.transform.CodeTransform.{CodeTransform}
+use Rattle.walrus_items.specs.Transform.{location_of, transform_of}
 use Rattle.std.specs.Prelude.{map}
 use Rattle.walrus_module.specs.Customs.{sections}
 use Rattle.walrus_module.specs.Emitted.{told}
 use Rattle.walrus_module.specs.Flags.{config_of, defaults, flags}
-use Rattle.walrus.proofs.RawStays.{all_raw, leaves_whole}
+use Rattle.walrus_module.proofs.RawStays.{all_raw, leaves_whole}
 use Rattle.walrus_uses.proofs.MovesEnds.{moves_answered}
 use Rattle.walrus_uses.proofs.MovesRuns.{also_refused, emission_answers, gc_refused, keeps_transform, located_by_place, same_config}
 use Rattle.walrus_uses.proofs.moving.moves.Goals as goal

@@ -1,5 +1,5 @@
 use Rattle.std.proofs.Common.{◌≡◌, map, take}
-use Rattle.walrus_parts.specs.Transform.{location_of}
+use Rattle.walrus_items.specs.Transform.{location_of}
 use Rattle.walrus_uses.proofs.moving.places_of.Given as goal
 
 -- the places so far are those of the entries so far

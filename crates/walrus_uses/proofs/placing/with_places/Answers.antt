@@ -12,13 +12,13 @@ use Rattle.walrus.specs.Places.{last_place, moved_by, pairs_of, pairs_state, pla
 use Rattle.walrus.specs.declared.sections.places.PlacedPair.{PlacedPair}
 use Rattle.walrus.specs.declared.sections.places.PlacesSection.{PlacesSection}
 use Rattle.walrus.proofs.StateLemmas.{writes_by_state}
-use Rattle.walrus_uses.proofs.MetadataEnds.{or_left}
 use Rattle.walrus_uses.proofs.MovesRuns.{keeps_transform, located_by_place, same_config}
 use Rattle.walrus_uses.proofs.PlacedEnds.{answers}
 use Rattle.walrus_uses.proofs.PlacedSlots.{SaysPlaces, of_made}
 use Rattle.walrus_uses.specs.Placed.{CarriesPlaces, given}
 use Rattle.walrus_uses.proofs.placing.with_places.OwnLists as own
 use Rattle.walrus_uses.proofs.placing.with_places.Goals as goal
+use Rattle.std.proofs.lemmas.Bool.{or_parts as or_left}
 
 pub returns : goal.returns
 returns c =

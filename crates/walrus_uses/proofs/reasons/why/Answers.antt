@@ -1,7 +1,7 @@
 use Rattle.std.proofs.Common.{ap, ◌∙◌}
 use Rattle.std.specs.Prelude.{option_map}
 use Rattle.std.proofs.lemmas.Result.{err_from_is_err_and}
-use Rattle.walrus.proofs.RawStays.{all_raw}
+use Rattle.walrus_module.proofs.RawStays.{all_raw}
 use Rattle.walrus_contents.specs.Named.{items_in}
 use Rattle.walrus_base.specs.Id.{place}
 use Rattle.walrus_module.specs.Customs.{sections}

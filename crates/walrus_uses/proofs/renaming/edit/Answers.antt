@@ -1,7 +1,7 @@
 use Rattle.std.proofs.Common.{◌≡◌, ◌∙◌, ap, false, inl, inr, rules, sym, true}
 use Rattle.walrus_items.specs.Exports.{export_value, exports}
-use Rattle.walrus_items.proofs.Found.{is_found}
-use Rattle.walrus_model.proofs.Standing.{some_of}
+use Rattle.walrus_base.proofs.SearchFound.{is_found}
+use Rattle.walrus_base.proofs.Standing.{some_of}
 use Rattle.walrus_module.proofs.ReplacedLemmas.{found_lives, put_seen}
 use Rattle.walrus_uses.proofs.RenameSteps.{drops, names, none_found, renames, untaken}
 use Rattle.walrus_uses.specs.Renamed.{with_name}

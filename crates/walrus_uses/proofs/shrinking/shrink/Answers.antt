@@ -2,7 +2,7 @@ use Rattle.std.proofs.Common.{refl, ap, ◌∙◌}
 use Rattle.walrus_module.specs.Asked.{OneMayRefuse}
 use Rattle.walrus_module.specs.Emitted.{told}
 use Rattle.walrus_module.specs.Following.{OneMayRefuseThen}
-use Rattle.walrus.proofs.RawStays.{all_raw, leaves_whole, none_refuses_then}
+use Rattle.walrus_module.proofs.RawStays.{all_raw, leaves_whole, none_refuses_then}
 use Rattle.walrus_module.specs.Customs.{sections}
 use Rattle.walrus_module.specs.Flags.{config_of, defaults}
 use Rattle.walrus_module.specs.View.{meanings}

@@ -1,6 +1,6 @@
 use Rattle.std.proofs.Common.{◌∙◌, ap, map}
 use Rattle.wasm_frames.specs.Record.{body_record}
-use Rattle.walrus_code.proofs.Turns.{map_snoc}
+use Rattle.walrus_base.proofs.Turns.{map_snoc}
 use Rattle.walrus_writing.proofs.JoinedBodies.{text_within, texts_turn, texts_within}
 use Rattle.walrus_writing.proofs.bodies.raw_texts.Goals as goal
 

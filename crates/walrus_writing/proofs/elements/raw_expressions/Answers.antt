@@ -2,8 +2,8 @@ use Rattle.std.proofs.Common.{map}
 use Rattle.std.proofs.lemmas.Result.{err_from_is_err_and}
 use Rattle.walrus_code.specs.Indices.{index_of}
 use Rattle.walrus_model.specs.Sections.{ref_of}
-use Rattle.walrus_types.specs.ConstOps.{const_ops}
-use Rattle.walrus_types.specs.Value.{ref_type}
+use Rattle.walrus_base.specs.ConstOps.{const_ops}
+use Rattle.walrus_base.specs.Value.{ref_type}
 use Rattle.walrus_writing.proofs.ElementRecords.{consts_refused, expressions_written, type_refused}
 use Rattle.walrus_writing.proofs.elements.raw_expressions.Goals as goal
 

@@ -1,9 +1,9 @@
 use Rattle.std.proofs.Common.{List, map, subst}
 use Rattle.walrus_code.specs.Indices.{index_of}
 use Rattle.walrus_model.specs.Abstract.{Expressions}
-use Rattle.walrus_types.specs.ConstOps.{const_ops}
-use Rattle.walrus_types.specs.Value.{ref_type}
-use Rattle.walrus_types.specs.declared.const_expr.ConstExpr.{ConstExpr}
+use Rattle.walrus_base.specs.ConstOps.{const_ops}
+use Rattle.walrus_base.specs.Value.{ref_type}
+use Rattle.walrus_base.specs.declared.const_expr.ConstExpr.{ConstExpr}
 use Rattle.walrus_writing.specs.Elements.{IndexesItems}
 use Rattle.walrus_writing.proofs.elements.raw_items.Goals as goal
 

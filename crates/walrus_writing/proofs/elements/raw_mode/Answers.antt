@@ -3,7 +3,7 @@ use Rattle.wasm_entries.specs.Record.{items_of}
 use Rattle.walrus_base.specs.Id.{place}
 use Rattle.walrus_code.specs.Indices.{index_of}
 use Rattle.walrus_contents.specs.View.{tables_of}
-use Rattle.walrus_types.specs.ConstOps.{const_ops}
+use Rattle.walrus_base.specs.ConstOps.{const_ops}
 use Rattle.walrus_writing.proofs.ElementRecords.{active_written, offset_refused}
 use Rattle.walrus_writing.proofs.elements.raw_mode.Goals as goal
 

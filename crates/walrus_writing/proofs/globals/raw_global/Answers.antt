@@ -2,7 +2,7 @@ use Rattle.std.proofs.Common.{ap, option_map, refl}
 use Rattle.std.proofs.lemmas.Result.{err_from_is_err_and}
 use Rattle.walrus_code.specs.Indices.{index_of}
 use Rattle.walrus_contents.specs.View.{global_of, origin_of}
-use Rattle.walrus_types.specs.ConstOps.{const_ops}
+use Rattle.walrus_base.specs.ConstOps.{const_ops}
 use Rattle.walrus_items.specs.Globals.{global_init, global_value}
 use Rattle.walrus_writing.proofs.GlobalRecords.{global_written, initialiser_refused}
 use Rattle.walrus_writing.proofs.globals.raw_global.Goals as goal

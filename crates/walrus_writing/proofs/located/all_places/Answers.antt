@@ -2,7 +2,7 @@ use Rattle.std.proofs.Common.{◌∙◌, ◌+◌, ◌++◌, ◌≤◌, ℕ, List
 use Rattle.std.specs.Prelude.{All, slice_index_or}
 use Rattle.std.specs.declared.ops.Range.{Range}
 use Rattle.walrus_code.specs.declared.location.InstrLocId.{InstrLocId}
-use Rattle.walrus_parts.specs.Transform.{location_of}
+use Rattle.walrus_items.specs.Transform.{location_of}
 use Rattle.walrus_writing.specs.Located.{placed_from}
 use Rattle.walrus_writing.specs.declared.offsets.LocatedBody.{LocatedBody}
 use Rattle.walrus_writing.proofs.LocatedLoops.{all_end, all_step, ends, turn, zip_get}

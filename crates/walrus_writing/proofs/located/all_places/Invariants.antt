@@ -1,5 +1,5 @@
 use Rattle.std.proofs.Common.{◌≡◌, ◌++◌, drop, map}
-use Rattle.walrus_parts.specs.Transform.{location_of}
+use Rattle.walrus_items.specs.Transform.{location_of}
 use Rattle.walrus_writing.specs.Located.{all_placed_from}
 use Rattle.walrus_writing.proofs.located.all_places.Given as goal
 

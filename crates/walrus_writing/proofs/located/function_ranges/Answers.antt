@@ -5,8 +5,8 @@ use Rattle.std.proofs.lemmas.List.Sorted.{IsPermutation-map}
 use Rattle.walrus_base.specs.Id.{place}
 use Rattle.walrus_base.specs.declared.id.Id.{Id}
 use Rattle.walrus_base.specs.declared.keys.FunctionKey.{FunctionKey}
-use Rattle.walrus_parts.specs.Transform.{range_of}
-use Rattle.walrus_plan.proofs.Turns.{sorted_seen}
+use Rattle.walrus_items.specs.Transform.{range_of}
+use Rattle.walrus_base.proofs.ZipTurns.{sorted_seen}
 use Rattle.walrus_writing.specs.Located.{by_ends}
 use Rattle.walrus_writing.proofs.LocatedLoops.{ok_also}
 use Rattle.walrus_writing.proofs.located.function_ranges.Goals as goal

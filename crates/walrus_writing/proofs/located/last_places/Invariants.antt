@@ -1,5 +1,5 @@
 use Rattle.std.proofs.Common.{◌≡◌, ◌++◌, drop, map}
-use Rattle.walrus_parts.specs.Transform.{location_of}
+use Rattle.walrus_items.specs.Transform.{location_of}
 use Rattle.walrus_writing.specs.Located.{lasts}
 use Rattle.walrus_writing.proofs.located.last_places.Given as goal
 

@@ -1,8 +1,9 @@
 use Rattle.std.proofs.Common.{◌+◌, ap, arith}
 use Rattle.walrus_base.specs.Id.{place}
 use Rattle.walrus_writing.specs.Located.{ends_of}
-use Rattle.walrus_writing.proofs.LocatedLoops.{ends, pairs_end, pairs_step, seen_push, turn}
+use Rattle.walrus_writing.proofs.LocatedLoops.{ends, pairs_end, pairs_step, turn}
 use Rattle.walrus_writing.proofs.located.pair_ranges.Goals as goal
+use Rattle.walrus_constants.proofs.Listed.{mapped_push as seen_push}
 
 pub order-preserved : goal.order-preserved
 order-preserved c = record {

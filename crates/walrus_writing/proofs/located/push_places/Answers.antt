@@ -1,5 +1,5 @@
 use Rattle.std.proofs.Common.{arith}
-use Rattle.walrus_parts.specs.Transform.{location_of}
+use Rattle.walrus_items.specs.Transform.{location_of}
 use Rattle.walrus_writing.proofs.LocatedLoops.{ends, places_end, places_step, turn}
 use Rattle.walrus_writing.proofs.located.push_places.Goals as goal
 

@@ -1,6 +1,6 @@
 use Rattle.std.proofs.Common.{◌≡◌, ◌++◌, drop, map}
 use Rattle.walrus_base.specs.Id.{place}
-use Rattle.walrus_parts.specs.Transform.{range_of}
+use Rattle.walrus_items.specs.Transform.{range_of}
 use Rattle.walrus_writing.proofs.located.ranges_of.Given as goal
 
 -- the ranges so far, and those that are still to come

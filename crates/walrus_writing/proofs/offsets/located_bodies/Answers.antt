@@ -4,11 +4,11 @@ use Rattle.walrus_base.specs.Id.{place}
 use Rattle.walrus_base.specs.declared.id.Id.{Id}
 use Rattle.walrus_base.specs.declared.keys.FunctionKey.{FunctionKey}
 use Rattle.walrus_code.specs.Indices.{index_of}
-use Rattle.walrus_parts.specs.Transform.{location_of}
+use Rattle.walrus_items.specs.Transform.{location_of}
 use Rattle.walrus_writing.specs.Located.{AreOffsets}
 use Rattle.walrus_writing.specs.Parts.{HasBytes}
 use Rattle.walrus_writing.specs.declared.offsets.LocatedBody.{LocatedBody}
-use Rattle.walrus_plan.proofs.Turns.{zip_turn}
+use Rattle.walrus_base.proofs.ZipTurns.{zip_turn}
 use Rattle.walrus_writing.proofs.offsets.located_bodies.Goals as goal
 
 pub order-preserved : goal.order-preserved

@@ -2,7 +2,7 @@ use Rattle.std.proofs.Common.{map, take}
 use Rattle.std.specs.List.{AllZip}
 use Rattle.walrus_base.specs.Id.{place}
 use Rattle.walrus_code.specs.Indices.{index_of}
-use Rattle.walrus_parts.specs.Transform.{location_of}
+use Rattle.walrus_items.specs.Transform.{location_of}
 use Rattle.walrus_writing.specs.Located.{AreOffsets}
 use Rattle.walrus_writing.specs.Parts.{HasBytes}
 use Rattle.walrus_writing.proofs.offsets.located_bodies.Given as goal

@@ -2,7 +2,7 @@ use Rattle.std.proofs.Common.{ap}
 use Rattle.std.specs.Prelude.{option_map}
 use Rattle.std.proofs.lemmas.Result.{err_from_is_err_and}
 use Rattle.walrus_code.specs.Indices.{index_of}
-use Rattle.walrus_types.specs.ConstOps.{const_ops}
+use Rattle.walrus_base.specs.ConstOps.{const_ops}
 use Rattle.walrus_contents.specs.View.{origin_of, own_initialiser, table_of}
 use Rattle.walrus_items.specs.Tables.{table_value}
 use Rattle.walrus_writing.proofs.TableRecords.{initial_refused, table_written}

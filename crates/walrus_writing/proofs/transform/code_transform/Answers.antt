@@ -9,8 +9,8 @@ use Rattle.walrus_base.specs.Id.{place}
 use Rattle.walrus_base.specs.declared.id.Id.{Id}
 use Rattle.walrus_base.specs.declared.keys.FunctionKey.{FunctionKey}
 use Rattle.walrus_code.specs.Indices.{index_of}
-use Rattle.walrus_parts.specs.Transform.{location_of, range_of}
-use Rattle.walrus_parts.specs.declared.transform.CodeTransform.{CodeTransform}
+use Rattle.walrus_items.specs.Transform.{location_of, range_of}
+use Rattle.walrus_items.specs.declared.transform.CodeTransform.{CodeTransform}
 use Rattle.walrus_plan.specs.Places.{places}
 use Rattle.walrus_writing.specs.Customs.{task}
 use Rattle.walrus_writing.specs.Located.{ArePlaces, AreSorted, LastPlaces, all_placed_from, by_ends, ends_of}

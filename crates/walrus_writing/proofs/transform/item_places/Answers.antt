@@ -3,8 +3,8 @@ use Rattle.std.specs.Prelude.{Some, option_and_then, option_map}
 use Rattle.std.proofs.lemmas.Result.{err_from_is_err_and}
 use Rattle.walrus_base.specs.Arena.{items}
 use Rattle.walrus_base.specs.Id.{place}
-use Rattle.walrus_types.specs.Operators.{Types}
-use Rattle.walrus_types.specs.Shape.{place_in}
+use Rattle.walrus_base.specs.Operators.{Types}
+use Rattle.walrus_base.specs.Shape.{place_in}
 use Rattle.walrus_code.specs.Indices.{index_of}
 use Rattle.walrus_constants.specs.Named.{named_global, named_table}
 use Rattle.walrus_contents.specs.View.{global_of, parts_view, table_of, tag_of}
@@ -16,7 +16,7 @@ use Rattle.walrus_writing.specs.Customs.{task}
 use Rattle.wasm_writer.specs.declared.places.CodePlaces.{CodePlaces}
 use Rattle.walrus_writing.specs.Parts.{type_index, tag_index, unplaced}
 use Rattle.walrus_plan.specs.Places.{places}
-use Rattle.walrus_rules.proofs.Matches.{imports_live}
+use Rattle.walrus_theorem.proofs.Matches.{imports_live}
 use Rattle.walrus_writing.proofs.ImportsIndexed.{imports_indexed, written_indexed}
 use Rattle.walrus_writing.proofs.Indexed.{ids_typed, no_type_lacks, exports_indexed, data_indexed, elements_indexed, globals_indexed, start_indexed, tables_indexed, tags_indexed}
 use Rattle.walrus_writing.proofs.LocatedBodies.{seen_are, seen_in, seen_texts}

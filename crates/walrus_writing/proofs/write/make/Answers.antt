@@ -2,10 +2,10 @@ use Rattle.std.proofs.Common.{◌∙◌, List, length, map, ap, subst}
 use Rattle.walrus_base.specs.declared.id.Id.{Id}
 use Rattle.walrus_base.specs.declared.keys.FunctionKey.{FunctionKey}
 use Rattle.walrus_code.specs.Indices.{index_of}
-use Rattle.walrus_names.specs.Names.{all_local_names}
-use Rattle.walrus_names.proofs.NamesLemmas.{few_behind, few_brought}
-use Rattle.walrus_types.specs.Locals.{locals}
-use Rattle.walrus_types.specs.Operators.{Functions}
+use Rattle.walrus_writing.specs.Names.{all_local_names}
+use Rattle.walrus_writing.proofs.NamesLemmas.{few_behind, few_brought}
+use Rattle.walrus_base.specs.Locals.{locals}
+use Rattle.walrus_base.specs.Operators.{Functions}
 use Rattle.walrus_writing.specs.Bodies.{AreBodies}
 use Rattle.walrus_writing.specs.Parts.{BodySeen}
 use Rattle.walrus_writing.proofs.write.make.Goals as goal

@@ -2,8 +2,8 @@ use Rattle.std.proofs.Common.{◌∙◌, ◌++◌, ℕ, map, refl, ap}
 use Rattle.std.specs.Prelude.{Some, not, option_map}
 use Rattle.std.proofs.lemmas.Result.{err_from_is_err_and}
 use Rattle.walrus_base.specs.Arena.{items}
-use Rattle.walrus_types.specs.Operators.{Types}
-use Rattle.walrus_types.specs.Shape.{place_in}
+use Rattle.walrus_base.specs.Operators.{Types}
+use Rattle.walrus_base.specs.Shape.{place_in}
 use Rattle.walrus_code.specs.Indices.{index_of}
 use Rattle.walrus_constants.specs.Named.{named_global, named_table}
 use Rattle.walrus_contents.specs.View.{global_of, parts_view, table_of, tag_of}
@@ -13,10 +13,10 @@ use Rattle.walrus_items.specs.Tags.{TagValue, tags}
 use Rattle.wasm_frames.specs.Record.{custom_record}
 use Rattle.wasm_frames.specs.declared.record.Raw.{Raw}
 use Rattle.walrus_writing.specs.Customs.{chosen_producers, task}
-use Rattle.walrus_names.specs.Names.{first_own, if_chosen, names_said}
+use Rattle.walrus_writing.specs.Names.{first_own, if_chosen, names_said}
 use Rattle.walrus_writing.specs.Parts.{BodySeen, tag_index, unplaced}
 use Rattle.walrus_plan.specs.Places.{places}
-use Rattle.walrus_rules.proofs.Matches.{imports_live}
+use Rattle.walrus_theorem.proofs.Matches.{imports_live}
 use Rattle.walrus_writing.proofs.ImportsIndexed.{imports_indexed, written_indexed}
 use Rattle.walrus_writing.proofs.Indexed.{no_type_lacks, exports_indexed, data_indexed, elements_indexed, globals_indexed, start_indexed, tables_indexed, tags_indexed}
 use Rattle.walrus_writing.proofs.OwnPlaces.{own_indexed}

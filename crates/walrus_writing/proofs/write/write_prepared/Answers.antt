@@ -4,7 +4,7 @@ use Rattle.std.specs.Global.{Vec}
 use Rattle.wasm_frames.specs.Record.{custom_record}
 use Rattle.walrus_code.specs.Indices.{index_of}
 use Rattle.walrus_model.specs.Abstract.{Abstract}
-use Rattle.walrus_rules.specs.Refused.{RefusesToWrite}
+use Rattle.walrus_theorem.specs.Refused.{RefusesToWrite}
 use Rattle.walrus_writing.specs.Emitted.{IsEmitted, told}
 use Rattle.walrus_writing.proofs.Emitting.{emitted_ok, unfit, small}
 use Rattle.walrus_writing.proofs.RefusesAll.{items_refused}

@@ -3,12 +3,12 @@ use Rattle.std.specs.Prelude.{Option, nat_eq, false}
 use Rattle.std.proofs.lemmas.Result.{err_from_is_err_and}
 use Rattle.wasm_forms.specs.Reading.{◌>>=◌, byte_at}
 use Rattle.wasm_forms.specs.Grammar.{at, until_at, behind}
-use Rattle.wasm_forms.proofs.Bind.{false_unless}
 use Rattle.wasm_forms.proofs.Refused.{refused}
 use Rattle.wasm_entries.specs.declared.record.RawConst.{RawConst}
 use Rattle.wasm_entries.specs.Forms.{const_from}
-use Rattle.wasm_entries.proofs.Turns.{until_none, until_stop, until_stuck, until_turn, until_out}
+use Rattle.wasm_forms.proofs.RowTurns.{until_none, until_stop, until_stuck, until_turn, until_out}
 use Rattle.wasm_entries.proofs.constant.take_operators.Goals as goal
+use Rattle.std.proofs.lemmas.Bool.{false_from_ne_true as false_unless}
 
 -- the operator that begins with this byte
 abbrev operator : ℕ → List ℕ → Option (RawConst × List ℕ)

@@ -1,10 +1,11 @@
 use Rattle.std.proofs.Common.{◌≡◌, ◌-◌, ℕ, suc, List, length, nat_eq, false, refl, sym, ap, ◌∙◌, arith, eqb-true, eq-eqb}
 use Rattle.std.specs.Prelude.{None}
 use Rattle.wasm_forms.specs.Grammar.{at, until_at}
-use Rattle.wasm_forms.proofs.Bind.{false_unless, some_not_none}
+use Rattle.wasm_forms.proofs.Bind.{some_not_none}
 use Rattle.wasm_entries.specs.Forms.{const_from}
-use Rattle.wasm_entries.proofs.Turns.{until_single}
+use Rattle.wasm_forms.proofs.RowTurns.{until_single}
 use Rattle.wasm_entries.proofs.constant.take_single.Goals as goal
+use Rattle.std.proofs.lemmas.Bool.{false_from_ne_true as false_unless}
 
 -- the byte that ends an expression begins no operator
 no_operator : (bytes : List ℕ) → at (const_from 11) bytes ≡ None

@@ -5,7 +5,7 @@ use Rattle.wasm_forms.specs.Writing.{TakesRoom}
 use Rattle.wasm_entries.specs.declared.record.RawConst.{RawConst}
 use Rattle.wasm_entries.specs.Record.{expression}
 use Rattle.wasm_entries.specs.Spelling.{expression_bytes}
-use Rattle.wasm_entries.proofs.Turns.{written_seen, refused_seen}
+use Rattle.wasm_forms.proofs.RowTurns.{written_seen, refused_seen}
 use Rattle.wasm_forms.proofs.Keeping.{keeps_behind}
 use Rattle.wasm_entries.proofs.Steps.{keeps_put}
 use Rattle.wasm_entries.proofs.operator.write_each.Goals as goal

@@ -1,7 +1,7 @@
 use Rattle.std.proofs.Common.{arith}
 use Rattle.std.proofs.lemmas.Result.{err_from_is_err_and}
 use Rattle.wasm_entries.specs.Spelling.{const_bytes}
-use Rattle.wasm_entries.proofs.Turns.{written_at, refused_at}
+use Rattle.wasm_forms.proofs.RowTurns.{written_at, refused_at}
 use Rattle.wasm_forms.proofs.Keeping.{keeps_behind}
 use Rattle.wasm_entries.proofs.Steps.{keeps_put}
 use Rattle.wasm_entries.proofs.operator.write_operators.Goals as goal

@@ -3,8 +3,8 @@ use Rattle.std.specs.Prelude.{Option, Some, None, if◌then◌else◌}
 use Rattle.std.specs.Str.{is_utf8}
 use Rattle.std.proofs.lemmas.Str.{IsUtf8-from_is_utf8, is_utf8-from_IsUtf8}
 use Rattle.wasm_forms.specs.Reading.{◌>>=◌}
-use Rattle.wasm_forms.proofs.Bind.{false_unless}
 use Rattle.wasm_forms.proofs.block.take_name.Goals as goal
+use Rattle.std.proofs.lemmas.Bool.{false_from_ne_true as false_unless}
 
 abbrev text_only : List ℕ × List ℕ → Option (List ℕ × List ℕ)
 text_only x = if is_utf8 x.0 then Some x else None

@@ -6,7 +6,7 @@ use Rattle.wasm_forms.specs.Writing.{EachFits}
 use Rattle.wasm_forms.proofs.Keeping.{keeps_behind}
 use Rattle.wasm_payloads.specs.Producers.{value_record}
 use Rattle.wasm_payloads.specs.Spelling.{value_bytes, ValueFits}
-use Rattle.wasm_payloads.proofs.Writing.{written_at, fits_at, room_at, adds_at}
+use Rattle.wasm_forms.proofs.Writing.{written_at, fits_at, room_at, adds_at}
 use Rattle.wasm_payloads.proofs.spell_producers.write_each.Goals as goal
 
 pub values-preserved : goal.values-preserved

@@ -1,6 +1,6 @@
 use Rattle.std.proofs.lemmas.Result.{err_from_is_err_and}
 use Rattle.wasm_writer.specs.Measuring.{size_with_count}
-use Rattle.wasm_writer.proofs.Measured.{sum_over}
+use Rattle.wasm_writer.proofs.MeasuredSections.{sum_over}
 use Rattle.wasm_writer.proofs.measuring.bodies_len.Goals as goal
 
 pub returns-in_err-total : goal.returns-in_err-total

@@ -1,7 +1,7 @@
 use Rattle.std.proofs.Common.{rules, ◌≡◌, ◌<◌, ap, ◌∙◌, length}
 use Rattle.std.proofs.lemmas.Result.{err_from_is_err_and}
 use Rattle.wasm_forms.specs.Spelling.{number_bytes}
-use Rattle.wasm_writer.proofs.Measured.{bodies_over, bodies_told}
+use Rattle.wasm_writer.proofs.MeasuredSections.{bodies_over, bodies_told}
 use Rattle.wasm_writer.proofs.measuring.code_content_len.Goals as goal
 
 pub returns-in_err-bodies_len : goal.returns-in_err-bodies_len

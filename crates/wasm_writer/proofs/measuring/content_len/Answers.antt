@@ -11,9 +11,9 @@ use Rattle.wasm_entries.specs.declared.record.RawData.{RawData}
 use Rattle.wasm_forms.proofs.Adding.{fits_map, fits_unmap, fits_free}
 use Rattle.wasm_forms.specs.Spelling.{number_bytes, vector_bytes}
 use Rattle.wasm_forms.specs.Writing.{FitsLength, FitsVector}
-use Rattle.wasm_measure.proofs.Groups.{measures_as}
+use Rattle.wasm_writer.proofs.Groups.{measures_as}
 use Rattle.wasm_frames.specs.Frames.{Imports, Functions, Tables, Globals, Exports, Elements, DataSegments}
-use Rattle.wasm_writer.proofs.Measured.{measures_held, of_one}
+use Rattle.wasm_writer.proofs.MeasuredSections.{measures_held, of_one}
 use Rattle.wasm_writer.proofs.measuring.content_len.Goals as goal
 
 pub returns-in-Imports : goal.returns-in-Imports

@@ -1,6 +1,6 @@
 use Rattle.std.proofs.Common.{arith}
 use Rattle.std.proofs.lemmas.Result.{err_from_is_err_and}
-use Rattle.wasm_measure.proofs.Lengths.{row_counted_at, row_sum_at}
+use Rattle.wasm_writer.proofs.Lengths.{row_counted_at, row_sum_at}
 use Rattle.wasm_writer.specs.Spelling.{tag_bytes}
 use Rattle.wasm_writer.proofs.measuring.tags_len.Goals as goal
 

@@ -1,7 +1,7 @@
 use Rattle.std.proofs.Common.{take_all, subst, arith}
 use Rattle.std.proofs.lemmas.Result.{err_from_is_err_and}
 use Rattle.wasm_forms.specs.Writing.{EachFits}
-use Rattle.wasm_measure.proofs.Lengths.{row_counted_at, row_sum_at, row_full}
+use Rattle.wasm_writer.proofs.Lengths.{row_counted_at, row_sum_at, row_full}
 use Rattle.wasm_writer.proofs.Ranges.{spelled_body, BodyFits, body_over, body_fits}
 use Rattle.wasm_writer.proofs.places.bodies_len.Goals as goal
 

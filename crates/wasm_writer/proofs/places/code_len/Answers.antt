@@ -3,7 +3,7 @@ use Rattle.wasm_forms.proofs.Adding.{vector_map, fits_map, fits_unmap}
 use Rattle.wasm_forms.specs.Writing.{FitsLength, FitsVector}
 use Rattle.wasm_frames.specs.Record.{Body, body_record}
 use Rattle.wasm_frames.specs.Spelling.{body_bytes}
-use Rattle.wasm_measure.proofs.Groups.{measures_as}
+use Rattle.wasm_writer.proofs.Groups.{measures_as}
 use Rattle.wasm_writer.proofs.Ranges.{BodyFits}
 use Rattle.wasm_writer.proofs.places.code_len.Goals as goal
 

@@ -1,6 +1,6 @@
 use Rattle.std.proofs.Common.{arith}
 use Rattle.std.proofs.lemmas.Result.{err_from_is_err_and}
-use Rattle.wasm_entries.proofs.Turns.{refused_at}
+use Rattle.wasm_forms.proofs.RowTurns.{refused_at}
 use Rattle.wasm_writer.specs.Spelling.{tag_bytes}
 use Rattle.wasm_writer.proofs.Listed.{written_more}
 use Rattle.wasm_writer.proofs.tag.write_each.Goals as goal

@@ -1,7 +1,7 @@
 use Rattle.std.proofs.Common.{refl}
 use Rattle.walrus_base.specs.Id.{place}
 use Rattle.walrus_code.specs.Code.{item_of}
-use Rattle.walrus_types.specs.Operators.{Tables}
+use Rattle.walrus_base.specs.Operators.{Tables}
 use Rattle.walrus_contents.proofs.NamedLemmas.{map_step}
 use Rattle.walrus.proofs.passes.asked.push_tables.Goals as goal
 

@@ -1,6 +1,6 @@
 use Rattle.std.proofs.Common.{◌≡◌, ◌++◌, drop, map}
 use Rattle.walrus_base.specs.Id.{place}
-use Rattle.walrus_types.specs.Operators.{Tables}
+use Rattle.walrus_base.specs.Operators.{Tables}
 use Rattle.walrus_contents.specs.Named.{items_in}
 use Rattle.walrus.proofs.passes.asked.push_tables.Given as goal
 

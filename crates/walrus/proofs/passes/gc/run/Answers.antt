@@ -1,7 +1,7 @@
-use Rattle.walrus_types.specs.ModuleTypes.{type_names, type_slots}
+use Rattle.walrus_base.specs.ModuleTypes.{type_names, type_slots}
 use Rattle.std.proofs.Common.{refl}
 use Rattle.walrus_base.specs.Marks.{is_marked}
-use Rattle.walrus_types.specs.Operators.{DataSegments, Elements, Functions, Globals, Memories, Tables, Tags, Types}
+use Rattle.walrus_base.specs.Operators.{DataSegments, Elements, Functions, Globals, Memories, Tables, Tags, Types}
 use Rattle.walrus_items.specs.Data.{data_segments}
 use Rattle.walrus_items.specs.Elements.{elements}
 use Rattle.walrus_items.specs.Globals.{globals}

@@ -1,6 +1,6 @@
 use Rattle.std.proofs.Common.{List, [], ◌∷◌, map, ap, ◌∙◌, subst}
 use Rattle.std.proofs.lemmas.Result.{err_from_is_err_and}
-use Rattle.walrus_types.specs.Operators.{Item}
+use Rattle.walrus_base.specs.Operators.{Item}
 use Rattle.walrus_items.specs.Exports.{ExportValue, exports_left}
 use Rattle.walrus_items.specs.Kinds.{exported}
 use Rattle.walrus_model.specs.Live.{IsLive}

@@ -9,7 +9,7 @@ use Rattle.walrus_contents.specs.View.{parts_view}
 use Rattle.walrus_contents.specs.There.{IsSound}
 use Rattle.walrus.proofs.Followed.{follows_more, found_all, keeps_taken, taken_in, unsound_by}
 use Rattle.walrus_contents.proofs.NamedLemmas.{refusal_map}
-use Rattle.walrus_rules.proofs.SameItems.{live_back}
+use Rattle.walrus_theorem.proofs.SameItems.{live_back}
 use Rattle.walrus.proofs.SameSearch.{enters_all_on, keeps_back, sound_on, unfit_on}
 use Rattle.walrus.proofs.passes.used.follow.Goals as goal
 use Rattle.walrus.proofs.passes.used.follow.Goals.{else-loop-turn-test, then-loop-turn-test+in_default}

@@ -1,6 +1,6 @@
 use Rattle.std.proofs.Common.{ℕ}
 use Rattle.walrus_base.specs.Id.{place}
-use Rattle.walrus_types.specs.Operators.{Memories}
+use Rattle.walrus_base.specs.Operators.{Memories}
 use Rattle.walrus_items.specs.Memories.{MemoryValue, memory_entries_left, memory_value}
 use Rattle.walrus_contents.specs.View.{lent, parts_view}
 use Rattle.walrus.proofs.Spare.{is_first, marks_first, marks_none, no_first}

@@ -3,11 +3,11 @@ use Rattle.std.specs.Prelude.{Contains}
 use Rattle.walrus_base.specs.Arena.{item_at}
 use Rattle.walrus_base.specs.Id.{place}
 use Rattle.walrus_model.specs.Live.{IsLive}
-use Rattle.walrus_types.specs.ModuleTypes.{type_slots}
-use Rattle.walrus_types.specs.Operators.{Item, Types, type_item}
-use Rattle.walrus_types.specs.TypeSlots.{group_at}
-use Rattle.walrus_types.specs.TypesLeft.{ids_left}
-use Rattle.walrus_types.proofs.Lists.{Contains-head, Contains-tail}
+use Rattle.walrus_base.specs.ModuleTypes.{type_slots}
+use Rattle.walrus_base.specs.Operators.{Item, Types, type_item}
+use Rattle.walrus_base.specs.TypeSlots.{group_at}
+use Rattle.walrus_base.specs.TypesLeft.{ids_left}
+use Rattle.walrus_base.proofs.Lists.{Contains-head, Contains-tail}
 use Rattle.walrus_contents.specs.Named.{group_names}
 use Rattle.walrus_contents.specs.View.{parts_view}
 use Rattle.walrus_contents.proofs.Groups.{group_live}

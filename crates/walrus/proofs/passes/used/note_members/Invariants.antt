@@ -2,8 +2,8 @@ use Rattle.std.proofs.Common.{ℕ, map}
 use Rattle.std.specs.Prelude.{Contains}
 use Rattle.walrus_base.specs.Id.{place}
 use Rattle.walrus_model.specs.Live.{IsLive}
-use Rattle.walrus_types.specs.Operators.{Types, type_item}
-use Rattle.walrus_types.specs.TypesLeft.{ids_left}
+use Rattle.walrus_base.specs.Operators.{Types, type_item}
+use Rattle.walrus_base.specs.TypesLeft.{ids_left}
 use Rattle.walrus_contents.specs.Named.{group_names}
 use Rattle.walrus_contents.specs.View.{parts_view}
 use Rattle.walrus.specs.Used.{NotesAll}

@@ -2,7 +2,7 @@ use Rattle.std.proofs.Common.{◌≡◌, List, [], ◌++◌, ap, append_assoc, m
 use Rattle.std.proofs.lemmas.Result.{err_from_is_err_and}
 use Rattle.walrus_code.specs.Code.{item_of}
 use Rattle.walrus_code.specs.declared.items.ItemId.{ItemId}
-use Rattle.walrus_types.specs.Operators.{Item}
+use Rattle.walrus_base.specs.Operators.{Item}
 use Rattle.walrus.specs.Asked.{asked_items, searched_view}
 use Rattle.walrus.specs.Marked.{ReachesUnsound}
 use Rattle.walrus_contents.specs.Named.{export_names, other_roots, root_names}

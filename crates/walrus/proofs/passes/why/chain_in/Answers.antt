@@ -1,6 +1,6 @@
 use Rattle.std.proofs.Common.{◌≡◌, List, Some, None, sym, ap, ◌∙◌, subst}
 use Rattle.std.specs.Prelude.{position}
-use Rattle.walrus_types.specs.Operators.{Item}
+use Rattle.walrus_base.specs.Operators.{Item}
 use Rattle.walrus_code.specs.Code.{item_of}
 use Rattle.walrus_code.specs.declared.items.ItemId.{ItemId}
 use Rattle.walrus_contents.specs.Named.{items_in}

@@ -5,7 +5,7 @@ use Rattle.walrus_code.specs.declared.items.ItemId.{ItemId}
 use Rattle.walrus_contents.specs.There.{IsSound}
 use Rattle.walrus_contents.specs.View.{lent, parts_view}
 use Rattle.walrus_contents.proofs.NamedLemmas.{refusal_map}
-use Rattle.walrus_rules.proofs.SameItems.{live_back}
+use Rattle.walrus_theorem.proofs.SameItems.{live_back}
 use Rattle.walrus.specs.Asked.{asked_items, searched_view}
 use Rattle.walrus.specs.Marked.{ReachesUnsound}
 use Rattle.walrus.specs.Used.{NamesDead}

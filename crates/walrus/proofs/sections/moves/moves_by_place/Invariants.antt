@@ -1,6 +1,6 @@
 use Rattle.std.proofs.Common.{◌≡◌, ℕ, nat_eq, map, take}
 use Rattle.std.specs.HashMap.{get}
-use Rattle.walrus_parts.specs.Transform.{location_of}
+use Rattle.walrus_items.specs.Transform.{location_of}
 use Rattle.walrus.specs.Places.{last_place}
 use Rattle.walrus.proofs.sections.moves.moves_by_place.Given as goal
 

@@ -1,6 +1,6 @@
 use Rattle.std.proofs.Common.{◌≡◌, ◌-◌, List, ap, sym, ◌∙◌, Some, slice_get}
 use Rattle.walrus_base.specs.declared.id.Id.{Id}
-use Rattle.walrus_code.proofs.Fronts.{looked_up, got_behind, in_front}
+use Rattle.walrus_base.proofs.Fronts.{looked_up, got_behind, in_front}
 use Rattle.walrus_code.proofs.indices.IndexSpace.get.Goals as goal
 
 pub returns-then-index-self : goal.returns-then-index-self

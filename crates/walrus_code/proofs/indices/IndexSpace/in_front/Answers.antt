@@ -1,4 +1,4 @@
-use Rattle.walrus_code.proofs.Fronts.{in_front, no_more_in_front}
+use Rattle.walrus_base.proofs.Fronts.{in_front, no_more_in_front}
 use Rattle.walrus_code.proofs.indices.IndexSpace.in_front.Goals as goal
 
 pub returns : goal.returns

@@ -1,5 +1,5 @@
 use Rattle.std.proofs.Common.{ap, sym, ◌+◌, ℕ, ◌∙◌}
-use Rattle.walrus_code.proofs.Fronts.{both_counted}
+use Rattle.walrus_base.proofs.Fronts.{both_counted}
 use Rattle.walrus_code.proofs.indices.IndexSpace.len.Goals as goal
 
 pub returns : goal.returns

@@ -1,4 +1,4 @@
-use Rattle.walrus_code.proofs.Fronts.{few_more, one_in_front, none_further, still_no_more, pushed_no_more}
+use Rattle.walrus_base.proofs.Fronts.{few_more, one_in_front, none_further, still_no_more, pushed_no_more}
 use Rattle.walrus_code.proofs.indices.IndexSpace.push.Goals as goal
 
 pub invariant_of-self : goal.invariant_of-self

@@ -3,7 +3,7 @@ use Rattle.std.specs.Prelude.{find}
 use Rattle.walrus_base.specs.Arena.{entries_left}
 use Rattle.walrus_items.specs.Seen.{seen_entries}
 use Rattle.walrus_items.specs.Searches.{first}
-use Rattle.walrus_parts.specs.Kinds.{exported}
+use Rattle.walrus_items.specs.Kinds.{exported}
 use Rattle.walrus_items.specs.Exports.{export_value, exports, exports_item}
 use Rattle.walrus_items.proofs.exports.«Items+ExportKey+Export».first_id_of.Given as goal
 

@@ -1,5 +1,5 @@
 use Rattle.walrus_base.specs.Arena.{slots}
-use Rattle.walrus_parts.specs.Kinds.{exported}
+use Rattle.walrus_items.specs.Kinds.{exported}
 use Rattle.walrus_items.specs.Exports.{export_value, exports_item}
 use Rattle.walrus_items.proofs.SeenLemmas.{first-seen}
 use Rattle.walrus_items.proofs.exports.«Items+ExportKey+Export».first_of.Goals as goal

@@ -1,6 +1,6 @@
 use Rattle.std.proofs.Common.{ℕ, refl}
 use Rattle.walrus_items.specs.Exports.{ExportValue, exports, is_named}
-use Rattle.walrus_items.proofs.Found.{is_found}
+use Rattle.walrus_base.proofs.SearchFound.{is_found}
 use Rattle.walrus_items.proofs.exports.«Items+ExportKey+Export».remove.Goals as goal
 
 pub delete-requires : goal.delete-requires

@@ -2,7 +2,7 @@ use Rattle.std.proofs.Common.{ℕ, List, [], ◌∷◌, ◌++◌, Option, Some, 
 use Rattle.std.specs.Prelude.{option_map}
 use Rattle.std.proofs.lemmas.List.{length-map, map-append}
 use Rattle.walrus_base.specs.Arena.{slots}
-use Rattle.walrus_parts.specs.declared.function_kind.FunctionKind.TheVariants.{Local}
+use Rattle.walrus_items.specs.declared.function_kind.FunctionKind.TheVariants.{Local}
 use Rattle.walrus_items.specs.Functions.{FunctionValue, function_value}
 use Rattle.walrus_items.proofs.functions.«Items+FunctionKey+Function».add_local.Goals as goal
 

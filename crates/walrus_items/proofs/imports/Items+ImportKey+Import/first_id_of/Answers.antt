@@ -1,5 +1,5 @@
 use Rattle.walrus_base.specs.Arena.{slots}
-use Rattle.walrus_parts.specs.Kinds.{imported}
+use Rattle.walrus_items.specs.Kinds.{imported}
 use Rattle.walrus_items.specs.Imports.{import_value, imports_item}
 use Rattle.walrus_items.proofs.SeenLemmas.{first-seen}
 use Rattle.walrus_items.proofs.imports.«Items+ImportKey+Import».first_id_of.Goals as goal

@@ -1,5 +1,5 @@
 use Rattle.walrus_base.specs.Id.{place}
-use Rattle.walrus_types.specs.Operators.{function_item}
+use Rattle.walrus_base.specs.Operators.{function_item}
 use Rattle.walrus_base.specs.Arena.{slots}
 use Rattle.walrus_items.specs.Imports.{import_value, imports_item}
 use Rattle.walrus_items.proofs.SeenLemmas.{first-seen}

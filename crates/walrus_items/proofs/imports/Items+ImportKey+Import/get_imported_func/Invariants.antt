@@ -1,7 +1,7 @@
 use Rattle.std.proofs.Common.{◌≡◌}
 use Rattle.std.specs.Prelude.{find}
 use Rattle.walrus_base.specs.Id.{place}
-use Rattle.walrus_types.specs.Operators.{function_item}
+use Rattle.walrus_base.specs.Operators.{function_item}
 use Rattle.walrus_base.specs.Arena.{entries_left}
 use Rattle.walrus_items.specs.Seen.{seen_entries}
 use Rattle.walrus_items.specs.Searches.{first}

@@ -1,6 +1,6 @@
 use Rattle.std.proofs.Common.{ℕ, refl}
 use Rattle.walrus_items.specs.Imports.{ImportValue, imports, is_import_of}
-use Rattle.walrus_items.proofs.Found.{is_found}
+use Rattle.walrus_base.proofs.SearchFound.{is_found}
 use Rattle.walrus_items.proofs.imports.«Items+ImportKey+Import».remove.Goals as goal
 
 pub delete-requires : goal.delete-requires

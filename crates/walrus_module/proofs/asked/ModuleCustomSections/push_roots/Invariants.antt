@@ -1,6 +1,6 @@
 use Rattle.std.proofs.Common.{◌≡◌, flat_map}
 use Rattle.walrus_base.specs.Arena.{entries}
-use Rattle.walrus_parts.specs.Roots.{with_roots}
+use Rattle.walrus_items.specs.Roots.{with_roots}
 use Rattle.walrus_module.specs.Customs.{sections, sections_left}
 use Rattle.walrus_module.specs.Meaning.{Meaning}
 use Rattle.walrus_module.proofs.Asking.{AreAmong, mean}

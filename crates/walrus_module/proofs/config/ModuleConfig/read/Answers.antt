@@ -3,7 +3,7 @@ use Rattle.std.specs.Fn.{FnReturnsAt}
 use Rattle.walrus_code.specs.Location.{location, location_at}
 use Rattle.walrus_module.specs.Flags.{config_of, flags}
 use Rattle.walrus_module.specs.Located.{Gives, MayAnswer}
-use Rattle.walrus_module.proofs.Locating.{given_so, if_located_by}
+use Rattle.walrus_reading.proofs.LocatedOtherwise.{given_so, if_located_by}
 use Rattle.walrus_module.proofs.config.ModuleConfig.read.Goals as goal
 
 pub returns-in-Some-clause-found : goal.returns-in-Some-clause-found

@@ -4,7 +4,7 @@ use Rattle.std.proofs.lemmas.Result.{err_from_is_err_and}
 use Rattle.walrus_contents.specs.There.{IsRefusal}
 use Rattle.walrus_model.specs.Abstract.{Abstract}
 use Rattle.walrus_model.specs.Dead.{HasDead}
-use Rattle.walrus_parts.specs.declared.transform.CodeTransform.{CodeTransform}
+use Rattle.walrus_items.specs.declared.transform.CodeTransform.{CodeTransform}
 use Rattle.walrus_module.specs.Flags.{config_of}
 use Rattle.walrus_module.specs.Following.{OneMayRefuseThen}
 use Rattle.walrus_module.specs.Settings.{settings}

@@ -2,12 +2,12 @@ use Rattle.std.proofs.Common.{◌≡◌, ℕ, sym, ap, ◌∙◌, subst, inr, If
 use Rattle.std.specs.Prelude.{true, ◌⊎◌}
 use Rattle.std.specs.Global.{Vec}
 use Rattle.std.proofs.lemmas.Result.{err_from_is_err_and}
-use Rattle.walrus_parts.specs.Transform.{transform_of}
-use Rattle.walrus_parts.specs.declared.transform.CodeTransform.{CodeTransform}
-use Rattle.walrus_rules.specs.Chain.{Leaves}
-use Rattle.walrus_rules.specs.Refused.{IsSayable, RefusesToWrite}
-use Rattle.walrus_rules.proofs.SameItems.{dead_back}
-use Rattle.walrus_rules.proofs.WellStays.{leaves_well}
+use Rattle.walrus_items.specs.Transform.{transform_of}
+use Rattle.walrus_items.specs.declared.transform.CodeTransform.{CodeTransform}
+use Rattle.walrus_theorem.specs.Chain.{Leaves}
+use Rattle.walrus_theorem.specs.Refused.{IsSayable, RefusesToWrite}
+use Rattle.walrus_theorem.proofs.SameItems.{dead_back}
+use Rattle.walrus_theorem.proofs.WellStays.{leaves_well}
 use Rattle.walrus_writing.specs.Emitted.{IsEmitted, told}
 use Rattle.walrus_writing.specs.Transform.{IsTransformOf}
 use Rattle.walrus_module.specs.Asked.{asked_first}

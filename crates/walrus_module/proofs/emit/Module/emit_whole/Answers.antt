@@ -2,11 +2,11 @@ use Rattle.std.proofs.Common.{ℕ, Bool, true, sym, subst, inl}
 use Rattle.std.specs.Global.{Vec}
 use Rattle.std.proofs.lemmas.Result.{err_from_is_err_and}
 use Rattle.walrus_code.specs.Transform.{Transform}
-use Rattle.walrus_parts.specs.Transform.{transform_of}
+use Rattle.walrus_items.specs.Transform.{transform_of}
 use Rattle.walrus_module.specs.Answered.{IsWellWritten}
-use Rattle.walrus_parts.specs.declared.transform.CodeTransform.{CodeTransform}
-use Rattle.walrus_rules.specs.Refused.{PassesLimits}
-use Rattle.walrus_rules.proofs.SameItems.{dead_on}
+use Rattle.walrus_items.specs.declared.transform.CodeTransform.{CodeTransform}
+use Rattle.walrus_theorem.specs.Refused.{PassesLimits}
+use Rattle.walrus_theorem.proofs.SameItems.{dead_on}
 use Rattle.walrus_writing.specs.Emitted.{refusal_of}
 use Rattle.walrus_writing.specs.Transform.{IsTransformOf}
 use Rattle.walrus_module.specs.Flags.{config_of}

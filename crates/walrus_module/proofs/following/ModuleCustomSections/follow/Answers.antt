@@ -2,7 +2,7 @@ use Rattle.std.proofs.Common.{◌≤◌, refl, sym, ◌∙◌, subst}
 use Rattle.std.proofs.lemmas.Result.{err_from_is_err_and}
 use Rattle.walrus_base.specs.Arena.{item_at}
 use Rattle.walrus_base.specs.Id.{place}
-use Rattle.walrus_parts.specs.Transform.{transform_of}
+use Rattle.walrus_items.specs.Transform.{transform_of}
 use Rattle.walrus_module.specs.Customs.{sections}
 use Rattle.walrus_module.specs.Following.{IsRaw}
 use Rattle.walrus_module.proofs.FollowedSlots.{all_followed, begun, one_may_refuse, one_more, one_refused}

@@ -1,5 +1,5 @@
 use Rattle.std.proofs.Common.{◌≡◌, length}
-use Rattle.walrus_parts.specs.Transform.{transform_of}
+use Rattle.walrus_items.specs.Transform.{transform_of}
 use Rattle.walrus_module.specs.Customs.{sections}
 use Rattle.walrus_module.specs.Following.{AreRaw}
 use Rattle.walrus_module.proofs.FollowedSlots.{SoFar}

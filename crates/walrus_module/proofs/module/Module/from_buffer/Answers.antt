@@ -1,7 +1,7 @@
 use Rattle.std.proofs.Common.{subst, IfOk}
 use Rattle.walrus_module.specs.Flags.{Flags, config_of}
 use Rattle.walrus_module.specs.Located.{GivenBy}
-use Rattle.walrus_module.specs.Parsed.{AreLocated, IsParsed}
+use Rattle.walrus_reading.specs.Parsed.{AreLocated, IsParsed}
 use Rattle.walrus_module.specs.View.{view}
 use Rattle.walrus_module.proofs.module.Module.from_buffer.Goals as goal
 

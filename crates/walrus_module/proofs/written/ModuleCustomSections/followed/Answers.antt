@@ -1,5 +1,5 @@
 use Rattle.std.proofs.lemmas.Result.{err_from_is_err_and}
-use Rattle.walrus_parts.specs.Transform.{transform_of}
+use Rattle.walrus_items.specs.Transform.{transform_of}
 use Rattle.walrus_module.specs.Flags.{config_of, flags_of}
 use Rattle.walrus_module.proofs.WrittenSections.{left_midway, told_so, unfollowed}
 use Rattle.walrus_module.proofs.written.ModuleCustomSections.followed.Goals as goal

@@ -3,7 +3,7 @@ use Rattle.std.specs.Prelude.{AllPairs}
 use Rattle.std.proofs.lemmas.List.{map-append}
 use Rattle.walrus_code.specs.Code.{item_of}
 use Rattle.walrus_code.specs.declared.items.ItemId.{ItemId}
-use Rattle.walrus_types.specs.Operators.{Item}
+use Rattle.walrus_base.specs.Operators.{Item}
 use Rattle.walrus_contents.specs.Named.{items_in}
 use Rattle.walrus.specs.MarkedItems.{has_mark}
 use Rattle.walrus.proofs.Entered.{notes_again, notes_new, once_more}

@@ -2,7 +2,7 @@ use Rattle.std.proofs.Common.{◌≤◌, List, length, ◌++◌, ap, ◌∙◌, 
 use Rattle.std.proofs.lemmas.List.{take_all}
 use Rattle.walrus_base.specs.declared.id.Id.{Id}
 use Rattle.walrus_base.specs.declared.keys.FunctionKey.{FunctionKey}
-use Rattle.walrus_parts.specs.Roots.{places}
+use Rattle.walrus_items.specs.Roots.{places}
 use Rattle.walrus.proofs.ListedRoots.{roots_of}
 use Rattle.walrus.proofs.sections.listed.ListedSectionCustomSection.add_gc_roots.Goals as goal
 

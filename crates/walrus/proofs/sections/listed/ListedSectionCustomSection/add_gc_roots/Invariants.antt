@@ -1,5 +1,5 @@
 use Rattle.std.proofs.Common.{◌≡◌, ◌++◌, take}
-use Rattle.walrus_parts.specs.Roots.{places}
+use Rattle.walrus_items.specs.Roots.{places}
 use Rattle.walrus.proofs.sections.listed.ListedSectionCustomSection.add_gc_roots.Given as goal
 
 -- the functions so far are asked for

@@ -1,7 +1,7 @@
 use Rattle.std.proofs.Common.{◌≡◌, ℕ, flat_map, take}
-use Rattle.walrus_types.specs.Operators.{Functions}
+use Rattle.walrus_base.specs.Operators.{Functions}
 use Rattle.walrus_code.specs.Indices.{index_of}
-use Rattle.walrus_parts.specs.Roots.{places}
+use Rattle.walrus_items.specs.Roots.{places}
 use Rattle.walrus.specs.Listed.{found_bytes}
 use Rattle.walrus.proofs.sections.listed.ListedSectionCustomSection.data.Given as goal
 

@@ -3,7 +3,7 @@ use Rattle.std.proofs.Common.{◌≡◌, ℕ, List, map, nat_eq, ap, ap₂, ◌�
 use Rattle.std.specs.HashMap.{get}
 use Rattle.std.specs.Prelude.{Option}
 use Rattle.walrus_code.specs.declared.location.InstrLocId.{InstrLocId}
-use Rattle.walrus_parts.specs.Transform.{location_of}
+use Rattle.walrus_items.specs.Transform.{location_of}
 use Rattle.walrus.specs.Places.{last_place, moved_by, pairs_state}
 use Rattle.walrus.specs.declared.sections.places.PlacedPair.{PlacedPair}
 use Rattle.walrus.proofs.sections.places.PlacesSectionCustomSection.apply_code_transform.Goals as goal

@@ -1,0 +1,218 @@
+//! The plain bodies of a module, as they stand in the input (Binary Format > Modules > Code Section).
+#![tactic(auto, unfolding(crate::specs::PlainCode::limits_in, crate::specs::Function::name_of, crate::specs::Function::as_text, crate::specs::Function::body_of, crate::specs::Function::locations_of, crate::specs::Function::args_of, crate::specs::Function::handlers_in, crate::specs::Function::listed_in, crate::specs::Function::located_in))]
+
+ghost use Rattle.std.specs.Prelude.{◌≡◌};
+ghost use Rattle.std.specs.List.{All};
+ghost use Rattle.walrus_bodies.specs.PlainBody.{IsHeld};
+
+use crate::pieces::{bytes_between, marks_between};
+use crate::scan::{ScanRoom, scan_body};
+use std::alloc::{AllocError, Global};
+use std::rc::Rc;
+use wasm_text::Limits;
+
+// Where a plain body stands in the code of its module, and what is told of it. Of a body that isn't plain there are no operators.
+#[derive(Clone, Copy)]
+pub(crate) struct Entry {
+    // Where its operators begin among the bytes, and where they end.
+    pub(crate) begin: u32,
+    pub(crate) end: u32,
+    // The same of its marks.
+    pub(crate) first_mark: u32,
+    pub(crate) last_mark: u32,
+    // How many operators there are.
+    pub(crate) count: u32,
+    // Where the first of them stood in the input.
+    pub(crate) start: u32,
+    // How many locals its function has.
+    pub(crate) locals: u32,
+}
+
+// Where nothing stands.
+const NOWHERE: Entry = Entry {
+    begin: 0,
+    end: 0,
+    first_mark: 0,
+    last_mark: 0,
+    count: 0,
+    start: 0,
+    locals: 0,
+};
+
+/// The plain bodies of a module: the bytes of their operators as they stand in the input, one body behind another, with marks where an argument
+/// stands that names something or isn't in its one spelling. What they name is within the limits.
+#[derive(Drop)]
+pub struct PlainCode {
+    pub(crate) bytes: Vec<u8>,
+    pub(crate) marks: Vec<u32>,
+    pub(crate) entries: Vec<Entry>,
+    pub(crate) limits: Limits,
+    ghost held: { ∥ All (IsHeld limits bytes.items marks.items) entries.items ∥₁ },
+}
+
+// The same counts, with so many locals.
+fn with_locals(limits: Limits, locals: u32) -> Limits
+    ensures { result ≡ record limits { locals = locals } }
+{
+    let mut limits = limits;
+    limits.locals = locals;
+    limits
+}
+
+impl PlainCode {
+    ghost use Rattle.std.specs.Prelude.{IfOk, IfSome, ◌+◌, length};
+    ghost use Rattle.walrus_bodies.specs.PlainBody.{IsPlainBody, with_locals};
+    ghost use Rattle.walrus_bodies.specs.PlainCode.{IsBehind, bytes_in, entry_at, limits_in, marks_in};
+
+    /// No bodies yet, and room for so many, which have so many bytes of operators together. What they name is to be within the limits; of
+    /// locals and blocks there is none.
+    ///
+    /// # Errors
+    ///
+    /// `AllocError` where no memory is left.
+    pub fn new(
+        alloc: Global,
+        limits: Limits,
+        bodies: usize,
+        bytes: usize,
+    ) -> Result<PlainCode, AllocError>
+        ensures { IfOk result (λ code. limits_in code ≡ limits) }
+    {
+        Ok(PlainCode {
+            bytes: Vec::with_capacity(alloc, bytes)?,
+            marks: Vec::new(alloc),
+            entries: Vec::with_capacity(alloc, bodies)?,
+            limits,
+        })
+    }
+
+    // What is told of the body of a number.
+    #[inline]
+    pub(crate) fn entry(&self, number: u32) -> Entry
+        ensures { result ≡ entry_at self.now number }
+    {
+        match self.entries.get(number as usize) {
+            Some(entry) => *entry,
+            None => NOWHERE,
+        }
+    }
+
+    // The bytes of a body's operators.
+    #[inline]
+    pub(crate) fn bytes_of(&self, entry: Entry) -> &[u8]
+        ensures { result.now ≡ bytes_in self.now entry }
+    {
+        bytes_between(&self.bytes, entry.begin as usize, entry.end as usize)
+    }
+
+    // The marks of a body's arguments.
+    #[inline]
+    pub(crate) fn marks_of(&self, entry: Entry) -> &[u32]
+        ensures { result.now ≡ marks_in self.now entry }
+    {
+        marks_between(
+            &self.marks,
+            entry.first_mark as usize,
+            entry.last_mark as usize,
+        )
+    }
+
+    // What is told of so many operators of these bytes and marks behind what stands there; none where a number passes 32 bits.
+    fn entry_behind(
+        &self,
+        operators: &[u8],
+        marks: &[u32],
+        count: usize,
+        start: usize,
+        locals: u32,
+    ) -> Option<Entry>
+        ensures { IfSome result (λ entry.
+            IsBehind self.now operators.now marks.now count start locals entry) }
+    {
+        let begin = u32::try_from(self.bytes.len()).ok()?;
+        let first_mark = u32::try_from(self.marks.len()).ok()?;
+        Some(Entry {
+            begin,
+            end: begin.checked_add(u32::try_from(operators.len()).ok()?)?,
+            first_mark,
+            last_mark: first_mark.checked_add(u32::try_from(marks.len()).ok()?)?,
+            count: u32::try_from(count).ok()?,
+            start: u32::try_from(start).ok()?,
+            locals,
+        })
+    }
+
+    /// The same bodies, and behind them the one whose operators are these bytes, which begin at `start` of the input, of a function of so
+    /// many locals. If it isn't plain or names more than the limits allow, it stands there without operators.
+    ///
+    /// # Errors
+    ///
+    /// `AllocError` where no memory is left.
+    pub fn scan(
+        self,
+        operators: &[u8],
+        start: usize,
+        locals: u32,
+        room: &mut ScanRoom,
+    ) -> Result<PlainCode, AllocError>
+        ensures { IfOk result (λ code. limits_in code ≡ limits_in self) }
+    {
+        let limits = with_locals(self.limits, locals);
+        match scan_body(operators, &limits, room)? {
+            Some(count) => self.push(operators, &room.marks, count, start, locals),
+            None => self.skip(),
+        }
+    }
+
+    // The same with such a body behind them.
+    fn push(
+        self,
+        operators: &[u8],
+        marks: &[u32],
+        count: usize,
+        start: usize,
+        locals: u32,
+    ) -> Result<PlainCode, AllocError>
+        requires plain { IsPlainBody (with_locals self.limits locals) operators.now marks.now count }
+        ensures { IfOk result (λ code. limits_in code ≡ limits_in self) }
+    {
+        let Some(entry) = self.entry_behind(operators, marks, count, start, locals) else {
+            return self.skip();
+        };
+        let mut code = self;
+        code.bytes.extend_from_slice(operators)?;
+        code.marks.extend_from_slice(marks)?;
+        code.entries.push(entry)?;
+        Ok(code)
+    }
+
+    /// The same bodies, and behind them one that isn't plain.
+    ///
+    /// # Errors
+    ///
+    /// `AllocError` where no memory is left.
+    pub fn skip(self) -> Result<PlainCode, AllocError>
+        ensures { IfOk result (λ code. limits_in code ≡ limits_in self) }
+    {
+        let mut code = self;
+        code.entries.push(NOWHERE)?;
+        Ok(code)
+    }
+
+    /// These bodies, to be shared by their functions.
+    ///
+    /// # Errors
+    ///
+    /// `AllocError` where no memory is left.
+    pub fn share(self, alloc: Global) -> Result<Rc<PlainCode>, AllocError>
+        ensures { IfOk result (λ code. limits_in code.value ≡ limits_in self) }
+    {
+        let mut code = self;
+        code.bytes.shrink_to_fit();
+        code.marks.shrink_to_fit();
+        match Rc::new(alloc, code) {
+            Ok(shared) => Ok(shared),
+            Err(_) => Err(AllocError),
+        }
+    }
+}

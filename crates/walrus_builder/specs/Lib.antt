@@ -1,4 +1,0 @@
-pub mod Function
-pub mod Instructions
-pub mod LendsBody
-pub mod Sequence

@@ -1,8 +1,0 @@
-//! Building functions with a body (Structure > Modules > Functions).
-#![tactic(auto)]
-
-mod function;
-mod sequence;
-
-pub use function::FunctionBuilder;
-pub use sequence::InstrSeqBuilder;

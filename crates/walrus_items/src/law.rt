@@ -1,9 +1,0 @@
-//! The laws of equality, as contracts.
-ghost use Rattle.walrus_items.specs.Equality.{ComparesImports};
-
-use crate::imports::Import;
-
-/// Two imports are equal exactly where all their parts are.
-pub fn imports_are_equal_by_parts()
-    ensures { ComparesImports ⟦<Import as PartialEq>⟧.eq }
-{}

@@ -1,4 +1,0 @@
-pub mod NamesLemmas
-pub mod PlacedNames
-pub mod TextNames
-pub mod UsedNames

@@ -1,2 +1,0 @@
-pub mod CopyLemmas
-pub mod ItemLemmas

@@ -1,5 +1,0 @@
-use Rattle.walrus_parts.proofs.ItemLemmas.{is_item-same, same-is_item}
-use Rattle.walrus_parts.proofs.law.items_are_told_apart.Goals as goal
-
-pub returns : goal.returns
-returns c = λ x y. (is_item-same x y, same-is_item x y)

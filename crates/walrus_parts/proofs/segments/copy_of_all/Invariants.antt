@@ -1,8 +1,0 @@
-use Rattle.std.proofs.Common.{take}
-use Rattle.std.specs.List.{AllZip}
-use Rattle.walrus_types.specs.ConstOps.{SameExpr}
-use Rattle.walrus_parts.proofs.segments.copy_of_all.Given as goal
-
--- the copies so far are those of the expressions so far
-abbrev pub invariant-copied : goal.invariant-copied
-invariant-copied l = AllZip SameExpr (take l.expression-index l.all) l.copy.items

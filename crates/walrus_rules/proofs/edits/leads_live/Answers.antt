@@ -1,5 +1,0 @@
-use Rattle.walrus_rules.proofs.EditLeads.{leads_live}
-use Rattle.walrus_rules.proofs.edits.leads_live.Goals as goal
-
-pub returns : goal.returns
-returns c = leads_live

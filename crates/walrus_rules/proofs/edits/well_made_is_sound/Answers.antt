@@ -1,5 +1,0 @@
-use Rattle.walrus_rules.proofs.EditSound.{well_made_is_sound}
-use Rattle.walrus_rules.proofs.edits.well_made_is_sound.Goals as goal
-
-pub returns : goal.returns
-returns c = well_made_is_sound

@@ -1,5 +1,0 @@
-use Rattle.walrus_rules.proofs.WorkedEngine.{engine_runs}
-use Rattle.walrus_rules.proofs.engines.worked_engine.Goals as goal
-
-pub returns : goal.returns
-returns c = engine_runs

@@ -1,5 +1,0 @@
-use Rattle.walrus_rules.proofs.StepRead.{steps_come_out_lem}
-use Rattle.walrus_rules.proofs.steps.steps_come_out.Goals as goal
-
-pub returns : goal.returns
-returns g = λ c bytes m u n reads holds brings written. steps_come_out_lem c bytes m u n reads holds brings written

@@ -1,5 +1,0 @@
-use Rattle.walrus_rules.proofs.WorkedRun.{row_runs}
-use Rattle.walrus_rules.proofs.steps.worked_run.Goals as goal
-
-pub returns : goal.returns
-returns c = row_runs

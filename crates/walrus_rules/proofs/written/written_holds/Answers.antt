@@ -1,5 +1,0 @@
-use Rattle.walrus_rules.proofs.WrittenHolds as all
-use Rattle.walrus_rules.proofs.written.written_holds.Goals as goal
-
-pub returns : goal.returns
-returns g = all.written_holds

@@ -1,5 +1,0 @@
-use Rattle.walrus_types.proofs.ShapesKept.{adding_keeps}
-use Rattle.walrus_types.proofs.law.adding_keeps_shapes.Goals as goal
-
-pub returns : goal.returns
-returns c = adding_keeps

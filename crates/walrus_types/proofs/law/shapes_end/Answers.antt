@@ -1,5 +1,0 @@
-use Rattle.walrus_types.proofs.ShapesEnd.{shapes_of_all}
-use Rattle.walrus_types.proofs.law.shapes_end.Goals as goal
-
-pub returns : goal.returns
-returns c = shapes_of_all

@@ -1,7 +1,0 @@
-mod Alls
-mod Args
-mod Copies
-mod Named
-mod Ranges
-mod OpLemmas
-mod TypeLemmas

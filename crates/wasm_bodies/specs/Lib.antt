@@ -1,3 +1,0 @@
-pub mod Comparing
-pub mod Status
-pub mod Words

@@ -1,0 +1,32 @@
+//! Tests of the crates that read and write bytes, up to `wasm_wire`: each call that takes memory, once, where it succeeds. And of `wasm_text`:
+//! each public function where it succeeds, and operators that aren't scanned.
+#![tactic(auto)]
+
+#[cfg(test)]
+mod appended;
+#[cfg(test)]
+mod entries;
+#[cfg(test)]
+mod forms;
+#[cfg(test)]
+mod measures;
+#[cfg(test)]
+mod names;
+#[cfg(test)]
+mod names_written;
+#[cfg(test)]
+mod places;
+#[cfg(test)]
+mod producers;
+#[cfg(test)]
+mod producers_written;
+#[cfg(test)]
+mod scans;
+#[cfg(test)]
+mod told;
+#[cfg(test)]
+mod wire;
+#[cfg(test)]
+mod wire_calls;
+#[cfg(test)]
+mod wire_rows;
