@@ -5,9 +5,11 @@ Crates are proved side by side by `rt all check`, as many as there are processor
 two, `rt` chooses itself), and the crate itself is built by `rt run` or `rt lib` behind them. tests/build-times.txt, the seconds that each
 crate takes, serves to guess the time left. What was proved when a run is interrupted is kept, and the next one goes on from there.
 """
+import contextlib
 import functools
 import os
 import pathlib
+import shutil
 import subprocess
 import sys
 import tempfile
@@ -29,7 +31,14 @@ def table(path):
     return {line[0].rstrip(":"): line[1:] for line in lines if line}
 
 
-NAMED = table(TOP / "crates.txt")
+def listed():
+    """The crates of crates.txt with those that each lists, and which of them are static libraries."""
+    rows = [line.split("#")[0].partition(":") for line in (TOP / "crates.txt").read_text().splitlines()]
+    rows = [(head.split(), below.split()) for head, _, below in rows if head.strip()]
+    return {head[0]: below for head, below in rows}, {head[0] for head, _ in rows if "staticlib" in head}
+
+
+NAMED, STATIC = listed()
 
 
 @functools.cache
@@ -104,28 +113,78 @@ def build(crate, is_program, log):
         subprocess.run(command, cwd=CRATES / crate, stdin=source, stdout=subprocess.DEVNULL, stderr=log, check=False)
 
 
+def are_built(crates, since):
+    """Whether each of these libraries was built since then: by `rt lib`, or by `rt ci`, which leaves no stamp."""
+    made = [CRATES / it / "out" / "rlib" / f"{it}.rlib" for it in crates]
+    return all(it.exists() and it.stat().st_mtime >= since for it in made)
+
+
+def archive(crate, log):
+    """Proves a static library over the libraries that are built, as they are, and compiles it."""
+    sys.path.insert(0, str(pathlib.Path(os.path.realpath(shutil.which("rt"))).parent))
+    sys.dont_write_bytecode = True
+    import rtlib
+
+    with contextlib.redirect_stdout(log):
+        words = rtlib.Crate(str(CRATES / crate), str(TOP), {}).words(["--jobs", "1"], keeps=False)
+    to = f"out/lib{crate}.a"
+    command = [rtlib.RATTLE, "build", *words, "--toolchain", f"{rtlib.KIT}/toolchain", "--backend", "llvm", "-o", to]
+    (CRATES / crate / "out").mkdir(exist_ok=True)
+    subprocess.run(command, cwd=CRATES / crate, stdout=log, stderr=log, check=False)
+
+
+def link(crate, log):
+    """Makes the libraries that programs link of the archive of a static library, if it is there."""
+    out = CRATES / crate / "out"
+    if (out / f"lib{crate}.a").exists():
+        subprocess.run([TOP / "tests" / "library.sh", out / f"lib{crate}.a", out / "lib"], stdout=log, stderr=log, check=False)
+
+
+def made_of(crate):
+    """The kind of a crate (`program`, `static` or `library`), what its build leaves, and what is there only behind a proof."""
+    out = CRATES / crate / "out"
+    if (CRATES / crate / "src" / "main.rt").exists():
+        return "program", out / crate, out / f"{crate}.stamp"
+    if crate in STATIC:
+        return "static", out / "lib" / "libmulkavesh.a", out / "lib" / "libmulkavesh.so"
+    return "library", out / "rlib" / "stamp", out / "rlib" / "stamp"
+
+
+def make(crate, kind, crates, log):
+    """Proves what isn't proved yet, and builds the crate; answers whether all is proved."""
+    if kind == "static" and are_built(crates - {crate}, newest_source(crates)):
+        archive(crate, log)
+        link(crate, log)
+        return True
+    progress = Progress({it: all_below(it) for it in NAMED if it in crates})
+    say(f"{len(crates)} crate{'s' * (len(crates) > 1)} to be proved where not proved yet; from nothing that takes about"
+        f" {progress.minutes_left():.0f} min, where nothing else is at work")
+    is_proved = prove(crate, progress, log)
+    if is_proved:
+        build(crate, kind == "program", log)
+        if kind == "static":
+            link(crate, log)
+    return is_proved
+
+
 def main():
     if len(sys.argv) != 2 or sys.argv[1] not in NAMED:
         sys.exit("usage: tests/build.sh CRATE, a crate of crates.txt")
     crate = sys.argv[1]
     crates = {crate, *all_below(crate)}
-    is_program = (CRATES / crate / "src" / "main.rt").exists()
-    made = CRATES / crate / "out" / (crate if is_program else "rlib/stamp")
+    kind, made, stamp = made_of(crate)
     if made.exists() and made.stat().st_mtime >= newest_source(crates):
         return
-    progress, begin = Progress({it: all_below(it) for it in NAMED if it in crates}), time.time()
-    say(f"{len(crates)} crate{'s' * (len(crates) > 1)} to be proved where not proved yet; from nothing that takes about"
-        f" {progress.minutes_left():.0f} min, where nothing else is at work")
+    begin = time.time()
+    # rt takes a stamp away before it builds anew, so an older program has none
+    for it in (made, stamp) if kind == "static" else ():
+        it.unlink(missing_ok=True)
     with tempfile.NamedTemporaryFile("w", buffering=1, prefix=f"build-{crate}-", delete=False) as log:
         try:
-            is_proved = prove(crate, progress, log)
-            if is_proved:
-                build(crate, is_program, log)
+            is_proved = make(crate, kind, crates, log)
         except KeyboardInterrupt:
             os.remove(log.name)
             sys.exit("build: interrupted; what is proved is kept, and the next call goes on from there")
-    # rt takes a stamp away before it builds anew, so an older program has none
-    stamp = made.with_name(f"{crate}.stamp") if is_program else made
     if not is_proved or not stamp.exists():
         sys.exit(f"build: {crate} isn't built; see {log.name}")
     os.utime(made, (begin, begin))

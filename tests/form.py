@@ -5,7 +5,7 @@
 
 Refused are: a file of src that doesn't begin with `//!`, or has more than 800 lines; a line of a clause of more than 110 columns;
 a body of a function of more than 40 lines; a bare hexadecimal number in src or specs outside the files that name such numbers; a
-README.md of more than 100 lines, or with one of more than 100 columns; a crate that crates.txt lists for another one whose files don't
+README.md of more than 112 lines, or with one of more than 100 columns; a crate that crates.txt lists for another one whose files don't
 name it; more ways down the crates than rt can sum up in a few minutes; more lines of lemmas above the
 crate that has their words; more wrong edits in the gate than its time allows; a wrong edit, of the gate or of tests/edits, whose old
 text doesn't stand exactly once in its file; a page docs/CALLS.md that isn't what tests/calls.py makes of the sources; a file of
@@ -27,10 +27,10 @@ CRATES = TOP / "crates"
 MOST_LINES_OF_A_FILE = 800
 MOST_LINES_OF_A_BODY = 40
 WIDEST_CLAUSE = 110
-MOST_LINES_OF_THE_README = 100
+MOST_LINES_OF_THE_README = 112
 MOST_COLUMNS_OF_THE_README = 100
 # Ways down the crates, from each crate to each that it lists, and on from there.
-MOST_WAYS = 90_000
+MOST_WAYS = 110_000
 MOST_ARROWS = 225
 # Lines of files of lemmas above the highest crate that they speak of.
 MOST_LINES_ABOVE_THEIR_WORDS = 1_500
@@ -154,7 +154,7 @@ def words_of(crate):
 def listed_crates():
     """The crates of crates.txt, each with those that it lists."""
     rows = [line.partition("#")[0].partition(":") for line in lines_of(TOP / "crates.txt")]
-    return {name.strip(): below.split() for name, _, below in rows if name.strip()}
+    return {name.split()[0]: below.split() for name, _, below in rows if name.strip()}
 
 
 def wrong_in_crates():

@@ -1,9 +1,10 @@
 #!/usr/bin/env bash
 # Puts in what the scripts of this folder compare with, as Debian's packages: wabt (wat2wasm, wasm-objdump, wasm-validate), binaryen (wasm-opt) and
-# nodejs (node). What is there stays. Where a package can't be put in, it says which commands are missing, and ends with status 1: what is compared
+# nodejs (node); and what c.sh, rust.sh and python.sh compile and run: g++ (cc, c++, nm), cargo and python3. What is there stays. Where a package can't be put in, it says which commands are missing, and ends with status 1: what is compared
 # with them isn't compared then. `.ci/run` calls it, with a limit on its time. tests/install.sh [--look]: with --look nothing is put in.
 set -u
-declare -A package=([wat2wasm]=wabt [wasm-objdump]=wabt [wasm-validate]=wabt [wasm-opt]=binaryen [node]=nodejs)
+declare -A package=([wat2wasm]=wabt [wasm-objdump]=wabt [wasm-validate]=wabt [wasm-opt]=binaryen [node]=nodejs
+  [cc]=g++ [c++]=g++ [nm]=binutils [cargo]=cargo [python3]=python3)
 
 # The commands that aren't there, in the order of their names.
 missing() {

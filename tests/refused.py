@@ -112,4 +112,5 @@ def main():
     sys.exit(finds > 0 or not modules)
 
 
-main()
+if __name__ == "__main__":
+    main()

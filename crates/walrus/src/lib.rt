@@ -9,6 +9,7 @@ mod message;
 pub mod passes;
 mod report;
 mod sections;
+mod slices;
 pub mod tool;
 mod transfer;
 mod work;

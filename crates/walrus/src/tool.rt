@@ -9,6 +9,7 @@ ghost use Rattle.walrus_module.specs.Flags.{config_of, flags};
 pub use crate::command::command;
 pub use crate::device::{DeviceFailed, FromRead, FromWrite, Sink, Source};
 pub use crate::message::refuse;
+pub use crate::slices::{report_of, smaller_of};
 use crate::work::{Report, Run, transfer};
 use std::alloc::Global;
 use walrus_module::{Error, ModuleConfig};

@@ -1,0 +1,12 @@
+use Rattle.std.proofs.Common.{ℕ, sym, ◌∙◌}
+use Rattle.std.specs.Global.{Vec}
+use Rattle.walrus_tools.specs.Handed.{RunsOn}
+use Rattle.walrus_tools.specs.Wanted.{config_wanted}
+use Rattle.walrus_tools.specs.declared.wanted.Wanted.{Wanted}
+use Rattle.mulkavesh_c.specs.Given.{Answer}
+use Rattle.mulkavesh_c.proofs.GivenLemmas.{gives_wanted}
+use Rattle.mulkavesh_c.proofs.mulkavesh_gc.Goals as goal
+
+pub returns : goal.returns
+returns c =
+    gives_wanted (λ (w : Wanted) (r : Answer). RunsOn (config_wanted w) c.args.input.now (λ (b : Vec ℕ). b.items) r) c.args.flags c.in-Some.wanted (sym c.in-Some.is ∙ c.wanted_by.ensures) c.gc-made.result _ _ _ _ c.gc-made.ensures c.put.ensures

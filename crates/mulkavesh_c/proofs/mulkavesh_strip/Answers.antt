@@ -1,0 +1,12 @@
+use Rattle.std.proofs.Common.{sym, ◌∙◌}
+use Rattle.walrus_tools.specs.Stripped.{AnswersStripped}
+use Rattle.mulkavesh_c.specs.Named.{UnderName}
+use Rattle.walrus_tools.specs.Wanted.{config_wanted}
+use Rattle.walrus_tools.specs.declared.wanted.Wanted.{Wanted}
+use Rattle.mulkavesh_c.specs.Given.{Answer}
+use Rattle.mulkavesh_c.proofs.GivenLemmas.{gives_wanted}
+use Rattle.mulkavesh_c.proofs.mulkavesh_strip.Goals as goal
+
+pub returns : goal.returns
+returns c =
+    gives_wanted (λ (w : Wanted) (r : Answer). UnderName c.args.name.now (AnswersStripped (config_wanted w) c.args.input.now c.args.name.now) r) c.args.flags c.in-Some.wanted (sym c.in-Some.is ∙ c.wanted_by.ensures) c.stripped-made.result _ _ _ _ c.stripped-made.ensures c.put.ensures

@@ -1,0 +1,160 @@
+//! What C calls: each call goes from bytes to bytes for which the caller has room, and answers a status. include/mulkavesh.h declares
+//! them, and says what the caller owes.
+#![tactic(auto)]
+
+mod asked;
+mod given;
+mod named;
+
+ghost use Rattle.std.specs.Prelude.{◌≡◌, true};
+ghost use Rattle.walrus_tools.specs.Handed.{ReportsOn, RunsOn, config_of, defaults};
+ghost use Rattle.walrus_tools.specs.Reasons.{AnswersChain};
+ghost use Rattle.walrus_tools.specs.Sized.{AnswersListed};
+ghost use Rattle.walrus_tools.specs.Snipped.{AnswersSnipped};
+ghost use Rattle.walrus_tools.specs.Stripped.{AnswersStripped};
+ghost use Rattle.walrus_tools.specs.Stubbed.{AnswersStubbed};
+ghost use Rattle.walrus_tools.specs.Wanted.{config_wanted};
+ghost use Rattle.mulkavesh_c.specs.Asked.{is_known, wanted};
+ghost use Rattle.mulkavesh_c.specs.Given.{Gives};
+ghost use Rattle.mulkavesh_c.specs.Named.{UnderName};
+
+use crate::asked::wanted_by;
+use crate::given::{UNKNOWN_FLAG, put, refused};
+use std::alloc::Global;
+
+/// The version: the major number times 2^16, the minor one times 2^8, and the patch.
+const VERSION: u32 = 256;
+
+/// The version of the interface and of what stands behind it.
+#[unsafe(no_mangle)]
+pub extern "C" fn mulkavesh_version() -> u32
+    ensures { result ≡ 256 }
+{
+    VERSION
+}
+
+/// The module without what nothing reaches: `walrus_tools::gc`.
+#[unsafe(no_mangle)]
+pub extern "C" fn mulkavesh_gc(
+    alloc: Global,
+    input: &[u8],
+    flags: u32,
+    output: &mut [u8],
+    length: &mut usize,
+) -> u32
+    ensures { Gives (is_known flags) (RunsOn (config_wanted (wanted flags)) input.now (λ bytes. bytes.items))
+        output.old output.new length.new result }
+{
+    let Some(wanted) = wanted_by(flags) else {
+        return refused(length, UNKNOWN_FLAG);
+    };
+    let made = walrus_tools::gc(alloc, input, wanted);
+    put(made, output, length)
+}
+
+/// How many items are kept and dropped, in seven lines: `walrus_tools::report`.
+#[unsafe(no_mangle)]
+pub extern "C" fn mulkavesh_report(
+    alloc: Global,
+    input: &[u8],
+    flags: u32,
+    output: &mut [u8],
+    length: &mut usize,
+) -> u32
+    ensures { Gives (is_known flags) (ReportsOn (config_wanted (wanted flags)) input.now (λ text. text.items))
+        output.old output.new length.new result }
+{
+    let Some(wanted) = wanted_by(flags) else {
+        return refused(length, UNKNOWN_FLAG);
+    };
+    let made = walrus_tools::report(alloc, input, wanted);
+    put(made, output, length)
+}
+
+/// The functions with a body that stay, with what each costs and its name: `walrus_tools::list`.
+#[unsafe(no_mangle)]
+pub extern "C" fn mulkavesh_list(
+    alloc: Global,
+    input: &[u8],
+    flags: u32,
+    output: &mut [u8],
+    length: &mut usize,
+) -> u32
+    ensures { Gives (is_known flags) (AnswersListed (config_wanted (wanted flags)) input.now)
+        output.old output.new length.new result }
+{
+    let Some(wanted) = wanted_by(flags) else {
+        return refused(length, UNKNOWN_FLAG);
+    };
+    let made = walrus_tools::list(alloc, input, wanted);
+    put(made, output, length)
+}
+
+/// The module without its first custom section of this name: `walrus_tools::strip`.
+#[unsafe(no_mangle)]
+pub extern "C" fn mulkavesh_strip(
+    alloc: Global,
+    input: &[u8],
+    flags: u32,
+    name: &[u8],
+    output: &mut [u8],
+    length: &mut usize,
+) -> u32
+    ensures { Gives (is_known flags)
+        (UnderName name.now (AnswersStripped (config_wanted (wanted flags)) input.now name.now))
+        output.old output.new length.new result }
+{
+    let Some(wanted) = wanted_by(flags) else {
+        return refused(length, UNKNOWN_FLAG);
+    };
+    let made = named::stripped(alloc, input, name, wanted);
+    put(made, output, length)
+}
+
+/// By which references the function of this index stays: `walrus_tools::chain`.
+#[unsafe(no_mangle)]
+pub extern "C" fn mulkavesh_why(
+    alloc: Global,
+    input: &[u8],
+    function: u32,
+    output: &mut [u8],
+    length: &mut usize,
+) -> u32
+    ensures { Gives true (AnswersChain (config_of defaults) input.now function (λ text. text.items))
+        output.old output.new length.new result }
+{
+    let made = named::reasoned(alloc, input, function);
+    put(made, output, length)
+}
+
+/// The module in which the function that is exported under this name traps: `walrus_tools::snip`.
+#[unsafe(no_mangle)]
+pub extern "C" fn mulkavesh_snip(
+    alloc: Global,
+    input: &[u8],
+    name: &[u8],
+    output: &mut [u8],
+    length: &mut usize,
+) -> u32
+    ensures { Gives true (UnderName name.now (AnswersSnipped (config_of defaults) input.now name.now))
+        output.old output.new length.new result }
+{
+    let made = named::snipped(alloc, input, name);
+    put(made, output, length)
+}
+
+/// The module in which the functions that were imported from this module trap: `walrus_tools::stub`.
+#[unsafe(no_mangle)]
+pub extern "C" fn mulkavesh_stub(
+    alloc: Global,
+    input: &[u8],
+    from: &[u8],
+    output: &mut [u8],
+    length: &mut usize,
+) -> u32
+    ensures { Gives true (UnderName from.now (AnswersStubbed (config_of defaults) input.now from.now))
+        output.old output.new length.new result }
+{
+    let made = named::stubbed(alloc, input, from);
+    put(made, output, length)
+}

@@ -1,0 +1,30 @@
+-- The lines of a report, in which all stands in front of the rest.
+use Rattle.std.proofs.Common.{◌≡◌, ℕ, ◌+◌, List, [], ◌∷◌, ◌++◌, codes, decimal, flat_map, get_or, length, map, take, append_assoc, sym, ap, ◌∙◌, ◌<◌}
+use Rattle.std.proofs.lemmas.Grind.{flat_map-append}
+use Rattle.std.proofs.lemmas.List.{append-nil, map_more}
+use Rattle.walrus_tools.specs.Reasons.{size_text}
+
+pub nested_line : (word text end : List ℕ) (number : ℕ) → text ≡ word ++ (codes " " ++ (decimal number ++ end)) → text ≡ word ++ codes " " ++ decimal number ++ end
+nested_line word text end number is =
+    is
+    ∙ sym (append_assoc word (codes " ") (decimal number ++ end))
+    ∙ sym (append_assoc (word ++ codes " ") (decimal number) end)
+
+-- a function, and behind it the bytes of its body
+pub size_joined : (text size : List ℕ) (index bytes : ℕ) → size ≡ codes ":" ++ codes " " ++ decimal bytes ++ codes " bytes\n" → text ≡ codes "function" ++ codes " " ++ decimal index ++ size → text ≡ size_text index bytes
+size_joined text size index bytes size_is is =
+    let front : List ℕ = codes "function" ++ codes " " ++ decimal index in
+    is
+    ∙ ap (λ (s : List ℕ). front ++ s) (size_is ∙ append_assoc (codes ":" ++ codes " ") (decimal bytes) (codes " bytes\n"))
+    ∙ sym (append_assoc front (codes ": ") (decimal bytes ++ codes " bytes\n"))
+    ∙ sym (append_assoc (front ++ codes ": ") (decimal bytes) (codes " bytes\n"))
+
+-- behind the lines of those before stands the line of the next
+pub line_more : {X Y : Type 0} (line : Y → List ℕ) (seen : X → Y) (xs : List X) (i : ℕ) (d : X) → i < length xs → (text : List ℕ) → text ≡ line (seen (get_or xs i d))
+    → flat_map line (map seen (take i xs)) ++ text ≡ flat_map line (map seen (take (i + 1) xs))
+line_more {Y = Y} line seen xs i d lt text is =
+    let more : map seen (take (i + 1) xs) ≡ map seen (take i xs) ++ seen (get_or xs i d) ∷ [] = map_more seen xs i d lt in
+    let one : flat_map line (seen (get_or xs i d) ∷ []) ≡ line (seen (get_or xs i d)) = append-nil (line (seen (get_or xs i d))) in
+    ap (λ (t : List ℕ). flat_map line (map seen (take i xs)) ++ t) (is ∙ sym one)
+    ∙ sym (flat_map-append line (map seen (take i xs)) (seen (get_or xs i d) ∷ []))
+    ∙ sym (ap (λ (ys : List Y). flat_map line ys) more)

@@ -1,0 +1,91 @@
+-- In a well-made module an import of a function and that function name each other, so that a search finds the one of the other.
+use Rattle.std.proofs.Common.{◌≡◌, ℕ, Bool, true, false, cond, List, [], ◌∷◌, Option, Some, None, find, option_map, refl, sym, ap, ◌∙◌, subst, inl, inr}
+use Rattle.std.specs.Prelude.{Contains, ◌⊎◌}
+use Rattle.walrus_base.specs.Arena.{entries, item_at}
+use Rattle.walrus_base.specs.Id.{place}
+use Rattle.walrus_base.specs.ModuleTypes.{type_slots}
+use Rattle.walrus_base.specs.Operators.{Functions, Item, function_item}
+use Rattle.walrus_base.specs.TypeDef.{TypeDef}
+use Rattle.walrus_base.specs.declared.locals.ModuleLocals.{ModuleLocals}
+use Rattle.walrus_model.specs.Abstract as abstract
+use Rattle.walrus_model.specs.Config.{Config}
+use Rattle.walrus_model.specs.WellMade.{import_in, kind_import, import_of as import_of_item}
+use Rattle.walrus_items.specs.FunctionKinds.{kind_type}
+use Rattle.walrus_items.specs.Kinds.{imported}
+use Rattle.walrus_items.specs.declared.function_kind.FunctionKind.{FunctionKind}
+use Rattle.walrus_items.specs.declared.function_kind.FunctionKind.TheVariants.{Import, Local, Uninitialized}
+use Rattle.walrus_items.specs.declared.function_kind.ImportedFunction.{ImportedFunction}
+use Rattle.walrus_items.proofs.ItemLemmas.{is_item-same, same-is_item}
+use Rattle.walrus_items.specs.Functions.{FunctionValue, functions}
+use Rattle.walrus_items.specs.Imports.{ImportValue, imports, imports_item}
+use Rattle.walrus_items.specs.Searches.{first}
+use Rattle.walrus_base.proofs.SearchFound.{found-item, found-passes}
+use Rattle.walrus_contents.specs.View.{contents_view, function, import_of, kind_of}
+use Rattle.walrus_contents.specs.declared.parts.Contents.{Contents}
+use Rattle.walrus_model.proofs.Slots.{entry_in}
+use Rattle.walrus_theorem.specs.WellMade.{IsWellMade}
+use Rattle.walrus_base.proofs.Lists.{Contains-none, Contains-uncons}
+use Rattle.walrus_tools.proofs.StubTurn.{Theirs}
+use Rattle.walrus_theorem.proofs.EditKept.{none_isnt, some_is}
+use Rattle.walrus_tools.specs.Stub.{import_place}
+use Rattle.walrus_base.proofs.ShapesKept.{made_of}
+
+-- a search that finds nothing passes over nothing
+pub finds : {X : Type 0} (p : X → Bool) (xs : List X) (x : X) → Contains xs x → p x ≡ true → find p xs ≡ None → ⊥
+finds p [] x at passes none = Contains-none x at
+finds {X = X} p (y ∷ ys) x at passes none = by (p y) refl none (Contains-uncons y x ys at) (finds p ys x) where
+  by : (b : Bool) → p y ≡ b → cond b (Some y) (find p ys) ≡ None → (y ≡ x) ⊎ Contains ys x → (Contains ys x → p x ≡ true → find p ys ≡ None → ⊥) → ⊥
+  by true is h some rest = none_isnt (sym h)
+  by false is h (inl here) rest = let no_such : false ≡ true = sym is ∙ ap p here ∙ passes in cc
+  by false is h (inr there) rest = rest there passes h
+
+-- function j stands there with this import, and its type does
+pub record IsBroughtBy (m : Contents) (j n : ℕ) : Type 0 where
+  pub f : FunctionValue
+  pub by : ImportedFunction
+  pub there : item_at (functions m.funcs) j ≡ Some f
+  pub kind : f.kind ≡ Import by
+  pub at_place : place by.«import» ≡ n
+  pub def : TypeDef
+  pub typed : item_at (type_slots m.types) (place by.ty) ≡ Some def
+
+module _ (c : Config) (m : Contents) (made : IsWellMade c (contents_view m)) where
+  by_kind : (k : FunctionKind) (p : ℕ) (locals : ModuleLocals) → import_place k ≡ Some p → kind_import (kind_of locals k) ≡ Some p
+  by_kind (Import i) p locals e = e
+  by_kind (Local l) p locals e = absurd (none_isnt e)
+  by_kind (Uninitialized ty) p locals e = absurd (none_isnt e)
+
+  pub theirs : Theirs (functions m.funcs) (imports m.imports)
+  theirs j p f at by =
+      let e = made.imports.items (Functions, j) p (ap (λ o. import_in (λ (g : abstract.Function). kind_import g.kind) (option_map (function m.locals) o)) at ∙ by_kind f.kind p m.locals by) in
+      let x = made_of import_of (item_at (imports m.imports) p) e.0 e.1 in
+      (x.0, x.1, ap (λ (y : abstract.Import). y.item) x.2 ∙ e.2)
+
+  module _ (n j : ℕ) (x : ImportValue) (at : item_at (imports m.imports) n ≡ Some x) (is : imported x.kind ≡ function_item j) where
+    named : import_in (λ (g : abstract.Function). kind_import g.kind) (option_map (function m.locals) (item_at (functions m.funcs) j)) ≡ Some n
+    named = subst (λ (i : Item). import_of_item (contents_view m) i ≡ Some n) is (made.imports.imports n (import_of x) (ap (option_map import_of) at))
+
+    with_kind : (f : FunctionValue) → item_at (functions m.funcs) j ≡ Some f → (k : FunctionKind) → f.kind ≡ k → kind_import (kind_of m.locals k) ≡ Some n → IsBroughtBy m j n
+    with_kind f there (Import i) kind e =
+        let typed = made.rules.function_types.functions j (function m.locals f) (ap (option_map (function m.locals)) there) in
+        record { f = f; by = i; there = there; kind = kind; at_place = some_is e; def = typed.0; typed = subst (λ (k : FunctionKind). item_at (type_slots m.types) (place (kind_type k)) ≡ Some typed.0) kind typed.1 }
+    with_kind f there (Local l) kind e = absurd (none_isnt e)
+    with_kind f there (Uninitialized ty) kind e = absurd (none_isnt e)
+
+    with_slot : (o : Option FunctionValue) → item_at (functions m.funcs) j ≡ o → import_in (λ (g : abstract.Function). kind_import g.kind) (option_map (function m.locals) o) ≡ Some n → IsBroughtBy m j n
+    with_slot None there e = absurd (none_isnt e)
+    with_slot (Some f) there e = with_kind f there f.kind refl e
+
+    pub brought_by : IsBroughtBy m j n
+    brought_by = with_slot (item_at (functions m.funcs) j) refl named
+
+    pub is_searched : first (imports_item (function_item j)) (imports m.imports) ≡ None → ⊥
+    is_searched none = finds (λ (e : ℕ × ImportValue). imports_item (function_item j) e.1) (entries (imports m.imports)) (n, x) (entry_in (imports m.imports) n x at) (same-is_item (imported x.kind) (function_item j) is) none
+
+  -- the first import of a function is the one that brings it
+  pub first_brings : (n j : ℕ) (x : ImportValue) → item_at (imports m.imports) n ≡ Some x → imported x.kind ≡ function_item j → (e : ℕ × ImportValue) → first (imports_item (function_item j)) (imports m.imports) ≡ Some e → e.0 ≡ n
+  first_brings n j x at is e found =
+      let one = brought_by n j x at is in
+      let two = brought_by e.0 j e.1 (found-item (λ (d : ℕ × ImportValue). imports_item (function_item j) d.1) (imports m.imports) e found) (is_item-same (imported e.1.kind) (function_item j) (found-passes (λ (d : ℕ × ImportValue). imports_item (function_item j) d.1) (imports m.imports) e found)) in
+      let same : two.f ≡ one.f = some_is (sym two.there ∙ one.there) in
+      sym two.at_place ∙ some_is (sym (ap import_place two.kind) ∙ ap (λ (f : FunctionValue). import_place f.kind) same ∙ ap import_place one.kind) ∙ one.at_place

@@ -1,0 +1,120 @@
+-- What was parsed, given a raw section more, then written or refused: what the whole way comes to.
+use Rattle.std.proofs.Common.{◌≡◌, ℕ, false, List, [], ◌∷◌, ◌++◌, append-nil, Some, refl, sym, ap, ap₂, ◌∙◌, subst}
+use Rattle.std.specs.Prelude.{Contains, Result, Ok, Err, codes, ◌≢◌, ◌||◌, bytes_eq}
+use Rattle.std.specs.Global.{Vec}
+use Rattle.std.specs.String.{string_bytes}
+use Rattle.std.proofs.lemmas.List.{map-append}
+use Rattle.walrus_model.specs.Abstract.{Abstract, Custom}
+use Rattle.walrus_model.specs.Config.{Config}
+use Rattle.walrus_model.specs.Customs.{is_debug_name}
+use Rattle.walrus_model.specs.Sections.{is_apart}
+use Rattle.walrus_base.proofs.Lists.{Contains-append_2, Contains-head}
+use Rattle.walrus_theorem.specs.Chain.{Leaves}
+use Rattle.walrus_theorem.specs.Edits.{GainsCustom}
+use Rattle.walrus_theorem.specs.Refused.{PassesLimits}
+use Rattle.walrus_theorem.specs.Sound.{IsFreeName}
+use Rattle.walrus_theorem.specs.WellMade.{IsWellMade}
+use Rattle.walrus_theorem.proofs.EditTops.{custom_gained}
+use Rattle.walrus_theorem.proofs.SameItems.{with_own}
+use Rattle.walrus_theorem.proofs.StepLeaves.{between}
+use Rattle.walrus_theorem.proofs.WritableParsed.{parsed_is_well}
+use Rattle.walrus_items.specs.declared.custom.CustomSection.{Ghosts}
+use Rattle.walrus_items.specs.declared.error.Error.{Error}
+use Rattle.walrus_items.specs.declared.error.Error.TheVariants as error
+use Rattle.walrus_items.specs.declared.raw_section.RawCustomSection.{RawCustomSection}
+use Rattle.walrus_module.specs.Answered.{IsWellWritten, WritesUnless}
+use Rattle.walrus_module.specs.Asked.{OneAskedMayRefuse}
+use Rattle.walrus_module.specs.Customs.{sections}
+use Rattle.walrus_module.specs.Emitted.{told}
+use Rattle.walrus_module.specs.Flags.{Flags, config_of}
+use Rattle.walrus_module.specs.Following.{AreRaw, OneMayRefuseThen}
+use Rattle.walrus_module.specs.Left.{LeavesBy, but_customs}
+use Rattle.walrus_module.specs.Parsed.{IsParsed}
+use Rattle.walrus_module.specs.Raws.{raw_sections}
+use Rattle.walrus_module.specs.View.{held_view, meanings, view}
+use Rattle.walrus_module.specs.declared.customs.ModuleCustomSections.{ModuleCustomSections}
+use Rattle.walrus_module.specs.declared.entry.SectionEntry.{SectionEntry}
+use Rattle.walrus_module.specs.declared.entry.SectionEntry.TheVariants.{Raw}
+use Rattle.walrus_module.specs.declared.module.Module.{Module}
+use Rattle.walrus_module.proofs.EditedCustoms.{custom_added}
+use Rattle.walrus_module.proofs.KeptRaw.{none_asked_refuses}
+use Rattle.walrus_module.proofs.RawStays.{all_raw, leaves_whole, plain_well}
+use Rattle.walrus_model.proofs.Looked.{differs}
+use Rattle.walrus_tools.proofs.Sections.{is_written}
+use Rattle.walrus_tools.specs.Metadata.{CarriesMetadata, GainsSection, section_of, with_section}
+use Rattle.std.proofs.lemmas.Bool.{or_parts as or_left}
+
+-- ---- names
+
+module _ (name : List ℕ) (free : is_apart name ≡ false) where
+  abbrev parts : (bytes_eq name (codes "name") ≡ false) × ((bytes_eq name (codes "producers") || is_debug_name name) ≡ false)
+  parts = or_left (bytes_eq name (codes "name")) (bytes_eq name (codes "producers") || is_debug_name name) free
+
+  pub no_debug : is_debug_name name ≡ false
+  no_debug = (or_left (bytes_eq name (codes "producers")) (is_debug_name name) parts.1).1
+
+  pub own_name : (name ≢ codes "name") × (name ≢ codes "producers")
+  own_name = (differs name (codes "name") parts.0, differs name (codes "producers") (or_left (bytes_eq name (codes "producers")) (is_debug_name name) parts.1).0)
+
+-- ---- the module with the section
+
+module _ {V : Type 0} {O : V → Type 0} (G : (v : V) → Ghosts (O v)) (m : Module (SectionEntry V O)) (k : ModuleCustomSections (SectionEntry V O)) (raws : List RawCustomSection) (s : RawCustomSection)
+    (are : sections m.customs ≡ raw_sections raws) (adds : sections k ≡ sections m.customs ++ Some (Raw s) ∷ []) where
+  abbrev gained : Module (SectionEntry V O)
+  gained = record m { customs = k }
+
+  are_more : sections gained.customs ≡ raw_sections (raws ++ s ∷ [])
+  are_more = adds ∙ ap (λ xs. xs ++ Some (Raw s) ∷ []) are ∙ sym (map-append (λ (r : RawCustomSection). Some (Raw r)) raws (s ∷ []))
+
+  gain : GainsCustom (section_of (string_bytes s.name) s.data_.items) [] (view G m) (view G gained)
+  gain = custom_added G m gained (Raw s) refl adds
+
+  -- the module with it is what was read with the section behind
+  same_view : view G gained ≡ with_section (string_bytes s.name) s.data_.items (view G m)
+  same_view =
+      gain.others
+      ∙ ap (λ (cs : List Custom). with_own (held_view m) cs (view G gained).section_roots) gain.customs
+      ∙ ap (with_own (held_view m) ((view G m).customs ++ section_of (string_bytes s.name) s.data_.items ∷ [])) (gain.roots_left ∙ append-nil (view G m).section_roots)
+
+  module _ (c : Config) (bytes name payload : List ℕ) (free : is_apart name ≡ false) (named : string_bytes s.name ≡ name) (holds : s.data_.items ≡ payload) (parsed : IsParsed c bytes (view G m)) where
+    gained_is : view G gained ≡ with_section name payload (view G m)
+    gained_is = same_view ∙ ap₂ (λ (n p : List ℕ). with_section n p (view G m)) named holds
+
+    read_well : IsWellMade c (view G m)
+    read_well = parsed_is_well c bytes parsed.module_read (view G m) parsed.reads parsed.holds parsed.parsed
+
+    gained_well : IsWellMade c (view G gained)
+    gained_well = (custom_gained c (view G m) (view G gained) (section_of (string_bytes s.name) s.data_.items) [] gain read_well (subst IsFreeName (sym named) (own_name name free))).made
+
+    never : OneAskedMayRefuse (meanings G gained) → ⊥
+    never = none_asked_refuses G gained (raws ++ s ∷ []) are_more
+
+    gains : (u : Abstract) → Leaves (view G gained) u → GainsSection c bytes name payload u
+    gains u left = record { module_parsed = view G m; parsed = parsed; left = subst (λ (v : Abstract). Leaves v u) gained_is left }
+
+    has_section : (u : Abstract) → Leaves (view G gained) u → Contains u.customs (section_of name payload)
+    has_section u left =
+        let same : u.customs ≡ (view G m).customs ++ section_of name payload ∷ [] = ap (λ (x : Abstract). x.customs) (between (view G gained) u left).same ∙ ap (λ (x : Abstract). x.customs) gained_is in
+        subst (λ (cs : List Custom). Contains cs (section_of name payload)) (sym same) (Contains-append_2 (section_of name payload) (view G m).customs (section_of name payload ∷ []) (Contains-head (section_of name payload) []))
+
+    stands : (u : Abstract) (output : List ℕ) → Leaves (view G gained) u → (w : IsWellWritten c u output) → Contains w.module_written.customs (section_of name payload)
+    stands u output left w =
+        subst (λ (cs : List Custom). Contains cs (section_of name payload)) (sym w.written.written.customs) (is_written w.written.written.indices u.customs name payload (has_section u left) (no_debug name free))
+
+    by_result : (u : Abstract) (result : Result (Vec ℕ) Error) → LeavesBy (view G gained) u (told result)
+        → WritesUnless (PassesLimits c u) (OneAskedMayRefuse (meanings G gained)) (λ (b : Vec ℕ). IsWellWritten c u b.items) (told result) → CarriesMetadata c bytes name payload result
+    by_result u (Ok x) left h = record { module_left = u; gains = gains u left; written = h; stands = stands u x.items left h; free = free }
+    by_result u (Err (error.Memory e)) left h = tt
+    by_result u (Err error.TooLarge) left h = record { module_left = u; gains = gains u left; too_large = h }
+    by_result u (Err (error.Caller text)) left h = absurd (never h)
+    by_result u (Err _) left h = absurd h
+
+    -- what emission says of the module is what the way comes to
+    pub answered_whole : (left : Module (SectionEntry V O)) → (AreRaw (sections k) → left.customs ≡ k) → (f : Flags) → config_of f ≡ c → (result : Result (Vec ℕ) Error) → LeavesBy (view G gained) (view G (but_customs gained left)) (told result)
+        → (IsWellMade (config_of f) (view G gained) → WritesUnless (PassesLimits (config_of f) (view G left)) (OneMayRefuseThen G k left.customs) (λ (b : Vec ℕ). IsWellWritten (config_of f) (view G left) b.items) (told result))
+        → CarriesMetadata c bytes name payload result
+    answered_whole left raw f is result leaves writes =
+        let same : left.customs ≡ k = raw (all_raw k (raws ++ s ∷ []) are_more) in
+        by_result (view G left) result (leaves_whole G gained left same (told result) leaves)
+        (plain_well G gained left same (PassesLimits c (view G left)) (λ (b : Vec ℕ). IsWellWritten c (view G left) b.items) (told result)
+        (subst (λ (d : Config). IsWellMade d (view G gained) → WritesUnless (PassesLimits d (view G left)) (OneMayRefuseThen G k left.customs) (λ (b : Vec ℕ). IsWellWritten d (view G left) b.items) (told result)) is writes gained_well))

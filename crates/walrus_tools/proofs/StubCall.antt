@@ -1,0 +1,159 @@
+-- One call that makes an imported function trap, in a whole module.
+use Rattle.std.proofs.Common.{◌≡◌, ℕ, ◌+◌, Bool, true, false, List, [], ◌∷◌, ◌++◌, Option, Some, None, IsSome, Result, Ok, Err, MatchResult, refl, sym, ap, ◌∙◌, subst, inl, inr, append_assoc, append-nil, length}
+use Rattle.std.specs.Prelude.{nat_lt, ◌&&◌, is_some, bytes_eq, slice_set, if◌then◌else◌}
+use Rattle.walrus_base.specs.Arena.{item_at}
+use Rattle.walrus_base.specs.Id.{place}
+use Rattle.walrus_base.specs.declared.id.Id.{Id}
+use Rattle.walrus_base.specs.declared.keys.FunctionKey.{FunctionKey}
+use Rattle.walrus_base.specs.declared.keys.LocalKey.{LocalKey}
+use Rattle.walrus_base.specs.declared.keys.TypeKey.{TypeKey}
+use Rattle.walrus_base.specs.Locals.{locals}
+use Rattle.walrus_base.specs.Operators.{Op, function_item}
+use Rattle.walrus_base.specs.TypeDef.{TypeDef}
+use Rattle.walrus_items.specs.Function.{body_of}
+use Rattle.walrus_items.specs.LocalFunction.{LocalFunction}
+use Rattle.walrus_ir.specs.Instructions.{end_op, unreachable_op}
+use Rattle.walrus_ir.specs.Sequence.{built}
+use Rattle.walrus_model.specs.BodyRead.{new_locals}
+use Rattle.walrus_model.specs.Config.{Config}
+use Rattle.walrus_model.specs.ReadFunction.{StaysInFront}
+use Rattle.walrus_items.specs.Errors.{out_of_memory}
+use Rattle.walrus_items.specs.Kinds.{imported}
+use Rattle.walrus_items.specs.declared.error.Error.{Error}
+use Rattle.walrus_items.specs.declared.function_kind.FunctionKind.{FunctionKind}
+use Rattle.walrus_items.specs.declared.kinds.ImportKind.{ImportKind}
+use Rattle.walrus_items.specs.declared.kinds.ImportKind.TheVariants as kinds
+use Rattle.walrus_items.specs.Functions.{FunctionValue, functions}
+use Rattle.walrus_items.specs.Imports.{ImportValue, imported_function, imports, imports_item}
+use Rattle.walrus_items.specs.Searches.{first}
+use Rattle.walrus_module.specs.Replaced.{IsMadeLocal, IsNew, MakesFoundLocal, MakesKindLocal, MakesLocal, OnlyLocals, RefusesLocal, ReplacesImported}
+use Rattle.walrus_module.specs.View.{contents_of}
+use Rattle.walrus_module.specs.declared.module.Module.{Module}
+use Rattle.walrus_tools.proofs.Matched.{IsBroughtBy, brought_by, first_brings, is_searched, theirs}
+use Rattle.walrus_tools.proofs.Places.{all_below, none_below, not_yet, now_hit, passes_over, same_below}
+use Rattle.walrus_tools.proofs.StubStep.{stub_whole}
+use Rattle.walrus_tools.proofs.StubTurn.{stubs_more, stubs_none}
+use Rattle.walrus_theorem.proofs.EditKept.{none_isnt, some_is, some_there}
+use Rattle.walrus_tools.specs.Edited.{IsWhole}
+use Rattle.walrus_tools.specs.Stub.{comes_from, function_from}
+use Rattle.walrus_tools.specs.Stubbed.{PutsTrap, Stubs, StubsAt, StubsHeld, StubsSome}
+use Rattle.walrus_tools.specs.Trap.{trap_ops}
+
+-- ---- what the closure left
+
+pub traps : (ty : Id TypeKey) (args : List (Id LocalKey)) (function : LocalFunction) → IsNew PutsTrap ty args function → body_of function ≡ trap_ops
+traps ty args function new =
+    let called = new.called in
+    let put : built new.builder ≡ unreachable_op ∷ [] =
+    ap built (sym called.leaves) ∙ called.called ∙ ap (λ (ops : List Op). ops ++ unreachable_op ∷ []) called.empty in
+    new.body ∙ ap (λ (ops : List Op). ops ++ end_op ∷ []) put
+
+-- ---- the import that was found
+
+-- the import at a slot that brings a function from a module
+pub record Brings (from : List ℕ) (slot : Option ImportValue) (id : Id FunctionKey) : Type 0 where
+  pub x : ImportValue
+  pub there : slot ≡ Some x
+  pub brings : imported x.kind ≡ function_item (place id)
+
+of_kind : (k : ImportKind) (id : Id FunctionKey) → imported_function k ≡ Some id → imported k ≡ function_item (place id)
+of_kind (kinds.Function f) id e = ap (λ (i : Id FunctionKey). function_item (place i)) (some_is e)
+of_kind (kinds.Table t) id e = absurd (none_isnt e)
+of_kind (kinds.Memory t) id e = absurd (none_isnt e)
+of_kind (kinds.Global t) id e = absurd (none_isnt e)
+of_kind (kinds.Tag t) id e = absurd (none_isnt e)
+
+brings : (from : List ℕ) (o : Option ImportValue) (id : Id FunctionKey) → function_from from o ≡ Some id → Brings from o id
+brings from None id e = absurd (none_isnt e)
+brings from (Some x) id e = record { x = x; there = refl; brings = of_kind x.kind id (by (bytes_eq x.module_name from) e) } where
+  by : (b : Bool) → (if b then imported_function x.kind else None) ≡ Some id → imported_function x.kind ≡ Some id
+  by true e = e
+  by false e = absurd (none_isnt e)
+
+module _ {S : Type 0} (c : Config) (from : List ℕ) (n : ℕ) (begun old new : Module S) (begun_whole : IsWhole c begun) (some : StubsSome c from n begun old) where
+  abbrev C : ℕ → Bool
+  C = comes_from from (imports begun.imports)
+
+  -- the import at this place is as it was
+  untouched : item_at (imports old.imports) n ≡ item_at (imports begun.imports) n
+  untouched = some.stubs.items.gone n ∙ ap (λ (b : Bool). if b then None else item_at (imports begun.imports) n) (not_yet C n)
+
+  pub passes : function_from from (item_at (imports old.imports) n) ≡ None → StubsSome c from (n + 1) begun old
+  passes none =
+      let miss : C n ≡ false = ap (λ (o : Option ImportValue). is_some (function_from from o)) (sym untouched) ∙ ap is_some none in
+      record { stubs = subst (λ (hits : ℕ → Bool). StubsAt hits begun old) (passes_over C n miss) some.stubs; whole = some.whole }
+
+  module _ (id : Id FunctionKey) (found : function_from from (item_at (imports old.imports) n) ≡ Some id) where
+    abbrev b : Brings from (item_at (imports old.imports) n) id
+    b = brings from (item_at (imports old.imports) n) id found
+
+    abbrev by : IsBroughtBy (contents_of old) (place id) n
+    by = brought_by c (contents_of old) some.whole.made n (place id) b.x b.there b.brings
+
+    abbrev a : ℕ
+    a = place (by.by).«import»
+
+    module _ (result_id : Id FunctionKey) (local : IsMadeLocal PutsTrap id a by.f (by.by).ty by.def old new result_id) where
+      live : IsSome (item_at (imports old.imports) a)
+      live = subst (λ k. IsSome (item_at (imports old.imports) k)) (sym by.at_place) (some_there (item_at (imports old.imports) n) b.there)
+
+      whole : IsWhole c new
+      whole = stub_whole c old new some.whole id result_id by.f by.by by.def by.there by.kind by.typed live local (traps (by.by).ty local.args local.function local.is_new)
+
+      grown : StaysInFront (locals begun.locals) (locals new.locals)
+      grown =
+          let before = some.stubs.locals in (
+            before.0 ++ new_locals local.args local.parameters.types,
+            local.parameters.added.added ∙ ap (λ xs. xs ++ new_locals local.args local.parameters.types) before.1 ∙ append_assoc (locals begun.locals) before.0 (new_locals local.args local.parameters.types),
+          )
+
+      hit : C n ≡ true
+      hit = ap (λ (o : Option ImportValue). is_some (function_from from o)) (sym untouched) ∙ ap is_some found
+
+      made_some : StubsSome c from (n + 1) begun new
+      made_some = record {
+        stubs = record {
+          items = stubs_more (λ p. nat_lt p n && C p) (λ p. nat_lt p (n + 1) && C p) (functions begun.funcs) (functions old.funcs) (functions new.funcs) (imports begun.imports) (imports old.imports) (imports new.imports) n (place id) by.f by.by local.function
+              some.stubs.items (theirs c (contents_of begun) begun_whole.made) (not_yet C n) (now_hit C n hit) (same_below C n) by.there by.kind by.at_place local.is_new.typed (traps (by.by).ty local.args local.function local.is_new) local.funcs (some_there (item_at (imports old.imports) n) b.there)
+              (subst (λ k. imports new.imports ≡ slice_set (imports old.imports) k None) by.at_place local.gone);
+          locals = grown;
+          others = local.others ∙ ap (λ (m : Module S). record m { funcs = new.funcs; imports = new.imports; locals = new.locals }) some.stubs.others;
+        };
+        whole = whole;
+      }
+
+    refuses : (e : Error) → RefusesLocal PutsTrap by.def old new e → e ≡ out_of_memory
+    refuses e (inl memory) = memory
+    refuses e (inr (args, parameters, (builder, built_so))) = built_so.called
+
+    answers : (i : ℕ) (result : Result (Id FunctionKey) Error) → i ≡ n → MatchResult result (IsMadeLocal PutsTrap id i by.f (by.by).ty by.def old new) (λ e. RefusesLocal PutsTrap by.def old new e × OnlyLocals old new)
+        → MatchResult result (λ done. StubsSome c from (n + 1) begun new) (λ e. e ≡ out_of_memory)
+    answers i (Ok r) at_n local = made_some r (subst (λ k. IsMadeLocal PutsTrap id k by.f (by.by).ty by.def old new r) (at_n ∙ sym by.at_place) local)
+    answers i (Err e) at_n refused = refuses e refused.0
+
+    pub stubs_next : (result : Result (Id FunctionKey) Error) → ReplacesImported PutsTrap id old new result → MatchResult result (λ done. StubsSome c from (n + 1) begun new) (λ e. e ≡ out_of_memory)
+    stubs_next result replaced = by_first (first (imports_item (function_item (place id))) (imports old.imports)) refl replaced where
+      by_first : (o : Option (ℕ × ImportValue)) → first (imports_item (function_item (place id))) (imports old.imports) ≡ o → MakesFoundLocal PutsTrap id o (item_at (functions old.funcs) (place id)) old new result
+          → MatchResult result (λ done. StubsSome c from (n + 1) begun new) (λ e. e ≡ out_of_memory)
+      by_first None none h = absurd (is_searched c (contents_of old) some.whole.made n (place id) b.x b.there b.brings none)
+      by_first (Some e) is h =
+          answers e.0 result (first_brings c (contents_of old) some.whole.made n (place id) b.x b.there b.brings e is)
+          (subst (λ (o : Option TypeDef). MakesLocal PutsTrap id e.0 by.f (by.by).ty o old new result) by.typed
+          (subst (λ (k : FunctionKind). MakesKindLocal PutsTrap id e.0 by.f k old new result) by.kind
+          (subst (λ (o : Option FunctionValue). MakesFoundLocal PutsTrap id (Some e) o old new result) by.there h)))
+
+module _ {S : Type 0} (c : Config) (from : List ℕ) (old : Module S) (whole : IsWhole c old) where
+  -- nothing is done at first
+  pub begins : StubsSome c from 0 old old
+  begins = record {
+    stubs = subst (λ (hits : ℕ → Bool). StubsAt hits old old) (none_below (comes_from from (imports old.imports)))
+        (record { items = stubs_none (functions old.funcs) (imports old.imports); locals = ([], sym (append-nil (locals old.locals))); others = refl });
+    whole = whole;
+  }
+
+  -- behind the last place all is done
+  pub ends : (n : ℕ) (new : Module S) → n ≡ length (imports old.imports) → StubsSome c from n old new → Stubs from old new × IsWhole c new
+  ends n new is some = (subst (λ (hits : ℕ → Bool). StubsAt hits old new) (all_below from (imports old.imports) n is) some.stubs, some.whole)
+
+pub stubs_held : {S : Type 0} (from : List ℕ) (old new : Module S) → Stubs from old new → StubsHeld from (contents_of old) (contents_of new)
+stubs_held from old new stubs = record { items = stubs.items; locals = stubs.locals; others = ap contents_of stubs.others }

@@ -1,0 +1,48 @@
+//! Callers of the library: what linkers, binding generators, instrumenters, stubbers and snippers do with it, and what the C interface
+//! stands on. Each goes from bytes to bytes, or to a text, and what it promises follows from what the library promises of its calls.
+#![tactic(auto)]
+
+mod calls;
+mod chaining;
+mod counting;
+mod ending;
+mod hooking;
+mod law;
+mod lessening;
+mod lines;
+mod listing;
+mod metadata;
+mod moving;
+mod placing;
+mod reasons;
+mod renaming;
+mod reporting;
+#[cfg(test)]
+mod samples;
+mod shrinking;
+mod sizing;
+mod snipping;
+mod stripping;
+mod stubbing;
+mod traps;
+mod wanted;
+
+pub use chaining::chain;
+pub use counting::count_calls;
+pub use hooking::with_export;
+pub use law::moves_once;
+pub use lessening::gc;
+pub use listing::keep_listed;
+pub use metadata::with_metadata;
+pub use moving::moves;
+pub use placing::with_places;
+pub use reasons::why;
+pub use renaming::rename_export;
+pub use reporting::report;
+pub use shrinking::shrink;
+pub use sizing::{NO_NAME, list};
+pub use snipping::snip;
+pub use stripping::strip;
+pub use stubbing::stub;
+pub use walrus::Error;
+pub use wanted::Wanted;

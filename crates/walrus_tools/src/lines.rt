@@ -1,0 +1,129 @@
+//! The lines of a report on a function: a chain of references, and what functions cost.
+
+ghost use Rattle.std.specs.Prelude.{◌≡◌, ◌++◌, IfOk, OnOk, codes, decimal, flat_map, map, option_map, string_bytes};
+ghost use Rattle.walrus_base.specs.Id.{place};
+ghost use Rattle.walrus_code.specs.Code.{item_of};
+ghost use Rattle.walrus_contents.specs.Named.{items_in};
+ghost use Rattle.walrus_items.specs.Transform.{range_of, transform_of};
+ghost use Rattle.walrus_tools.specs.Reasons.{chain_text, item_line, item_text, report_text, size_line, size_text, word_of};
+
+use std::alloc::{AllocError, Global};
+use std::ops::Range;
+use std::result;
+use walrus::{CodeTransform, FunctionId, ItemId};
+
+/// The lines of the chain, or the one that the item isn't reached, and then those of the functions.
+pub(crate) fn report(
+    alloc: Global,
+    item: ItemId,
+    chain: Option<Vec<ItemId>>,
+    transform: &CodeTransform,
+) -> result::Result<String, AllocError>
+    ensures { IfOk result (λ text. string_bytes text ≡ report_text (item_of item)
+        (option_map items_in chain) (transform_of transform.now)) }
+{
+    let mut text = chain_lines(alloc, item, chain)?;
+    add_sizes(alloc, &mut text, transform.function_ranges.as_slice())?;
+    Ok(text)
+}
+
+/// The lines of the chain, or the one that the item isn't reached.
+pub(crate) fn chain_lines(
+    alloc: Global,
+    item: ItemId,
+    chain: Option<Vec<ItemId>>,
+) -> result::Result<String, AllocError>
+    ensures { IfOk result (λ text. string_bytes text ≡ chain_text (item_of item)
+        (option_map items_in chain)) }
+{
+    match chain {
+        Some(items) => lines_of(alloc, items.as_slice()),
+        None => line_of(alloc, item, " isn't reached\n"),
+    }
+}
+
+// A line for each item.
+fn lines_of(alloc: Global, items: &[ItemId]) -> result::Result<String, AllocError>
+    ensures { IfOk result (λ text. string_bytes text ≡ flat_map item_line (map item_of items.now)) }
+{
+    let mut text = String::new(alloc);
+    for item in items {
+        let line = line_of(alloc, *item, "\n")?;
+        text.push_str(line.as_str())?;
+    }
+    Ok(text)
+}
+
+// Puts behind the text a line for each function, with the length of its body.
+fn add_sizes(
+    alloc: Global,
+    text: &mut String,
+    functions: &[(FunctionId, Range<usize>)],
+) -> result::Result<(), AllocError>
+    ensures { OnOk result (string_bytes text.new ≡ string_bytes text.old
+        ++ flat_map size_line (map range_of functions.now)) }
+{
+    for function in functions {
+        let bytes = function.1.end.saturating_sub(function.1.start);
+        let line = size_of(alloc, function.0, bytes)?;
+        text.push_str(line.as_str())?;
+    }
+    Ok(())
+}
+
+// The line of a function whose body has so many bytes.
+#[tactic(auto, using(crate::proofs::LineLemmas::size_joined))]
+fn size_of(alloc: Global, function: FunctionId, bytes: usize) -> result::Result<String, AllocError>
+    ensures { IfOk result (λ text. string_bytes text ≡ size_text (place function) bytes) }
+{
+    let size = line(alloc, ":", bytes, " bytes\n")?;
+    line(alloc, "function", function.index(), size.as_str())
+}
+
+// The item, and this behind it.
+fn line_of(alloc: Global, item: ItemId, end: &str) -> result::Result<String, AllocError>
+    ensures { IfOk result (λ text. string_bytes text ≡ item_text (item_of item) ++ end.now) }
+{
+    line(alloc, word(item), index(item), end)
+}
+
+// A word, a number behind it, and what follows.
+#[tactic(auto, using(crate::proofs::LineLemmas::nested_line))]
+fn line(alloc: Global, word: &str, number: usize, end: &str) -> result::Result<String, AllocError>
+    ensures { IfOk result (λ text. string_bytes text
+        ≡ word.now ++ codes " " ++ decimal number ++ end.now) }
+{
+    format!(in alloc; "{word} {number}{end}")
+}
+
+// The kind of the item.
+fn word(item: ItemId) -> &'static str
+    ensures { result.now ≡ word_of (item_of item).0 }
+{
+    match item {
+        ItemId::Type(_) => "type",
+        ItemId::Function(_) => "function",
+        ItemId::Table(_) => "table",
+        ItemId::Memory(_) => "memory",
+        ItemId::Tag(_) => "tag",
+        ItemId::Global(_) => "global",
+        ItemId::Element(_) => "element",
+        ItemId::Data(_) => "data",
+    }
+}
+
+// Its index.
+fn index(item: ItemId) -> usize
+    ensures { result ≡ (item_of item).1 }
+{
+    match item {
+        ItemId::Type(id) => id.index(),
+        ItemId::Function(id) => id.index(),
+        ItemId::Table(id) => id.index(),
+        ItemId::Memory(id) => id.index(),
+        ItemId::Tag(id) => id.index(),
+        ItemId::Global(id) => id.index(),
+        ItemId::Element(id) => id.index(),
+        ItemId::Data(id) => id.index(),
+    }
+}

@@ -1,9 +1,0 @@
-use Rattle.std.proofs.Common.{◌≡◌, flat_map, map, take}
-use Rattle.std.specs.Prelude.{string_bytes}
-use Rattle.walrus_code.specs.Code.{item_of}
-use Rattle.walrus_uses.specs.Reasons.{item_line}
-use Rattle.walrus_uses.proofs.lines.lines_of.Given as goal
-
--- the lines of the items before
-abbrev pub invariant-loop-item : goal.invariant-loop-item
-invariant-loop-item l = string_bytes l.text ≡ flat_map item_line (map item_of (take l.item-index l.items))

@@ -1,0 +1,96 @@
+/* The calls of Mulkavesh, a verified module layer for WebAssembly, from C and C++.
+ *
+ * Each call reads `input` and writes `output` and `*length`, and nothing else; it keeps nothing from one call to the next, and calls in
+ * several threads at once are fine. The caller owns the room: `output` has `room` bytes. What a call leaves, by its status:
+ *
+ *   MULKAVESH_DONE       the answer stands in the first `*length` bytes of `output`; the bytes behind it are as they were
+ *   MULKAVESH_NO_ROOM    `output` is as it was, and `*length` is how much room the answer wants: call again with that much
+ *   any other            `output` is as it was, and `*length` is 0
+ *
+ * A smaller module is seldom longer than its input: with 256 bytes more than that one call mostly serves.
+ *
+ * What the caller owes, and no call checks:
+ *   - `input`, `name` and `output` have as many bytes as is told, `output` may be written, and nothing else writes them during the call;
+ *   - none of them is null, not even where the length is 0, and `length` isn't null and is aligned as a size_t;
+ *   - `output` and `*length` stand apart from each other and from all that is read;
+ *   - `malloc`, `realloc` and `free` are of one allocator, and align as the C standard says;
+ *   - no call is made from a signal handler, or from the forked child of a process with threads.
+ *
+ * Flags that aren't known are refused, so that what they come to mean isn't passed over. Names are compared as bytes. */
+#ifndef MULKAVESH_H
+#define MULKAVESH_H
+
+#include <stddef.h>
+#include <stdint.h>
+
+#ifdef __cplusplus
+extern "C" {
+#endif
+
+/* The statuses. */
+enum {
+  MULKAVESH_DONE = 0,
+  /* The input is no module that keeps the rules. */
+  MULKAVESH_INVALID = 1,
+  /* What is to be written has a count or a size past 32 bits. */
+  MULKAVESH_TOO_LARGE = 2,
+  /* Memory ran out. */
+  MULKAVESH_NO_MEMORY = 3,
+  /* The room is smaller than the answer. */
+  MULKAVESH_NO_ROOM = 4,
+  /* A flag isn't known. */
+  MULKAVESH_UNKNOWN_FLAG = 5,
+  /* There is nothing of this name or index that the call could work on. */
+  MULKAVESH_NOT_FOUND = 6
+};
+
+/* The flags, as the words of the program. */
+enum {
+  /* No names are written: --no-names. */
+  MULKAVESH_NO_NAMES = 1,
+  /* No producers are written: --no-producers. */
+  MULKAVESH_NO_PRODUCERS = 2,
+  /* Bodies with legacy exceptions are refused: --no-legacy. */
+  MULKAVESH_NO_LEGACY = 4
+};
+
+/* What stands in a list for the length of a name that isn't there. */
+#define MULKAVESH_NO_NAME UINT32_MAX
+
+/* The version of the library: the major number times 2^16, the minor one times 2^8, and the patch. */
+#define MULKAVESH_VERSION 0x000100u
+uint32_t mulkavesh_version(void);
+
+/* The module without what nothing reaches: the bytes that the program writes. */
+uint32_t mulkavesh_gc(const uint8_t *input, size_t input_length, uint32_t flags, uint8_t *output, size_t room, size_t *length);
+
+/* How many items of each kind mulkavesh_gc keeps and drops, a line each: `functions kept 19 dropped 1`. Seven lines, as of --report; of the
+ * flags MULKAVESH_NO_LEGACY alone has a say. */
+uint32_t mulkavesh_report(const uint8_t *input, size_t input_length, uint32_t flags, uint8_t *output, size_t room, size_t *length);
+
+/* The functions with a body that mulkavesh_gc keeps, by rising index. For each of them three numbers of 32 bits, little-endian: its index in the input,
+ * the bytes of its body in the output, and the length of its name in the input or MULKAVESH_NO_NAME; and then the name, in UTF-8. Of the flags
+ * MULKAVESH_NO_LEGACY alone has a say. */
+uint32_t mulkavesh_list(const uint8_t *input, size_t input_length, uint32_t flags, uint8_t *output, size_t room, size_t *length);
+
+/* The module without its first custom section of this name; what nothing reaches stays. MULKAVESH_NOT_FOUND where there is none. Names and
+ * producers aren't found by it: the flags say whether they are written. */
+uint32_t mulkavesh_strip(const uint8_t *input, size_t input_length, uint32_t flags, const uint8_t *name, size_t name_length, uint8_t *output, size_t room, size_t *length);
+
+/* Why mulkavesh_gc keeps the function of this index: a line for each item of a chain of references that leads to it, a root first (`function 3`), or
+ * `function 3 isn't reached`. MULKAVESH_NOT_FOUND where the module has no function of this index. */
+uint32_t mulkavesh_why(const uint8_t *input, size_t input_length, uint32_t function, uint8_t *output, size_t room, size_t *length);
+
+/* The module where the function that is exported under this name is replaced by one that traps, without what nothing reaches then.
+ * MULKAVESH_NOT_FOUND where no function is exported under the name, or where that one is imported or is exported under another name before. */
+uint32_t mulkavesh_snip(const uint8_t *input, size_t input_length, const uint8_t *name, size_t name_length, uint8_t *output, size_t room, size_t *length);
+
+/* The module where each function that was imported from the module of this name is one of its own, which traps, without what nothing reaches
+ * then. Where none is imported from it, that is mulkavesh_gc's answer. MULKAVESH_NOT_FOUND where the name isn't UTF-8, as the name of a module is. */
+uint32_t mulkavesh_stub(const uint8_t *input, size_t input_length, const uint8_t *from, size_t from_length, uint8_t *output, size_t room, size_t *length);
+
+#ifdef __cplusplus
+}
+#endif
+
+#endif

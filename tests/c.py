@@ -1,0 +1,292 @@
+#!/usr/bin/env python3
+"""What tests/c.sh does with the callers that it compiled, but for rooms and threads:
+
+    tests/c.py PROGRAM STATIC SHARED REFUSED COUNT FOLDER..
+
+STATIC and SHARED are tests/c/call.c over the two libraries, REFUSED is refused.c as a shared library, COUNT says how many mutants, and FOLDER.. hold modules:
+those with a file NAME.expect are rows, whose words stand in NAME.args. The calls `gc` and `report` are held against the program: the same bytes, and the status
+that its own one and what it tells come to. The other calls are held against what stands in the modules themselves. Prints the finds and the counts.
+"""
+import collections
+import concurrent.futures
+import pathlib
+import random
+import subprocess
+import sys
+
+sys.dont_write_bytecode = True
+from hostile import bodies, mutated, number, sections
+from refused import requests_of
+
+SEED = 73
+NO_NAME = 2**32 - 1
+NOT_FOUND = 6
+WORDS = {"--no-names": 1, "--no-producers": 2, "--no-legacy": 4}
+UNKNOWN_WORD = 8
+STATUSES = {
+    (0, b""): 0,
+    (1, b"walrus-gc: The input WebAssembly is invalid\n"): 1,
+    (1, b"walrus-gc: a count or size passes 32 bits\n"): 2,
+    (1, b"walrus-gc: out of memory\n"): 3,
+    (2, b"walrus-gc: unknown word\n"): 5,
+}
+OUT_OF_MEMORY = (3, b"")
+# Of larger modules not each request for memory is refused.
+MOST_BYTES_REFUSED = 2_200
+
+
+def run(command, data):
+    ran = subprocess.run(command, input=data, capture_output=True, timeout=120, check=False)
+    return ran.returncode, ran.stdout, ran.stderr
+
+
+def call(caller, name, data, *words):
+    """The status and the bytes that a call answers."""
+    status, output, _ = run([caller, name, *map(str, words)], data)
+    return status, output
+
+
+def by_program(program, words, data):
+    """What the call has to answer, by what the program does."""
+    status, output, told = run([program, *words], data)
+    return STATUSES.get((status, told), f"no status: {status}, {told!r}"), output
+
+
+# ---- what stands in a module, read anew
+
+
+def names_of(content):
+    """The names of a list of imports or exports: (module or None, name, kind, index or None)."""
+    count, at = number(content, 0)
+    for _ in range(count):
+        size, at = number(content, at)
+        name, at = content[at : at + size], at + size
+        kind, (index, at) = content[at], number(content, at + 1)
+        yield name, kind, index
+
+
+def section(module, wanted):
+    return next((content for number_of, content in sections(module) if number_of == wanted), b"\0")
+
+
+def customs(module):
+    """The names of the custom sections and their bytes, in order."""
+    for number_of, content in sections(module):
+        if number_of == 0:
+            size, at = number(content, 0)
+            yield content[at : at + size], content[at + size :]
+
+
+def function_names(module):
+    """The names of functions by their indices, of the name section."""
+    found = {}
+    for name, content in customs(module):
+        at = 0
+        while name == b"name" and at < len(content):
+            kind, (size, at) = content[at], number(content, at + 1)
+            if kind == 1:
+                count, place = number(content, at)
+                for _ in range(count):
+                    index, place = number(content, place)
+                    length, place = number(content, place)
+                    found[index], place = content[place : place + length], place + length
+            at += size
+    return found
+
+
+def entries(listed):
+    """The entries of a list: index, size, and name or None."""
+    at = 0
+    while at < len(listed):
+        index, size, length = (int.from_bytes(listed[at + i : at + i + 4], "little") for i in (0, 4, 8))
+        at += 12
+        name = None if length == NO_NAME else listed[at : at + length]
+        at += 0 if length == NO_NAME else length
+        yield index, size, name
+
+
+# ---- finds
+
+
+def beside_the_program(program, callers, data, words):
+    """Where a caller answers otherwise than the program under these words."""
+    flags = sum({WORDS.get(word, UNKNOWN_WORD) for word in words if word != "--report"})
+    name = "report" if "--report" in words else "gc"
+    wanted = by_program(program, words, data)
+    for caller in callers:
+        found = call(caller, name, data, flags)
+        if found != wanted:
+            yield f"{name} {flags}: status {found[0]} and {len(found[1])} bytes, and not {wanted[0]} and {len(wanted[1])}"
+
+
+def in_the_list(caller, data, flags):
+    """Where a list isn't that of the bodies that are written, and of their names."""
+    (status, listed), (_, output) = call(caller, "list", data, flags), call(caller, "gc", data, 0)
+    if status:
+        yield f"list: status {status}"
+        return
+    found, named = [*entries(listed)], function_names(data)
+    indices = [index for index, _, _ in found]
+    if sorted(set(indices)) != indices:
+        yield f"list: the indices are {indices}"
+    if sorted(size for _, size, _ in found) != sorted(map(len, bodies(section(output, 10)))):
+        yield "list: other sizes than those of the bodies"
+    if any(name != named.get(index) for index, _, name in found):
+        yield "list: other names"
+
+
+def in_the_chains(caller, data):
+    """Where a chain doesn't end in its function, or one is said to be there for what isn't listed, or the other way round."""
+    kept = {index for index, _, _ in entries(call(caller, "list", data, 0)[1])}
+    imported = sum(kind == 0 for _, kind in imports(data))
+    for index in range(imported + len(bodies(section(data, 10))) + 1):
+        status, told = call(caller, "why", data, index)
+        lines = told.decode().splitlines()
+        if index == imported + len(bodies(section(data, 10))):
+            if status != NOT_FOUND:
+                yield f"why {index}: status {status} behind the last function"
+        elif status or not lines or (lines[-1] == f"function {index}") == (lines == [f"function {index} isn't reached"]):
+            yield f"why {index}: status {status}, {lines}"
+        elif index >= imported and (lines[-1] == f"function {index}") != (index in kept):
+            yield f"why {index}: {lines}, and it is {'' if index in kept else 'not '}listed"
+
+
+def imports(module):
+    """The module and the kind of each import, of those whose kinds are functions, tables of one type, memories, globals and tags."""
+    content = section(module, 2)
+    count, at = number(content, 0)
+    for _ in range(count):
+        size, at = number(content, at)
+        name, at = content[at : at + size], at + size
+        size, at = number(content, at)
+        kind, at = content[at + size], at + size + 1
+        if kind in (0, 4):
+            _, at = number(content, at + (kind == 4))
+        elif kind == 3:
+            at += 2
+        else:
+            at += kind == 1
+            limits, at = content[at], at + 1
+            for _ in range(1 + (limits & 1)):
+                _, at = number(content, at)
+        yield name, kind
+
+
+def stripped(caller, data):
+    """Where not just the first section of a name goes."""
+    first = call(caller, "gc", data, 0)[1]
+    there = [*customs(first)]
+    for name in dict.fromkeys(name for name, _ in there):
+        word = name.decode()
+        status, output = call(caller, "strip", first, 0, word)
+        if word in ("name", "producers"):
+            if status != NOT_FOUND:
+                yield f"strip {word}: status {status}"
+            continue
+        left = [*there]
+        left.remove(next(one for one in there if one[0] == name))
+        if status or [*customs(output)] != left or [one for one in sections(output) if one[0]] != [one for one in sections(first) if one[0]]:
+            yield f"strip {word}: status {status}, or other sections"
+        if call(caller, "strip", data, 0, word)[0]:
+            yield f"strip {word}: not of the input"
+    if call(caller, "strip", data, 0, "no section has this name") != (NOT_FOUND, b""):
+        yield "strip: a section that isn't there"
+
+
+def snipped_and_stubbed(program, caller, data):
+    """Where what is written isn't settled, or the export or an import isn't as it has to be."""
+    taken = 0
+    for name, kind, _ in names_of(section(data, 7)):
+        status, output = call(caller, "snip", data, 0, name.decode())
+        taken += status == 0
+        if status not in (0, NOT_FOUND) or (status == 0) > (kind == 0):
+            yield f"snip {name}: status {status}"
+        if status == 0 and (by_program(program, [], output) != (0, output) or [one[:2] for one in names_of(section(output, 7))] != [one[:2] for one in names_of(section(data, 7))]):
+            yield f"snip {name}: not settled, or other exports"
+    if call(caller, "snip", data, 0, "nothing has this name") != (NOT_FOUND, b""):
+        yield "snip: an export that isn't there"
+    for name in dict.fromkeys(name for name, _ in imports(data)):
+        status, output = call(caller, "stub", data, 0, name.decode())
+        if status or by_program(program, [], output) != (0, output) or (name, 0) in imports(output):
+            yield f"stub {name}: status {status}, or not settled, or still imported"
+    if call(caller, "stub", data, 0, "nothing has this name") != call(caller, "gc", data, 0):
+        yield "stub: an import that isn't there"
+
+
+def refused_in_turn(caller, refused, data, name, *words):
+    """Where a call of which one request for memory fails ends otherwise than with ample memory, or as having too little."""
+    command = [caller, name, *map(str, words)]
+    ample, count = requests_of(command, data, refused)
+    for which in range(1, count + 1):
+        ended = subprocess.run(command, input=data, capture_output=True, env={"LD_PRELOAD": refused, "REFUSED": str(which)}, timeout=120, check=False)
+        if (ended.returncode, ended.stdout) not in (ample[:2], OUT_OF_MEMORY):
+            yield f"{name}, request {which} refused: status {ended.returncode}"
+    if count < 10:
+        yield f"{name}: only {count} requests"
+
+
+# ---- what is tried
+
+
+def tried(words):
+    """The name of a try, and what it finds: also that an answer can't be read."""
+    name, find, *rest = words
+    try:
+        return name, [*find(*rest)]
+    except (ValueError, IndexError, TypeError) as error:
+        return name, [f"an answer that can't be read: {error}"]
+
+
+class Tries:
+    """Makes the tries, several at once, and prints finds and counts."""
+
+    def __init__(self):
+        self.pool, self.counts, self.finds = concurrent.futures.ThreadPoolExecutor(4), collections.Counter(), 0
+
+    def all(self, what, each):
+        """Each try is a name, a function that yields the finds, and its words."""
+        before, count = self.finds, 0
+        for name, found in self.pool.map(tried, each):
+            count += 1
+            for line in found:
+                self.finds += 1
+                print(f"FIND {name}: {line}")
+        print(f"tests/c.sh: {what}: {count}, {self.finds - before} finds", flush=True)
+
+
+def modules_in(folders):
+    paths = [path for folder in folders for path in sorted(pathlib.Path(folder).glob("*.wasm"))]
+    rows = [path for path in paths if path.with_suffix(".expect").exists()]
+    others = {path.name: path for path in paths if path not in rows}
+    return rows, [*others.values()]
+
+
+def words_of(row):
+    words = row.with_suffix(".args")
+    return words.read_text(encoding="utf-8").splitlines() if words.exists() else []
+
+
+def main():
+    program, static, shared, refused, count, *folders = sys.argv[1:]
+    rows, modules = modules_in(folders)
+    data = {path: path.read_bytes() for path in [*rows, *modules]}
+    tries, callers = Tries(), (static, shared)
+    ways = [[word for word, flag in WORDS.items() if flags & flag] + more for flags in range(8) for more in ([], ["--report"])]
+    tries.all("modules under each flag", ((path.name, beside_the_program, program, callers, data[path], words) for path in modules for words in [*ways, ["--no-such-word"]]))
+    tries.all("rows", ((path.name, beside_the_program, program, callers, data[path], words_of(path)) for path in rows))
+    taken = [path for path in modules if call(static, "gc", data[path])[0] == 0]
+    small = [path for path in taken if len(data[path]) < 100_000]
+    tries.all("lists", ((path.name, in_the_list, static, data[path], flags) for path in taken for flags in (0, 3)))
+    others = (lambda it: (it.name, in_the_chains, static, data[it]), lambda it: (it.name, stripped, static, data[it]), lambda it: (it.name, snipped_and_stubbed, program, static, data[it]))
+    tries.all("chains, sections, exports and imports", (one(path) for path in small if len(data[path]) < 12_000 for one in others))
+    bases = [data[path] for path in small]
+    mutants = (mutated(random.Random(f"{SEED}:{i}"), bases) for i in range(int(count)))
+    tries.all("mutants", ((f"mutant {i}", beside_the_program, program, [callers[i % 2]], mutant, ways[i % 16]) for i, mutant in enumerate(mutants)))
+    calls = (("gc", 0), ("report", 0), ("list", 0), ("why", 0), ("strip", 0, "target_features"), ("snip", 0, "fill"), ("stub", 0, "env"))
+    tiny = [path for path in small if len(data[path]) < MOST_BYTES_REFUSED]
+    tries.all("calls of which each request for memory was refused in turn", ((path.name, refused_in_turn, static, refused, data[path], *one) for path in tiny for one in calls))
+    sys.exit(tries.finds > 0 or not taken)
+
+
+if __name__ == "__main__":
+    main()

@@ -1,0 +1,112 @@
+// rooms FILE..: each call over each module in rooms of every length from none to one more than is wanted. Input, name and room end where no memory is: at
+// a page that can't be touched, or, where it is compiled with IN_BLOCKS for AddressSanitizer, at the end of a block of their size. Each call has to answer as it
+// does in ample room, and to leave what it doesn't write as it was. Prints the counts, and a line for each find.
+#include <stdio.h>
+#include <sys/mman.h>
+#include <unistd.h>
+
+#include "calls.h"
+
+#define UNTOUCHED 0xA5
+
+static long finds, calls;
+
+static void *checked(void *block) {
+  if (!block || block == MAP_FAILED) {
+    perror("rooms");
+    exit(9);
+  }
+  return block;
+}
+
+// Bytes that end where no memory is; they are given back by `drop`.
+#ifdef IN_BLOCKS
+static uint8_t *take(size_t size) { return checked(malloc(size)); }
+static void drop(uint8_t *bytes, size_t size) { (void)size, free(bytes); }
+static void lock(uint8_t *bytes, size_t size) { (void)bytes, (void)size; }
+#else
+static size_t whole(size_t size) { return (size / 4096 + 1) * 4096; }
+static uint8_t *take(size_t size) {
+  uint8_t *block = checked(mmap(NULL, whole(size) + 4096, PROT_READ | PROT_WRITE, MAP_PRIVATE | MAP_ANONYMOUS, -1, 0));
+  if (mprotect(block + whole(size), 4096, PROT_NONE)) checked(NULL);
+  return block + whole(size) - size;
+}
+static void drop(uint8_t *bytes, size_t size) { munmap(bytes + size - whole(size), whole(size) + 4096); }
+static void lock(uint8_t *bytes, size_t size) {
+  if (mprotect(bytes + size - whole(size), whole(size), PROT_READ)) checked(NULL);
+}
+#endif
+
+static uint8_t *read_file(const char *path, size_t *size) {
+  FILE *file = checked(fopen(path, "rb"));
+  fseek(file, 0, SEEK_END);
+  *size = (size_t)ftell(file);
+  rewind(file);
+  uint8_t *bytes = take(*size);
+  if (fread(bytes, 1, *size, file) != *size) checked(NULL);
+  fclose(file);
+  lock(bytes, *size);
+  return bytes;
+}
+
+static void find(const char *path, const struct asked *asked, size_t room, const char *why) {
+  printf("FIND %s: %s %u, a name of %zu bytes, room %zu: %s\n", path, asked->call, asked->number, asked->name_length, room, why);
+  finds++;
+}
+
+static int are_untouched(const uint8_t *bytes, size_t count) {
+  for (size_t i = 0; i < count; i++)
+    if (bytes[i] != UNTOUCHED) return 0;
+  return 1;
+}
+
+// One call in a room, which has to answer so.
+static void in_room(const char *path, const struct asked *asked, const uint8_t *input, size_t size, size_t room, uint32_t wanted, const uint8_t *output, size_t length) {
+  uint8_t *here = take(room);
+  size_t told = 12345;
+  memset(here, UNTOUCHED, room);
+  uint32_t status = answer(asked, input, size, here, room, &told);
+  if (wanted == MULKAVESH_DONE && room < length) wanted = MULKAVESH_NO_ROOM;
+  size_t written = wanted == MULKAVESH_DONE ? length : 0;
+  if (status != wanted) find(path, asked, room, "another status");
+  else if (told != (wanted == MULKAVESH_DONE || wanted == MULKAVESH_NO_ROOM ? length : 0)) find(path, asked, room, "another length");
+  else if (written && memcmp(here, output, written)) find(path, asked, room, "other bytes");
+  else if (!are_untouched(here + written, room - written)) find(path, asked, room, "the rest of the room is written");
+  drop(here, room);
+  calls++;
+}
+
+// A call in rooms of every length, beside what it answers in ample room.
+static void in_rooms(const char *path, const struct asked *asked, const uint8_t *input, size_t size) {
+  size_t ample = 4 * size + 4096, length = 0;
+  uint8_t *output = take(ample);
+  uint32_t status = answer(asked, input, size, output, ample, &length);
+  if (status == MULKAVESH_NO_ROOM) find(path, asked, ample, "ample room is none");
+  for (size_t room = 0; room <= length + 1; room++) in_room(path, asked, input, size, room, status, output, length);
+  drop(output, ample);
+}
+
+int main(int count, char **paths) {
+  static const struct asked all[] = {
+      {"gc", 0, NULL, 0}, {"gc", 7, NULL, 0}, {"gc", 8, NULL, 0}, {"gc", UINT32_MAX, NULL, 0}, {"report", 0, NULL, 0}, {"report", 8, NULL, 0},
+      {"list", 0, NULL, 0}, {"list", 8, NULL, 0}, {"why", 0, NULL, 0}, {"why", 5, NULL, 0}, {"why", UINT32_MAX, NULL, 0},
+      {"strip", 0, (const uint8_t *)"target_features", 15}, {"strip", 3, (const uint8_t *)"target_features", 15}, {"strip", 0, (const uint8_t *)"", 0},
+      {"strip", 8, (const uint8_t *)"", 0}, {"snip", 0, (const uint8_t *)"f", 1}, {"snip", 0, (const uint8_t *)"\xFF", 1},
+      {"stub", 0, (const uint8_t *)"env", 3}, {"stub", 0, (const uint8_t *)"", 0}, {"stub", 0, (const uint8_t *)"\xFF", 1}};
+  for (int i = 1; i < count; i++) {
+    size_t size;
+    uint8_t *input = read_file(paths[i], &size);
+    for (size_t which = 0; which < sizeof all / sizeof *all; which++) {
+      // a name ends where no memory is, too
+      struct asked asked = all[which];
+      uint8_t *name = take(asked.name_length);
+      if (asked.name_length) memcpy(name, asked.name, asked.name_length);
+      asked.name = name;
+      in_rooms(paths[i], &asked, input, size);
+      drop(name, asked.name_length);
+    }
+    drop(input, size);
+  }
+  printf("%ld calls over %d modules in rooms of every length, %ld finds\n", calls, count - 1, finds);
+  return finds > 0;
+}

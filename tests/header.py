@@ -1,0 +1,115 @@
+#!/usr/bin/env python3
+"""Compares include/mulkavesh.h with the signatures of crates/mulkavesh_c, and rust/mulkavesh-sys and python/mulkavesh.py with the header.
+
+A slice is a pointer and its length, a `&mut usize` a pointer, and a `Global` nothing. Compared are the names, the types and the order of the
+parameters, the constants, and the version with those of the packages; no compiler is needed. Prints what differs, a line each, and ends with status 1 where
+there is any.
+"""
+import pathlib
+import re
+import sys
+
+sys.dont_write_bytecode = True
+from exports import CRATES, exports
+
+TOP = CRATES.parent
+CRATE = "mulkavesh_c"
+# The kinds of parameters: what the sources call them, and what C, Rust and ctypes do.
+IN, OUT, COUNT, NUMBER, TOLD = "bytes that are read", "bytes that are written", "a length", "a number of 32 bits", "where a length is told"
+RATTLE = {"Global": [], "&[u8]": [IN, COUNT], "&mut [u8]": [OUT, COUNT], "&mut usize": [TOLD], "u32": [NUMBER]}
+C = {"const uint8_t *": IN, "uint8_t *": OUT, "size_t ": COUNT, "uint32_t ": NUMBER, "size_t *": TOLD}
+RUST = {"*const u8": IN, "*mut u8": OUT, "usize": COUNT, "u32": NUMBER, "*mut usize": TOLD}
+# The name of the length behind the parameter of each name.
+LENGTHS = {"output": "room"}
+
+
+def read(*parts):
+    path = TOP.joinpath(*parts)
+    return path.read_text(encoding="utf-8") if path.exists() else None
+
+
+def of_sources():
+    """What each export takes, as pairs of a name and a kind."""
+    for name, parameters, result in exports(CRATE):
+        taken = []
+        for its_name, its_type in parameters:
+            kinds = RATTLE[its_type]
+            names = [its_name, LENGTHS.get(its_name, f"{its_name}_length")]
+            taken += zip(names, kinds)
+        yield name, (taken, result == "u32")
+
+
+def of_header(text):
+    for name, between in re.findall(r"^uint32_t (\w+)\((.*)\);", text, re.M):
+        pairs = re.findall(r"(const uint8_t \*|uint8_t \*|uint32_t |size_t \*|size_t )(\w+)", between)
+        yield name, ([(its_name, C[its_type]) for its_type, its_name in pairs], True)
+
+
+def of_rust(text):
+    for name, between in re.findall(r"pub fn (\w+)\(([^)]*)\) -> u32;", text):
+        pairs = (one.split(": ") for one in re.sub(r"\s+", " ", between).split(",") if one.strip())
+        yield name, ([(its_name.strip(), RUST[its_type.strip()]) for its_name, its_type in pairs], True)
+
+
+def differing(what, wanted, found):
+    for name in sorted(wanted.keys() | found.keys()):
+        if wanted.get(name) != found.get(name):
+            yield f"{what}: {name} is {found.get(name)}, and not {wanted.get(name)}"
+
+
+def constants_of_sources():
+    """The statuses, flags and the version, by the names that the header gives them."""
+    text = "".join(path.read_text(encoding="utf-8") for path in sorted((CRATES / CRATE / "src").glob("*.rt")))
+    return {name: int(number) for name, number in re.findall(r"const (\w+): u32 = (\d+);", text)}
+
+
+def constants_of_header(text):
+    pairs = re.findall(r"MULKAVESH_(\w+)(?: =|) (\d\w*)", text)
+    return {name: int(number.rstrip("u"), 0) for name, number in pairs}
+
+
+def constants_of_rust(text):
+    return {name: int(number) for name, number in re.findall(r"pub const MULKAVESH_(\w+): u32 = (\d+);", text)}
+
+
+def constants_of_python(text):
+    numbers = re.search(r"class Status\(.*?(?=\n\n\n)", text, re.S)
+    return {name: int(number) for name, number in re.findall(r"^    ([A-Z_]+) = (\d+)", numbers[0], re.M)}
+
+
+def versions(number):
+    """Where the packages tell their version, and what it has to be."""
+    wanted = f"{number >> 16}.{number >> 8 & 255}.{number & 255}"
+    for parts in (("rust", "mulkavesh-sys", "Cargo.toml"), ("rust", "mulkavesh", "Cargo.toml"), ("python", "pyproject.toml")):
+        text = read(*parts)
+        found = text and re.search(r'^version = "([^"]*)"', text, re.M)
+        if text is not None and (not found or found[1] != wanted):
+            yield f"{'/'.join(parts)}: the version is {found and found[1]}, and not {wanted}"
+
+
+def wrong():
+    sources, constants = dict(of_sources()), constants_of_sources()
+    header = read("include", "mulkavesh.h")
+    yield from differing("include/mulkavesh.h", sources, dict(of_header(header)))
+    yield from differing("include/mulkavesh.h", constants, constants_of_header(header))
+    rust = read("rust", "mulkavesh-sys", "src", "lib.rs")
+    if rust is not None:
+        yield from differing("rust/mulkavesh-sys", sources, dict(of_rust(rust)))
+        numbers = {name: number for name, number in constants.items() if name != "VERSION"}
+        yield from differing("rust/mulkavesh-sys", numbers, constants_of_rust(rust))
+    python = read("python", "mulkavesh.py")
+    if python is not None:
+        statuses = {name: number for name, number in constants.items() if name not in ("VERSION", "NO_NAMES", "NO_PRODUCERS", "NO_LEGACY")}
+        yield from differing("python/mulkavesh.py", statuses, constants_of_python(python))
+    yield from versions(constants["VERSION"])
+
+
+def main():
+    lines = [*wrong()]
+    for line in lines:
+        print(line)
+    print(f"tests/header.py: {len(lines)} things differ" if lines else "tests/header.py: the header and what calls it are as the sources say")
+    sys.exit(1 if lines else 0)
+
+
+main()
