@@ -1,0 +1,261 @@
+"""Mulkavesh, a verified module layer for WebAssembly, from Python.
+
+    import mulkavesh
+    smaller = mulkavesh.gc(module)
+
+Each function is a call of the shared library libmulkavesh.so, goes from the bytes of a module to bytes, a text or a list, and keeps
+nothing. The library is looked for as this file is imported: in the folder that the environment variable MULKAVESH_LIB names; where that
+isn't set, beside this file, in crates/mulkavesh_c/out/lib of the repository, and where the system has its libraries.
+
+A module or a name may be `bytes`, a `bytearray` or a `memoryview`. `bytes` are lent to the library as they are; the others are copied
+first, so that nothing can change them during the call. Other threads go on meanwhile, and may call too. In a child that was forked from
+a process with threads no call may be made (`multiprocessing` with the start method "fork").
+
+Each call with a module raises `InvalidModule` where the bytes are no module that keeps the rules, `TooLarge` where what is to be written
+has a count or a size past 32 bits, and `MemoryError`. `strip`, `why`, `snip` and `stub` also raise `NotFound`.
+"""
+import ctypes
+import ctypes.util
+import enum
+import operator
+import os
+import pathlib
+import struct
+from dataclasses import dataclass
+from typing import Any, Dict, Iterator, List, Optional, Tuple, Type, Union
+
+__all__ = [
+    "Function", "InvalidModule", "MulkaveshError", "NotFound", "TooLarge",
+    "gc", "list_functions", "report", "snip", "strip", "stub", "version", "why",
+]
+
+Bytes = Union[bytes, bytearray, memoryview]
+Name = Union[str, Bytes]
+
+
+class Status(enum.IntEnum):
+    """What a call of the library answers."""
+
+    DONE = 0
+    INVALID = 1
+    TOO_LARGE = 2
+    NO_MEMORY = 3
+    NO_ROOM = 4
+    UNKNOWN_FLAG = 5
+    NOT_FOUND = 6
+
+
+class MulkaveshError(Exception):
+    """A call was refused, and not for want of memory."""
+
+
+class InvalidModule(MulkaveshError):
+    """The input is no module that keeps the rules."""
+
+
+class TooLarge(MulkaveshError):
+    """What is to be written has a count or a size past 32 bits."""
+
+
+class NotFound(MulkaveshError):
+    """There is nothing of this name or index that the call could work on."""
+
+
+@dataclass(frozen=True)
+class Function:
+    """A function with a body that `gc` keeps: its index in the input, the bytes of its body in the output, and its name in the input."""
+
+    index: int
+    size: int
+    name: Optional[str]
+
+
+# ---- the library
+
+_LIBRARY = "libmulkavesh.so"
+# The version that this file is written for: of a library with another major or minor number the calls may be other ones.
+_VERSION = (0, 1)
+_READ = (ctypes.c_char_p, ctypes.c_size_t)
+_WRITTEN = (ctypes.c_void_p, ctypes.c_size_t, ctypes.POINTER(ctypes.c_size_t))
+# What each call takes between the module that it reads and the room that it writes.
+_BETWEEN: Dict[str, Tuple[Any, ...]] = {
+    "gc": (ctypes.c_uint32,),
+    "report": (ctypes.c_uint32,),
+    "list": (ctypes.c_uint32,),
+    "strip": (ctypes.c_uint32, *_READ),
+    "why": (ctypes.c_uint32,),
+    "snip": _READ,
+    "stub": _READ,
+}
+
+
+def _path() -> str:
+    """Where the library is."""
+    here, named = pathlib.Path(__file__).resolve().parent, os.environ.get("MULKAVESH_LIB")
+    folders = [pathlib.Path(named)] if named else [here, here.parent / "crates" / "mulkavesh_c" / "out" / "lib"]
+    for folder in folders:
+        if (folder / _LIBRARY).is_file():
+            return str(folder / _LIBRARY)
+    found = None if named else ctypes.util.find_library("mulkavesh")
+    if found:
+        return found
+    places = " or ".join(map(str, folders)) + ("" if named else " or among the system's libraries")
+    raise ImportError(f"there is no {_LIBRARY} in {places}: set MULKAVESH_LIB to its folder, or build it (docs/USING.md)")
+
+
+def _version_of(library: ctypes.CDLL) -> Tuple[int, int, int]:
+    call = library.mulkavesh_version
+    call.restype, call.argtypes = ctypes.c_uint32, ()
+    number: int = call()
+    return number >> 16, number >> 8 & 255, number & 255
+
+
+def _loaded() -> ctypes.CDLL:
+    """The library, whose calls take what the header says."""
+    path = _path()
+    try:
+        library = ctypes.CDLL(path)
+        major, minor, _ = _version_of(library)
+        for name, between in _BETWEEN.items():
+            call = getattr(library, f"mulkavesh_{name}")
+            call.restype, call.argtypes = ctypes.c_uint32, (*_READ, *between, *_WRITTEN)
+    except (OSError, AttributeError) as error:
+        raise ImportError(f"{path} can't be used: {error}") from error
+    if (major, minor) != _VERSION:
+        raise ImportError(f"{path} is of version {major}.{minor}, and mulkavesh.py is for {_VERSION[0]}.{_VERSION[1]}")
+    return library
+
+
+_library = _loaded()
+
+
+# ---- a call
+
+# A smaller module, or a list, is seldom longer than the input by more.
+_MARGIN = 256
+# Seven lines of a word and two numbers of ten digits are shorter, and some two hundred lines of a chain.
+_ROOM_OF_A_REPORT, _ROOM_OF_A_CHAIN = 512, 4096
+# The flags.
+_NO_NAMES, _NO_PRODUCERS, _NO_LEGACY = 1, 2, 4
+# The numbers in front of each name in a list, and what stands there for the length of a name that isn't there.
+_ENTRY, _NO_NAME = struct.Struct("<III"), 2**32 - 1
+_REFUSALS: Dict[int, Tuple[Type[Exception], str]] = {
+    Status.INVALID: (InvalidModule, "the input is no module that keeps the rules"),
+    Status.TOO_LARGE: (TooLarge, "a count or a size passes 32 bits"),
+    Status.NO_MEMORY: (MemoryError, "out of memory"),
+    Status.UNKNOWN_FLAG: (MulkaveshError, "the library doesn't know a flag"),
+}
+
+
+def _whole(data: Bytes) -> bytes:
+    """The bytes, which nothing can change: a copy, but of `bytes`."""
+    return data if type(data) is bytes else memoryview(data).tobytes()
+
+
+def _bytes_of(name: Name) -> bytes:
+    """The bytes of a name. Those of a text that has none in UTF-8 aren't found by the library."""
+    return name.encode("utf-8", "surrogatepass") if isinstance(name, str) else _whole(name)
+
+
+def _flags(names: bool, producers: bool, legacy: bool) -> int:
+    return (0 if names else _NO_NAMES) | (0 if producers else _NO_PRODUCERS) | (0 if legacy else _NO_LEGACY)
+
+
+def _tried(call: str, data: bytes, words: Tuple[Any, ...], room: int) -> Tuple[int, bytearray, int]:
+    """A call in so much room: its status, the room, and the length that it told."""
+    output, length = bytearray(room), ctypes.c_size_t(0)
+    place = ctypes.byref(ctypes.c_char.from_buffer(output))
+    status: int = getattr(_library, f"mulkavesh_{call}")(data, len(data), *words, place, room, ctypes.byref(length))
+    return status, output, length.value
+
+
+def _answer(call: str, module: Bytes, *words: Any, room: int = 0, missing: str = "") -> bytes:
+    """What a call answers: in a guessed room, and again where that was too small. `missing` says what wasn't found."""
+    data = _whole(module)
+    status, output, length = _tried(call, data, words, room or len(data) + _MARGIN)
+    if status == Status.NO_ROOM:
+        status, output, length = _tried(call, data, words, length)
+    if status == Status.DONE:
+        return bytes(memoryview(output)[:length])
+    if status == Status.NOT_FOUND:
+        raise NotFound(missing)
+    kind, text = _REFUSALS.get(status, (MulkaveshError, f"the library answered status {status}"))
+    raise kind(text)
+
+
+def _functions(listed: bytes) -> Iterator[Function]:
+    """The functions of a list, which has three numbers and a name for each."""
+    at = 0
+    while at < len(listed):
+        index, size, length = _ENTRY.unpack_from(listed, at)
+        at += _ENTRY.size
+        end = at if length == _NO_NAME else at + length
+        yield Function(index, size, None if length == _NO_NAME else listed[at:end].decode())
+        at = end
+
+
+# ---- the calls
+
+
+def version() -> Tuple[int, int, int]:
+    """The version of the library: the major number, the minor one, and the patch."""
+    return _version_of(_library)
+
+
+def gc(module: Bytes, *, names: bool = True, producers: bool = True, legacy: bool = True) -> bytes:
+    """The module without what nothing reaches: the bytes that the program walrus-gc writes.
+
+    Where `names` or `producers` is false, none are written; where `legacy` is false, bodies with legacy exceptions are refused.
+    """
+    return _answer("gc", module, _flags(names, producers, legacy))
+
+
+def report(module: Bytes, *, legacy: bool = True) -> str:
+    """How many items of each kind `gc` keeps and drops, in seven lines as `functions kept 19 dropped 1`. Imported ones count too."""
+    return _answer("report", module, _flags(True, True, legacy), room=_ROOM_OF_A_REPORT).decode()
+
+
+def list_functions(module: Bytes, *, legacy: bool = True) -> List[Function]:
+    """The functions with a body that `gc` keeps, by rising index."""
+    return list(_functions(_answer("list", module, _flags(True, True, legacy))))
+
+
+def strip(module: Bytes, name: Name, *, names: bool = True, producers: bool = True, legacy: bool = True) -> bytes:
+    """The module without its first custom section of this name; what nothing reaches stays.
+
+    `NotFound` where there is none. Names and producers aren't found by it: `names` and `producers` say whether they are written.
+    """
+    word = _bytes_of(name)
+    missing = f"the module has no custom section {name!r} that could be taken away"
+    return _answer("strip", module, _flags(names, producers, legacy), word, len(word), missing=missing)
+
+
+def why(module: Bytes, function: int) -> str:
+    """Why `gc` keeps the function of this index in the input: a line for each item of a chain of references that leads to it, a root
+    first, as `function 3`; or the line `function 3 isn't reached`.
+
+    `NotFound` where the module has no function of this index, `ValueError` where the index isn't 0 to 2**32 - 1.
+    """
+    index = operator.index(function)
+    if not 0 <= index < 2**32:
+        raise ValueError(f"{index} is no index of a function: those are 0 to 2**32 - 1")
+    return _answer("why", module, index, room=_ROOM_OF_A_CHAIN, missing=f"the module has no function {index}").decode()
+
+
+def snip(module: Bytes, name: Name) -> bytes:
+    """The module where the function that is exported under this name is replaced by one that traps, without what nothing reaches then.
+
+    `NotFound` where no function is exported under the name, or where that one is imported or is exported under another name before.
+    """
+    word = _bytes_of(name)
+    return _answer("snip", module, word, len(word), missing=f"no function is exported as {name!r} that could be replaced")
+
+
+def stub(module: Bytes, from_module: Name) -> bytes:
+    """The module where each function that was imported from the module of this name is one of its own, which traps, without what nothing
+    reaches then. Where none is imported from it, that is what `gc` answers.
+
+    `NotFound` where the name isn't UTF-8, as the name of a module is.
+    """
+    word = _bytes_of(from_module)
+    return _answer("stub", module, word, len(word), missing=f"{from_module!r} is no name of a module, since it isn't UTF-8")

@@ -1,0 +1,332 @@
+"""Each call over modules that were worked out by hand, what each refuses, how the library is found, what is declared and what is packed."""
+import base64
+import concurrent.futures
+import ctypes
+import hashlib
+import inspect
+import os
+import pathlib
+import re
+import shutil
+import subprocess
+import sys
+import tempfile
+import types
+import typing
+import unittest
+import zipfile
+from typing import Any, Callable, Dict, Optional
+from unittest import mock
+
+import mulkavesh
+import packing
+from mulkavesh import Function, InvalidModule, MulkaveshError, NotFound, TooLarge
+from tests import worked
+
+HERE = pathlib.Path(__file__).resolve().parent.parent
+HEADER = HERE.parent / "include" / "mulkavesh.h"
+# All calls with a module, with what else they take.
+CALLS: Dict[str, Callable[[Any], Any]] = {
+    "gc": mulkavesh.gc,
+    "report": mulkavesh.report,
+    "list": mulkavesh.list_functions,
+    "strip": lambda module: mulkavesh.strip(module, "a"),
+    "why": lambda module: mulkavesh.why(module, 0),
+    "snip": lambda module: mulkavesh.snip(module, "a"),
+    "stub": lambda module: mulkavesh.stub(module, "env"),
+}
+
+
+def of(call: Callable[[Any], Any], module: Any) -> Any:
+    """What a call answers, or what it raises, as a text."""
+    try:
+        return call(module)
+    except Exception as error:
+        return repr(error)
+
+
+class Answers(unittest.TestCase):
+    """What each call answers."""
+
+    def test_version(self) -> None:
+        said = re.search(r'^version = "(\d+)\.(\d+)\.(\d+)"', (HERE / "pyproject.toml").read_text(encoding="utf-8"), re.M)
+        assert said
+        self.assertEqual(mulkavesh.version(), tuple(map(int, said.groups())))
+
+    def test_gc(self) -> None:
+        self.assertEqual(mulkavesh.gc(worked.TWO), worked.ONE + worked.PRODUCERS)
+        self.assertEqual(mulkavesh.gc(worked.TWO, producers=False), worked.ONE)
+        self.assertEqual(mulkavesh.gc(worked.HEADER), worked.HEADER + worked.PRODUCERS)
+
+    def test_gc_and_names(self) -> None:
+        self.assertEqual(mulkavesh.gc(worked.TWO_NAMED, producers=False), worked.ONE_NAMED)
+        self.assertEqual(mulkavesh.gc(worked.TWO_NAMED, names=False), worked.ONE + worked.PRODUCERS)
+
+    def test_gc_and_legacy_exceptions(self) -> None:
+        self.assertEqual(mulkavesh.gc(worked.LEGACY, names=False, producers=False), worked.LEGACY_LEFT)
+        for call in (mulkavesh.gc, mulkavesh.report, mulkavesh.list_functions):
+            self.assertRaises(InvalidModule, call, worked.LEGACY, legacy=False)
+        self.assertRaises(InvalidModule, mulkavesh.strip, worked.LEGACY, "a", legacy=False)
+
+    def test_report(self) -> None:
+        self.assertEqual(mulkavesh.report(worked.TWO), worked.REPORT)
+
+    def test_list(self) -> None:
+        self.assertEqual(mulkavesh.list_functions(worked.TWO), [Function(1, 2, None)])
+        self.assertEqual(mulkavesh.list_functions(worked.TWO_NAMED), [Function(1, 2, "é")])
+        self.assertEqual(mulkavesh.list_functions(worked.CALLS), [Function(0, 4, None), Function(1, 3, None)])
+        self.assertEqual(mulkavesh.list_functions(worked.HEADER), [])
+
+    def test_answers_that_need_more_room(self) -> None:
+        module, wanted = worked.listed_in_more(), [Function(index, 2, None) for index in range(120)]
+        self.assertGreater(12 * len(wanted), len(module) + 256)
+        self.assertEqual(mulkavesh.list_functions(module), wanted)
+        chain = "".join(f"function {index}\n" for index in range(500))
+        self.assertGreater(len(chain), 4096)
+        self.assertEqual(mulkavesh.why(worked.chained(), 499), chain)
+
+    def test_strip(self) -> None:
+        self.assertEqual(mulkavesh.strip(worked.SECTIONS, "a", producers=False), worked.FIRST_GONE)
+        self.assertEqual(mulkavesh.strip(worked.SECTIONS, "a"), worked.HEADER + worked.PRODUCERS + worked.FIRST_GONE[len(worked.HEADER):])
+        named = worked.TWO_NAMED + worked.SECTIONS[len(worked.HEADER):]
+        self.assertEqual(mulkavesh.strip(named, "a", names=False, producers=False)[-len(worked.FIRST_GONE) + 8:], worked.FIRST_GONE[8:])
+
+    def test_names_of_each_kind(self) -> None:
+        for name in ("é", "é".encode(), bytearray("é".encode()), memoryview("é".encode())):
+            self.assertEqual(mulkavesh.strip(worked.SECTIONS, name, producers=False), worked.LAST_GONE)
+        for name in ("a", b"a", bytearray(b"a"), memoryview(b"a")):
+            self.assertEqual(mulkavesh.snip(worked.CALLS, name), worked.SNIPPED)
+        for name in ("env", b"env", bytearray(b"env"), memoryview(b"env")):
+            self.assertEqual(mulkavesh.stub(worked.IMPORTS, name), worked.STUBBED)
+
+    def test_why(self) -> None:
+        self.assertEqual(mulkavesh.why(worked.TWO, 1), "function 1\n")
+        self.assertEqual(mulkavesh.why(worked.TWO, 0), "function 0 isn't reached\n")
+        self.assertEqual(mulkavesh.why(worked.CALLS, 1), "function 0\nfunction 1\n")
+
+    def test_snip(self) -> None:
+        self.assertEqual(mulkavesh.snip(worked.CALLS, "a"), worked.SNIPPED)
+
+    def test_stub(self) -> None:
+        self.assertEqual(mulkavesh.stub(worked.IMPORTS, "env"), worked.STUBBED)
+        self.assertEqual(mulkavesh.stub(worked.IMPORTS, "nothing"), mulkavesh.gc(worked.IMPORTS))
+        self.assertEqual(mulkavesh.stub(worked.TWO, ""), worked.ONE + worked.PRODUCERS)
+
+    def test_modules_of_each_kind(self) -> None:
+        every_other = memoryview(b"".join(bytes((byte, 0)) for byte in worked.TWO))[::2]
+        for module in (bytearray(worked.TWO), memoryview(worked.TWO), memoryview(bytearray(worked.TWO)), every_other):
+            self.assertEqual(mulkavesh.gc(module, producers=False), worked.ONE)
+            self.assertEqual(bytes(module), worked.TWO)
+        for name, call in CALLS.items():
+            with self.subTest(name):
+                self.assertEqual(of(call, bytearray(worked.IMPORTS)), of(call, worked.IMPORTS))
+
+    def test_threads(self) -> None:
+        modules = [worked.TWO, worked.CALLS, worked.IMPORTS, worked.chained(), worked.SECTIONS, b""]
+        work = [(call, module) for module in modules for call in CALLS.values()] * 20
+        alone = [of(call, module) for call, module in work]
+        with concurrent.futures.ThreadPoolExecutor(4) as pool:
+            self.assertEqual(list(pool.map(of, *zip(*work))), alone)
+
+
+class Refusals(unittest.TestCase):
+    """What each call refuses."""
+
+    def test_invalid_modules(self) -> None:
+        for name, call in CALLS.items():
+            for module in (b"", bytearray(), memoryview(b""), b"\0asm", b"no module at all", worked.TWO[:-1], worked.TWO + b"\0"):
+                with self.subTest(name, module=bytes(module)):
+                    self.assertRaises(InvalidModule, call, module)
+
+    def test_what_is_not_found(self) -> None:
+        self.assertRaisesRegex(NotFound, "no custom section 'c'", mulkavesh.strip, worked.SECTIONS, "c")
+        self.assertRaises(NotFound, mulkavesh.strip, worked.SECTIONS, "")
+        self.assertRaises(NotFound, mulkavesh.strip, worked.TWO_NAMED, "name")
+        self.assertRaises(NotFound, mulkavesh.strip, worked.ONE + worked.PRODUCERS, "producers")
+        self.assertRaisesRegex(NotFound, "no function 2$", mulkavesh.why, worked.TWO, 2)
+        self.assertRaises(NotFound, mulkavesh.why, worked.TWO, 2**32 - 1)
+        self.assertRaisesRegex(NotFound, "exported as 'c'", mulkavesh.snip, worked.TWICE, "c")
+        self.assertRaises(NotFound, mulkavesh.snip, worked.TWICE, "b")
+
+    def test_names_that_are_not_utf_8(self) -> None:
+        for name in (b"\xFF", "\uDCFF", "a\uD800"):
+            self.assertRaises(NotFound, mulkavesh.strip, worked.SECTIONS, name)
+            self.assertRaises(NotFound, mulkavesh.snip, worked.CALLS, name)
+            self.assertRaisesRegex(NotFound, "isn't UTF-8", mulkavesh.stub, worked.IMPORTS, name)
+
+    def test_indices_out_of_range(self) -> None:
+        for index in (-1, 2**32, 2**32 + 1, -(2**32), 2**64):
+            self.assertRaises(ValueError, mulkavesh.why, worked.TWO, index)
+
+    def test_other_types(self) -> None:
+        for name, call in CALLS.items():
+            for module in ("", None, 5, [0], 0.5):
+                with self.subTest(name, module=module):
+                    self.assertRaises(TypeError, call, module)
+        for name in (None, 5, ["a"]):
+            self.assertRaises(TypeError, mulkavesh.strip, worked.SECTIONS, name)
+        for index in (None, 0.5, "0"):
+            self.assertRaises(TypeError, mulkavesh.why, worked.TWO, index)
+
+    def test_each_status(self) -> None:
+        """What each status raises; those that only huge modules come to are told by a library that answers nothing else."""
+        wanted = {1: InvalidModule, 2: TooLarge, 3: MemoryError, 5: MulkaveshError, 6: NotFound, 7: MulkaveshError}
+        for status, kind in wanted.items():
+            library = types.SimpleNamespace(mulkavesh_gc=lambda *words, status=status: status)
+            with mock.patch.object(mulkavesh, "_library", library), self.assertRaises(Exception) as raised:
+                mulkavesh.gc(worked.TWO)
+            self.assertIs(type(raised.exception), kind)
+        for kind in (InvalidModule, TooLarge, NotFound):
+            self.assertTrue(issubclass(kind, MulkaveshError))
+
+    def test_memory_runs_out(self) -> None:
+        """In a process that gets the room that Python asks for, and not what the library does."""
+        ended = in_python(OUT_OF_MEMORY, {"MULKAVESH_LIB": str(library().parent), "PYTHONPATH": str(HERE)})
+        self.assertEqual((ended.stdout, ended.stderr), ("MemoryError('out of memory')\n", ""))
+
+
+OUT_OF_MEMORY = """
+import mulkavesh, resource
+from tests import worked
+module = worked.large()
+pages = int(open("/proc/self/statm").read().split()[0])
+limit = pages * resource.getpagesize() + len(module) + 8 * 2**20
+resource.setrlimit(resource.RLIMIT_AS, (limit, limit))
+try:
+    print(len(mulkavesh.gc(module)))
+except MemoryError as error:
+    print(repr(error))
+"""
+
+
+def library() -> pathlib.Path:
+    """The library that is tested."""
+    return pathlib.Path(getattr(mulkavesh, "_library")._name).resolve()
+
+
+def in_python(code: str, variables: Dict[str, str]) -> "subprocess.CompletedProcess[str]":
+    """What another process of this Python does that has these variables and neither of its own for this module."""
+    own = {name: value for name, value in os.environ.items() if name not in ("MULKAVESH_LIB", "PYTHONPATH")}
+    command = [sys.executable, "-B", "-c", code]
+    return subprocess.run(
+        command, env={**own, **variables}, cwd="/", stdout=subprocess.PIPE, stderr=subprocess.PIPE, universal_newlines=True, check=False)
+
+
+LOADED = "import mulkavesh; print(mulkavesh._library._name, mulkavesh.version())"
+FOUND_BY_THE_SYSTEM = "import ctypes.util; ctypes.util.find_library = lambda name: name == 'mulkavesh' and {!r}; "
+
+
+class Finding(unittest.TestCase):
+    """Where the library is looked for."""
+
+    def setUp(self) -> None:
+        folder = tempfile.TemporaryDirectory()
+        self.addCleanup(folder.cleanup)
+        self.top = pathlib.Path(folder.name).resolve()
+        self.module = self.top / "python"
+        self.module.mkdir()
+        shutil.copy(HERE / "mulkavesh.py", self.module)
+
+    def put(self, *parts: str) -> pathlib.Path:
+        """The library, in a folder of this one."""
+        folder = self.top.joinpath(*parts)
+        folder.mkdir(parents=True, exist_ok=True)
+        return pathlib.Path(shutil.copy(library(), folder))
+
+    def loaded(self, named: Optional[pathlib.Path] = None, before: str = "") -> "subprocess.CompletedProcess[str]":
+        variables = {"PYTHONPATH": str(self.module), **({"MULKAVESH_LIB": str(named)} if named else {})}
+        return in_python(before + LOADED, variables)
+
+    def assert_found(self, path: pathlib.Path, *words: Any) -> None:
+        ended = self.loaded(*words)
+        self.assertEqual((ended.stdout, ended.stderr), (f"{path} (0, 1, 0)\n", ""))
+
+    def assert_missing(self, text: str, *words: Any) -> None:
+        ended = self.loaded(*words)
+        self.assertRegex(ended.stderr.splitlines()[-1], f"^ImportError: .*{text}")
+
+    def test_places_from_the_last_to_the_first(self) -> None:
+        nowhere = FOUND_BY_THE_SYSTEM.format(None)
+        self.assert_missing("there is no libmulkavesh.so in .*/python or .*/lib or among the system's libraries", None, nowhere)
+        system = self.put("system")
+        self.assert_found(system, None, FOUND_BY_THE_SYSTEM.format(str(system)))
+        self.assert_found(self.put("crates", "mulkavesh_c", "out", "lib"), None, nowhere)
+        self.assert_found(self.put("python"))
+        named = self.put("named")
+        self.assert_found(named, named.parent)
+
+    def test_a_folder_without_it(self) -> None:
+        self.put("python")
+        self.assert_missing("there is no libmulkavesh.so in .*/empty: set MULKAVESH_LIB", self.top / "empty")
+
+    def test_a_file_that_is_no_library(self) -> None:
+        (self.module / "libmulkavesh.so").write_bytes(b"no library")
+        self.assert_missing("/python/libmulkavesh.so can't be used: ")
+
+    def test_another_library(self) -> None:
+        other = self.put("python")
+        other.write_bytes(other.read_bytes().replace(b"mulkavesh_stub\0", b"mulkavesh_stab\0"))
+        self.assert_missing("can't be used: .*mulkavesh_stub")
+
+    def test_another_version(self) -> None:
+        text = (self.module / "mulkavesh.py").read_text(encoding="utf-8")
+        (self.module / "mulkavesh.py").write_text(text.replace("\n_VERSION = (0, 1)\n", "\n_VERSION = (0, 2)\n"), encoding="utf-8")
+        self.put("python")
+        self.assert_missing("is of version 0.1, and mulkavesh.py is for 0.2")
+
+
+class Packed(unittest.TestCase):
+    """What pip installs."""
+
+    def test_the_package_is_whole(self) -> None:
+        with tempfile.TemporaryDirectory() as folder:
+            name = packing.build_wheel(folder)
+            with zipfile.ZipFile(pathlib.Path(folder, name)) as packed:
+                packed.extractall(folder)
+            (told,) = pathlib.Path(folder).glob("*.dist-info")
+            for line in (told / "RECORD").read_text(encoding="utf-8").splitlines()[:-1]:
+                path, digest, size = line.split(",")
+                content = pathlib.Path(folder, path).read_bytes()
+                wanted = base64.urlsafe_b64encode(hashlib.sha256(content).digest()).decode().rstrip("=")
+                self.assertEqual((digest, size), (f"sha256={wanted}", str(len(content))), path)
+            self.assertIn("Version: 0.1.0\nSummary: Drops", (told / "METADATA").read_text(encoding="utf-8"))
+            ended = in_python(LOADED, {"PYTHONPATH": folder})
+            self.assertEqual((ended.stdout, ended.stderr), (f"{pathlib.Path(folder).resolve() / library().name} (0, 1, 0)\n", ""))
+
+
+class Declared(unittest.TestCase):
+    """That what is declared here agrees with the header, and that all is typed."""
+
+    IN_C = {
+        "const uint8_t *": ctypes.c_char_p, "size_t ": ctypes.c_size_t, "uint32_t ": ctypes.c_uint32, "uint8_t *": ctypes.c_void_p,
+        "size_t *": ctypes.POINTER(ctypes.c_size_t),
+    }
+
+    @unittest.skipUnless(HEADER.exists(), "there is no include/mulkavesh.h")
+    def test_the_calls_of_the_header(self) -> None:
+        declared = {}
+        for name, parameters in re.findall(r"^uint32_t (\w+)\((.*)\);", HEADER.read_text(encoding="utf-8"), re.M):
+            declared[name] = [self.IN_C[kind] for kind in re.findall(r"(const uint8_t \*|uint8_t \*|uint32_t |size_t \*|size_t )\w", parameters)]
+        self.assertEqual(len(declared), 8)
+        for name, kinds in declared.items():
+            call = getattr(getattr(mulkavesh, "_library"), name)
+            self.assertEqual((name, list(call.argtypes), call.restype), (name, kinds, ctypes.c_uint32))
+
+    @unittest.skipUnless(HEADER.exists(), "there is no include/mulkavesh.h")
+    def test_the_numbers_of_the_header(self) -> None:
+        numbers = {name: int(number) for name, number in re.findall(r"MULKAVESH_(\w+) = (\d+)", HEADER.read_text(encoding="utf-8"))}
+        flags = {name: getattr(mulkavesh, f"_{name}") for name in ("NO_NAMES", "NO_PRODUCERS", "NO_LEGACY")}
+        self.assertEqual(numbers, {**flags, **{status.name: status.value for status in mulkavesh.Status}})
+
+    def test_all_is_typed_and_told(self) -> None:
+        for name, function in inspect.getmembers(mulkavesh, inspect.isfunction):
+            if function.__module__ != "mulkavesh":
+                continue
+            hints = typing.get_type_hints(function)
+            self.assertEqual(set(hints), {*inspect.signature(function).parameters, "return"}, name)
+        for name in mulkavesh.__all__:
+            self.assertTrue(inspect.getdoc(getattr(mulkavesh, name)), name)
+
+
+if __name__ == "__main__":
+    unittest.main()

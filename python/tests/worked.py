@@ -1,0 +1,89 @@
+"""Modules whose bytes were worked out by hand, and what comes of them: those of crates/walrus_tools/src/samples.rt, and a few more."""
+
+HEADER = bytes.fromhex("00 61 73 6D 01 00 00 00")
+# What is written behind a module where producers are wanted and there were none.
+PRODUCERS = bytes.fromhex("00 27 09") + b"producers" + bytes.fromhex("01 0C") + b"processed-by" + bytes.fromhex("01 06") + b"walrus" + b"\x060.28.0"
+# The section of types that all but a few have: functions that take and give nothing.
+TYPE = "01 04 01 60 00 00"
+
+
+def module(*sections: str) -> bytes:
+    """The header and these sections, in hexadecimal."""
+    return HEADER + bytes.fromhex(" ".join(sections))
+
+
+# A function that nothing reaches, and one that is exported as `f`; what is left of them, without producers.
+TWO = module(TYPE, "03 03 02 00 00", "07 05 01 01 66 00 01", "0A 08 02 03 00 01 0B 02 00 0B")
+ONE = module(TYPE, "03 02 01 00", "07 05 01 01 66 00 00", "0A 04 01 02 00 0B")
+REPORT = "functions kept 1 dropped 1\n" + "".join(
+    f"{items} kept 0 dropped 0\n" for items in ("tables", "memories", "tags", "globals", "elements", "data")
+)
+
+# The same with the names `g` and, in two bytes of UTF-8, `é`.
+TWO_NAMED = TWO + bytes.fromhex("00 0F 04") + b"name" + bytes.fromhex("01 08 02 00 01 67 01 02 C3 A9")
+ONE_NAMED = ONE + bytes.fromhex("00 0C 04") + b"name" + bytes.fromhex("01 05 01 00 02 C3 A9")
+
+# An exported function with a legacy `try`; behind it the names `m`, of the module, and `a`, of its first type. And what is left without names and producers.
+LEGACY = module(
+    "01 08 02 60 00 00 60 01 7F 00", "03 02 01 00", "0D 03 01 00 01", "07 05 01 01 66 00 00", "0A 0C 01 0A 00 06 7F 41 00 07 00 0B 1A 0B",
+    "00 0F 04 6E 61 6D 65 00 02 01 6D 01 04 01 00 01 61",
+)
+LEGACY_LEFT = module(
+    "01 0D 03 60 00 00 60 01 7F 00 60 01 7F 01 7F", "03 02 01 00", "0D 03 01 00 01", "07 05 01 01 66 00 00",
+    "0A 0C 01 0A 00 06 7F 41 00 07 00 0B 1A 0B",
+)
+
+# Three custom sections: `a`, `a` and `é`; the first one gone, and the last one gone.
+SECTIONS = module("00 03 01 61 01", "00 03 01 61 02", "00 04 02 C3 A9 03")
+FIRST_GONE = module("00 03 01 61 02", "00 04 02 C3 A9 03")
+LAST_GONE = module("00 03 01 61 01", "00 03 01 61 02")
+
+# Functions `f` and `g` from `env`, and `h` from `m`; the exported `a` calls `h` and gives what `f` makes of its argument.
+IMPORTS = module(
+    "01 09 02 60 01 7F 01 7F 60 00 00", "02 17 03 03 65 6E 76 01 66 00 00 03 65 6E 76 01 67 00 01 01 6D 01 68 00 01", "03 02 01 00",
+    "07 05 01 01 61 00 03", "0A 0A 01 08 00 10 02 20 00 10 00 0B",
+)
+# `f` traps, and stands behind `a`, which is larger; `g`, which nothing calls, is gone; `h` is imported as before.
+STUBBED = module(
+    "01 09 02 60 01 7F 01 7F 60 00 00", "02 07 01 01 6D 01 68 00 01", "03 03 02 00 00", "07 05 01 01 61 00 01",
+    "0A 0E 02 08 00 10 00 20 00 10 02 0B 03 00 00 0B",
+) + PRODUCERS
+
+# The exported `a` calls a function that nothing else calls; both gone, and `a` traps.
+CALLS = module(TYPE, "03 03 02 00 00", "07 05 01 01 61 00 00", "0A 0A 02 04 00 10 01 0B 03 00 01 0B")
+SNIPPED = module(TYPE, "03 02 01 00", "07 05 01 01 61 00 00", "0A 05 01 03 00 00 0B") + PRODUCERS
+
+# One function, exported as `a` and as `b`.
+TWICE = module(TYPE, "03 02 01 00", "07 09 02 01 61 00 00 01 62 00 00", "0A 06 01 04 00 01 01 0B")
+
+
+
+def number(value: int) -> bytes:
+    """A number in LEB128, in as few bytes as it has."""
+    return bytes((value,)) if value < 128 else bytes((value & 127 | 128,)) + number(value >> 7)
+
+
+def section(kind: int, content: bytes) -> bytes:
+    return bytes((kind,)) + number(len(content)) + content
+
+
+def bodies(*operators: bytes) -> bytes:
+    """The code section of functions with no locals and these operators."""
+    return section(10, number(len(operators)) + b"".join(number(len(it) + 2) + b"\0" + it + b"\x0B" for it in operators))
+
+
+def listed_in_more() -> bytes:
+    """A module of 120 functions, all in a segment of its table. Each has five bytes here, and twelve in a list."""
+    table, segment = section(4, bytes((1, 0x70, 0, 120))), section(9, bytes((1, 0, 0x41, 0, 0x0B, 120)) + bytes(range(120)))
+    return HEADER + bytes.fromhex(TYPE) + section(3, number(120) + bytes(120)) + table + segment + bodies(*[b""] * 120)
+
+
+def chained() -> bytes:
+    """A module of 500 functions, of which each but the last calls the next. The first one is exported."""
+    calls = [b"\x10" + number(callee) for callee in range(1, 500)]
+    return HEADER + bytes.fromhex(TYPE) + section(3, number(500) + bytes(500)) + section(7, b"\1\1a\0\0") + bodies(*calls, b"")
+
+
+def large() -> bytes:
+    """A module of a custom section of 32 MB."""
+    return HEADER + section(0, b"\1a" + bytes(32 * 2**20))

@@ -1,0 +1,268 @@
+//! Drops from a WebAssembly module what nothing reaches, and says what was dropped and why the rest
+//! stays. Bytes go in and bytes come out; nothing is kept from one call to the next, and calls in
+//! several threads at once are fine.
+//!
+//! The library behind it is Mulkavesh, which is written in Rattle and proved. This crate isn't: it
+//! holds the bytes for the calls and reads their statuses, with `unsafe` in one file.
+//!
+//! ```
+//! # fn main() -> Result<(), mulkavesh::Error> {
+//! use mulkavesh::Flags;
+//!
+//! // A function that nothing reaches, and one that is exported as `f`.
+//! let module = [
+//!     b"\0asm\x01\0\0\0".as_slice(),
+//!     b"\x01\x04\x01\x60\0\0",                  // a type of functions that take and give nothing
+//!     b"\x03\x03\x02\0\0",                      // two functions of it
+//!     b"\x07\x05\x01\x01f\0\x01",               // the export: function 1
+//!     b"\x0A\x08\x02\x03\0\x01\x0B\x02\0\x0B",  // the bodies, of three and of two bytes
+//! ].concat();
+//! let smaller = mulkavesh::gc(&module, Flags { no_producers: true, ..Flags::default() })?;
+//! assert_eq!(smaller.len(), module.len() - 5);
+//! # Ok(())
+//! # }
+//! ```
+//!
+//! No call may be made from a signal handler, or from the forked child of a process with threads.
+//! The memory of a call comes from the `malloc` of the process, whatever the global allocator is.
+
+#![deny(unsafe_code)]
+#![warn(missing_docs)]
+
+#[allow(unsafe_code)]
+mod call;
+mod error;
+mod flags;
+mod listed;
+
+pub use crate::error::Error;
+pub use crate::flags::Flags;
+pub use crate::listed::Listed;
+
+use crate::call::Call;
+
+/// By how many bytes an answer may be longer than its input where one call is to serve.
+const MORE: usize = 256;
+
+/// Seven lines of a word and two numbers of ten digits: none is longer than 44 bytes.
+const ROOM_OF_A_REPORT: usize = 512;
+
+/// Some two hundred lines of a chain, which are mostly enough.
+const ROOM_OF_A_CHAIN: usize = 4096;
+
+fn text(bytes: Vec<u8>) -> String {
+    String::from_utf8(bytes).expect("the lines of the library are UTF-8")
+}
+
+/// The module without what nothing reaches: the bytes that the program `walrus-gc` writes.
+///
+/// What is exported, what a start function or a segment that isn't passive names, and all that is
+/// named by what stays, stays; its indices, and names with them, are told anew. The vector may have
+/// more room than bytes, as the room is guessed by the length of the input.
+///
+/// # Errors
+///
+/// [`Error::Invalid`] where the input is no module that keeps the rules, [`Error::TooLarge`] where
+/// what stays has a count or a size past 32 bits, and [`Error::NoMemory`].
+///
+/// ```
+/// use mulkavesh::{gc, Error, Flags};
+///
+/// // Two functions, of which the second is exported as `f`.
+/// let module = [
+///     b"\0asm\x01\0\0\0".as_slice(),
+///     b"\x01\x04\x01\x60\0\0\x03\x03\x02\0\0\x07\x05\x01\x01f\0\x01",
+///     b"\x0A\x08\x02\x03\0\x01\x0B\x02\0\x0B",
+/// ].concat();
+/// // The second alone, as function 0.
+/// let smaller = [
+///     b"\0asm\x01\0\0\0".as_slice(),
+///     b"\x01\x04\x01\x60\0\0\x03\x02\x01\0\x07\x05\x01\x01f\0\0",
+///     b"\x0A\x04\x01\x02\0\x0B",
+/// ].concat();
+/// let flags = Flags { no_producers: true, ..Flags::default() };
+/// assert_eq!(gc(&module, flags), Ok(smaller));
+/// assert_eq!(gc(b"no module", flags), Err(Error::Invalid));
+/// ```
+pub fn gc(input: &[u8], flags: Flags) -> Result<Vec<u8>, Error> {
+    Call::gc(flags).answer(input, input.len() + MORE)
+}
+
+/// How many items of each kind [`gc`] keeps and drops, in seven lines. Imported ones count too.
+///
+/// Of the flags `no_legacy` alone has a say.
+///
+/// # Errors
+///
+/// As of [`gc`].
+///
+/// ```
+/// use mulkavesh::{report, Flags};
+///
+/// // Two functions, of which the second is exported as `f`.
+/// let module = [
+///     b"\0asm\x01\0\0\0".as_slice(),
+///     b"\x01\x04\x01\x60\0\0\x03\x03\x02\0\0\x07\x05\x01\x01f\0\x01",
+///     b"\x0A\x08\x02\x03\0\x01\x0B\x02\0\x0B",
+/// ].concat();
+/// let wanted = "functions kept 1 dropped 1
+/// tables kept 0 dropped 0
+/// memories kept 0 dropped 0
+/// tags kept 0 dropped 0
+/// globals kept 0 dropped 0
+/// elements kept 0 dropped 0
+/// data kept 0 dropped 0
+/// ";
+/// assert_eq!(report(&module, Flags::default()).as_deref(), Ok(wanted));
+/// ```
+pub fn report(input: &[u8], flags: Flags) -> Result<String, Error> {
+    let lines = Call::report(flags).answer(input, ROOM_OF_A_REPORT)?;
+    Ok(text(lines))
+}
+
+/// The functions with a body that [`gc`] keeps, by rising index, with the bytes that each costs.
+///
+/// Of the flags `no_legacy` alone has a say.
+///
+/// # Errors
+///
+/// As of [`gc`]; [`Error::TooLarge`] too where a name has a size past 32 bits.
+///
+/// ```
+/// use mulkavesh::{list, Flags, Listed};
+///
+/// // Two functions, of which the second is exported as `f`; their names are `left` and `kept`.
+/// let module = [
+///     b"\0asm\x01\0\0\0".as_slice(),
+///     b"\x01\x04\x01\x60\0\0\x03\x03\x02\0\0\x07\x05\x01\x01f\0\x01",
+///     b"\x0A\x08\x02\x03\0\x01\x0B\x02\0\x0B",
+///     b"\0\x14\x04name\x01\x0D\x02\0\x04left\x01\x04kept",
+/// ].concat();
+/// // A body of two bytes: the count of its locals, and the operator that ends it.
+/// let kept = Listed { index: 1, size: 2, name: Some("kept".to_string()) };
+/// assert_eq!(list(&module, Flags::default()), Ok(vec![kept]));
+/// ```
+pub fn list(input: &[u8], flags: Flags) -> Result<Vec<Listed>, Error> {
+    let list = Call::list(flags).answer(input, input.len() + MORE)?;
+    listed::entries(&list)
+}
+
+/// The module without its first custom section of this name; what nothing reaches stays.
+///
+/// The name section and the producers aren't found by it: the flags say whether they are written.
+///
+/// # Errors
+///
+/// [`Error::NotFound`] where there is no section of this name; the others as of [`gc`].
+///
+/// ```
+/// use mulkavesh::{strip, Error, Flags};
+///
+/// // Three custom sections of a byte each: `a`, `a` and `b`.
+/// let module = b"\0asm\x01\0\0\0\0\x03\x01a\x01\0\x03\x01a\x02\0\x03\x01b\x03";
+/// let left = b"\0asm\x01\0\0\0\0\x03\x01a\x02\0\x03\x01b\x03";
+/// let flags = Flags { no_producers: true, ..Flags::default() };
+/// assert_eq!(strip(module, flags, "a"), Ok(left.to_vec()));
+/// assert_eq!(strip(module, flags, "c"), Err(Error::NotFound));
+/// ```
+pub fn strip(input: &[u8], flags: Flags, name: &str) -> Result<Vec<u8>, Error> {
+    Call::strip(flags, name).answer(input, input.len() + MORE)
+}
+
+/// Why [`gc`] keeps the function of this index: a line for each item of a chain of references that
+/// leads to it, a root first, or the one that it isn't reached.
+///
+/// Items are told by their kind and their index in the input, where imported ones come first.
+///
+/// # Errors
+///
+/// [`Error::NotFound`] where the module has no function of this index, [`Error::Invalid`] where the
+/// input is no module that keeps the rules, and [`Error::NoMemory`].
+///
+/// ```
+/// use mulkavesh::{why, Error};
+///
+/// // Function 0, which is exported, calls function 1; nothing calls function 2.
+/// let module = [
+///     b"\0asm\x01\0\0\0".as_slice(),
+///     b"\x01\x04\x01\x60\0\0\x03\x04\x03\0\0\0\x07\x05\x01\x01a\0\0",
+///     b"\x0A\x0D\x03\x04\0\x10\x01\x0B\x03\0\x01\x0B\x02\0\x0B",
+/// ].concat();
+/// assert_eq!(why(&module, 1).as_deref(), Ok("function 0\nfunction 1\n"));
+/// assert_eq!(why(&module, 2).as_deref(), Ok("function 2 isn't reached\n"));
+/// assert_eq!(why(&module, 3), Err(Error::NotFound));
+/// ```
+pub fn why(input: &[u8], function: u32) -> Result<String, Error> {
+    let lines = Call::why(function).answer(input, ROOM_OF_A_CHAIN)?;
+    Ok(text(lines))
+}
+
+/// The module where the function that is exported under this name is replaced by one that traps,
+/// without what nothing reaches then.
+///
+/// # Errors
+///
+/// [`Error::NotFound`] where no function is exported under the name, or where that one is imported
+/// or is exported under another name before; the others as of [`gc`].
+///
+/// ```
+/// use mulkavesh::{snip, Error};
+///
+/// // The exported `a` calls a function that nothing else calls.
+/// let module = [
+///     b"\0asm\x01\0\0\0".as_slice(),
+///     b"\x01\x04\x01\x60\0\0\x03\x03\x02\0\0\x07\x05\x01\x01a\0\0",
+///     b"\x0A\x0A\x02\x04\0\x10\x01\x0B\x03\0\x01\x0B",
+/// ].concat();
+/// // Both are gone, and `a` traps.
+/// let snipped = [
+///     b"\0asm\x01\0\0\0".as_slice(),
+///     b"\x01\x04\x01\x60\0\0\x03\x02\x01\0\x07\x05\x01\x01a\0\0",
+///     b"\x0A\x05\x01\x03\0\0\x0B",
+///     b"\0\x27\x09producers\x01\x0Cprocessed-by\x01\x06walrus\x060.28.0",
+/// ].concat();
+/// assert_eq!(snip(&module, "a"), Ok(snipped));
+/// assert_eq!(snip(&module, "b"), Err(Error::NotFound));
+/// ```
+pub fn snip(input: &[u8], name: &str) -> Result<Vec<u8>, Error> {
+    Call::snip(name).answer(input, input.len() + MORE)
+}
+
+/// The module where each function that was imported from the module of this name is one of its own,
+/// which traps, without what nothing reaches then. Where none is imported from it, that is what
+/// [`gc`] answers.
+///
+/// # Errors
+///
+/// As of [`gc`].
+///
+/// ```
+/// use mulkavesh::stub;
+///
+/// // The function `f` of the module `env`, which is exported as `a`.
+/// let module = [
+///     b"\0asm\x01\0\0\0".as_slice(),
+///     b"\x01\x04\x01\x60\0\0\x02\x09\x01\x03env\x01f\0\0\x07\x05\x01\x01a\0\0",
+/// ].concat();
+/// // Nothing is imported, and `a` traps.
+/// let stubbed = [
+///     b"\0asm\x01\0\0\0".as_slice(),
+///     b"\x01\x04\x01\x60\0\0\x03\x02\x01\0\x07\x05\x01\x01a\0\0",
+///     b"\x0A\x05\x01\x03\0\0\x0B",
+///     b"\0\x27\x09producers\x01\x0Cprocessed-by\x01\x06walrus\x060.28.0",
+/// ].concat();
+/// assert_eq!(stub(&module, "env"), Ok(stubbed));
+/// ```
+pub fn stub(input: &[u8], from: &str) -> Result<Vec<u8>, Error> {
+    Call::stub(from).answer(input, input.len() + MORE)
+}
+
+/// The version of the library: the major number, the minor one, and the patch.
+///
+/// ```
+/// assert_eq!(mulkavesh::version(), (0, 1, 0));
+/// ```
+pub fn version() -> (u16, u8, u8) {
+    let [high, low, minor, patch] = call::version().to_be_bytes();
+    (u16::from_be_bytes([high, low]), minor, patch)
+}

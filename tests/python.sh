@@ -1,0 +1,33 @@
+#!/usr/bin/env bash
+# Calls the library from Python: tests/python.sh [FOLDER [PROGRAM]], the shared library that tests/build.sh mulkavesh_c left and the proved program where
+# none are given, or those of tests/unproved.sh. It runs the tests of python/tests:
+#   test_mulkavesh.py  each call and each refusal on worked modules, in threads too; how the library is found; what is declared, beside the header; packing
+#   test_program.py    the modules of tests/samples and ../shared/samples (where it is there) beside the program, under all words: the same bytes
+# Prints a line, and all that fails. PYTHON names another Python. Where there is none from 3.8 on, nothing is run, and the status is 2. Some ten seconds of one
+# processor.
+set -eu
+top=$(cd "$(dirname "$0")/.." && pwd)
+python=${PYTHON:-python3}
+"$python" -c 'import sys; sys.exit(sys.version_info < (3, 8))' 2> /dev/null || {
+  echo "tests/python.sh: there is no Python from 3.8 on, so nothing is run" >&2
+  exit 2
+}
+folder=${1:-$top/crates/mulkavesh_c/out/lib}
+program=${2:-$top/crates/walrus_gc/out/walrus_gc}
+[ $# -gt 0 ] || "$top/tests/build.sh" mulkavesh_c
+[ $# -gt 1 ] || "$top/tests/build.sh" walrus_gc
+told=$(mktemp)
+trap 'rm -f -- "$told"' EXIT
+MULKAVESH_LIB=$(realpath -- "$folder")
+MULKAVESH_PROGRAM=$(realpath -- "$program")
+export MULKAVESH_LIB MULKAVESH_PROGRAM
+status=0
+(cd "$top/python" && "$python" -B -W error -m unittest) > "$told" 2>&1 || status=1
+if [ "$status" = 0 ]; then
+  grep -a '^not compared' "$told" || true
+else
+  cat "$told"
+fi
+version=$("$python" -c 'import platform; print(platform.python_version())')
+echo "tests/python.sh: Python $version: $(grep -a '^Ran ' "$told" || echo "no tests ran"): $(tail -n 1 "$told")"
+exit "$status"
