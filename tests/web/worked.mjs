@@ -1,0 +1,201 @@
+// Each call on modules whose bytes were worked out by hand (those of crates/walrus_tools/src/samples.rt and python/tests/worked.py), an error of each kind, each
+// way to load, and memory: node tests/web/worked.mjs FOLDER, that of mulkavesh.js. tests/web.sh calls it. Prints the count and a line for each find.
+import assert from 'node:assert/strict';
+import { readFileSync } from 'node:fs';
+import { join } from 'node:path';
+import { pathToFileURL } from 'node:url';
+
+const folder = process.argv[2], here = pathToFileURL(join(folder, 'mulkavesh.js'));
+const wasm = readFileSync(join(folder, 'mulkavesh.wasm'));
+const { load, MulkaveshError, InvalidModule, TooLarge, OutOfMemory, NotFound, Trapped } = await import(here);
+const library = await load();
+const { gc, report, list, strip, why, snip, stub, version } = library;
+
+// ---- modules
+
+const HEADER = '00 61 73 6D 01 00 00 00', TYPE = '01 04 01 60 00 00';
+const hex = (...texts) => Uint8Array.from(texts.join(' ').split(' '), (it) => Number.parseInt(it, 16));
+const module = (...sections) => hex(HEADER, ...sections);
+// What is written behind a module where producers are wanted and there were none.
+const PRODUCERS = '00 27 09 70 72 6F 64 75 63 65 72 73 01 0C 70 72 6F 63 65 73 73 65 64 2D 62 79 01 06 77 61 6C 72 75 73 06 30 2E 32 38 2E 30';
+// A function that nothing reaches, and one that is exported as `f`; and what is left.
+const TWO_SECTIONS = [TYPE, '03 03 02 00 00', '07 05 01 01 66 00 01', '0A 08 02 03 00 01 0B 02 00 0B'];
+const ONE_SECTIONS = [TYPE, '03 02 01 00', '07 05 01 01 66 00 00', '0A 04 01 02 00 0B'];
+const TWO = module(...TWO_SECTIONS), ONE = module(...ONE_SECTIONS);
+// The same with the names `g` and, in two bytes of UTF-8, `é`.
+const TWO_NAMED = module(...TWO_SECTIONS, '00 0F 04 6E 61 6D 65 01 08 02 00 01 67 01 02 C3 A9');
+const ONE_NAMED = module(...ONE_SECTIONS, '00 0C 04 6E 61 6D 65 01 05 01 00 02 C3 A9');
+// A legacy `try`.
+const LEGACY = module('01 08 02 60 00 00 60 01 7F 00', '03 02 01 00', '0D 03 01 00 01', '07 05 01 01 66 00 00', '0A 0C 01 0A 00 06 7F 41 00 07 00 0B 1A 0B');
+// Three custom sections: `a`, `a` and `é`.
+const SECTIONS = module('00 03 01 61 01', '00 03 01 61 02', '00 04 02 C3 A9 03');
+// Functions `f` and `g` from `env`, and `h` from `m`; the exported `a` calls `h` and gives what `f` makes of its argument.
+const IMPORTS = module(
+  '01 09 02 60 01 7F 01 7F 60 00 00', '02 17 03 03 65 6E 76 01 66 00 00 03 65 6E 76 01 67 00 01 01 6D 01 68 00 01', '03 02 01 00', '07 05 01 01 61 00 03',
+  '0A 0A 01 08 00 10 02 20 00 10 00 0B',
+);
+const STUBBED = module(
+  '01 09 02 60 01 7F 01 7F 60 00 00', '02 07 01 01 6D 01 68 00 01', '03 03 02 00 00', '07 05 01 01 61 00 01',
+  '0A 0E 02 08 00 10 00 20 00 10 02 0B 03 00 00 0B', PRODUCERS,
+);
+// The exported `a` calls a function that nothing else calls.
+const CALLS = module(TYPE, '03 03 02 00 00', '07 05 01 01 61 00 00', '0A 0A 02 04 00 10 01 0B 03 00 01 0B');
+const SNIPPED = module(TYPE, '03 02 01 00', '07 05 01 01 61 00 00', '0A 05 01 03 00 00 0B', PRODUCERS);
+const REPORT = ['functions kept 1 dropped 1', ...['tables', 'memories', 'tags', 'globals', 'elements', 'data'].map((it) => `${it} kept 0 dropped 0`), ''].join('\n');
+
+// A number in LEB128, in as few bytes as it has.
+const number = (value) => (value < 128 ? [value] : [(value & 127) | 128, ...number(value >>> 7)]);
+const section = (kind, content) => [kind, ...number(content.length), ...content];
+const bodies = (...operators) => section(10, [...number(operators.length), ...operators.flatMap((it) => [...number(it.length + 2), 0, ...it, 11])]);
+
+// 120 functions, all in a segment of the table: each has five bytes here, and twelve in a list.
+function listedInMore() {
+  const all = [...Array(120).keys()], segment = section(9, [1, 0, 0x41, 0, 11, 120, ...all]);
+  const functions = section(3, [120, ...all.map(() => 0)]), table = section(4, [1, 0x70, 0, 120]);
+  return Uint8Array.from([...module(TYPE), ...functions, ...table, ...segment, ...bodies(...all.map(() => []))]);
+}
+
+// 500 functions, each of which calls the next; the first is exported.
+function chained() {
+  const calls = [...Array(499).keys()].map((at) => [16, ...number(at + 1)]);
+  return Uint8Array.from([...module(TYPE), ...section(3, [...number(500), ...Array(500).fill(0)]), ...section(7, [1, 1, 97, 0, 0]), ...bodies(...calls, [])]);
+}
+
+// One of a custom section of so many bytes.
+function large(size) {
+  const made = new Uint8Array(8 + 1 + number(size + 2).length + 2 + size);
+  made.set([...module(), 0, ...number(size + 2), 1, 97]);
+  return made;
+}
+
+// A library whose call `gc` answers nothing but this status.
+function answering(status) {
+  const name = (text) => [text.length, ...new TextEncoder().encode(text)];
+  const shown = [['memory', 2, 0], ['mulkavesh_version', 0, 0], ['room', 0, 1], ['give_back', 0, 2], ['mulkavesh_gc', 0, 3]];
+  const constant = (low, high) => [4 + (high === undefined ? 0 : 1), 0, 0x41, low, ...(high === undefined ? [] : [high]), 11];
+  return Uint8Array.from([
+    ...module(), ...section(1, [4, 0x60, 0, 1, 0x7F, 0x60, 1, 0x7F, 1, 0x7F, 0x60, 1, 0x7F, 0, 0x60, 6, 0x7F, 0x7E, 0x7F, 0x7F, 0x7E, 0x7F, 1, 0x7F]),
+    ...section(3, [4, 0, 1, 2, 3]), ...section(5, [1, 0, 1]), ...section(7, [5, ...shown.flatMap(([text, kind, index]) => [...name(text), kind, index])]),
+    ...section(10, [4, ...constant(0x80, 2), ...constant(16), 2, 0, 11, ...constant(status)]),
+  ]);
+}
+
+// The library with at most so many pages of memory.
+function withMost(pages) {
+  let at = 8;
+  const read = () => {
+    let value = 0, shift = 0, byte;
+    do {
+      byte = wasm[at++];
+      value |= (byte & 127) << shift;
+      shift += 7;
+    } while (byte & 128);
+    return value;
+  };
+  for (;;) {
+    const begin = at, kind = wasm[at++], size = read(), end = at + size;
+    if (kind === 5) {
+      at += 2;
+      return Uint8Array.from([...wasm.subarray(0, begin), ...section(5, [1, 1, ...number(read()), ...number(pages)]), ...wasm.subarray(end)]);
+    }
+    at = end;
+  }
+}
+
+// ---- what is tried
+
+const alone = { producers: false };
+const equals = (found, wanted) => assert.equal(Buffer.from(found).toString('hex'), Buffer.from(wanted).toString('hex'));
+const refuses = (kind, code, call) =>
+  assert.throws(call, (error) => error.constructor === kind && error instanceof MulkaveshError && error.code === code && error.message !== '');
+
+const TRIES = {
+  gc: () => equals(gc(TWO, alone), ONE),
+  'gc with producers': () => equals(gc(TWO), hex(HEADER, ...ONE_SECTIONS, PRODUCERS)),
+  'gc with names': () => equals(gc(TWO_NAMED, { names: true, producers: false }), ONE_NAMED),
+  'gc without names': () => equals(gc(TWO_NAMED, { names: false, producers: false }), ONE),
+  report: () => assert.equal(report(TWO), REPORT),
+  list: () => assert.deepEqual(list(TWO), [{ index: 1, size: 2, name: null }]),
+  'list with a name': () => assert.deepEqual(list(TWO_NAMED), [{ index: 1, size: 2, name: 'é' }]),
+  'list with more room': () => assert.deepEqual(list(listedInMore()), [...Array(120).keys()].map((index) => ({ index, size: 2, name: null }))),
+  strip: () => equals(strip(SECTIONS, 'a', alone), module('00 03 01 61 02', '00 04 02 C3 A9 03')),
+  'strip by a name that is not ASCII': () => equals(strip(SECTIONS, 'é', alone), module('00 03 01 61 01', '00 03 01 61 02')),
+  'strip by bytes': () => equals(strip(SECTIONS, hex('C3 A9'), alone), module('00 03 01 61 01', '00 03 01 61 02')),
+  why: () => assert.equal(why(CALLS, 1), 'function 0\nfunction 1\n'),
+  'why not': () => assert.equal(why(TWO, 0), "function 0 isn't reached\n"),
+  'why with more room': () => assert.equal(why(chained(), 499), [...Array(500).keys()].map((at) => `function ${at}\n`).join('')),
+  snip: () => equals(snip(CALLS, 'a'), SNIPPED),
+  stub: () => equals(stub(IMPORTS, 'env'), STUBBED),
+  version: () => assert.equal(version(), '0.1.0'),
+  'an ArrayBuffer and another view': () => {
+    equals(gc(TWO.buffer, alone), ONE);
+    equals(gc(new DataView(Uint8Array.from([1, 2, ...TWO, 3]).buffer, 2, TWO.length), alone), ONE);
+  },
+  invalid: () => [gc, report, list, (it) => strip(it, 'a'), (it) => why(it, 0), (it) => snip(it, 'a'), (it) => stub(it, 'a')].forEach((call) => {
+    refuses(InvalidModule, 'INVALID', () => call(new Uint8Array()));
+    refuses(InvalidModule, 'INVALID', () => call(TWO.subarray(0, TWO.length - 1)));
+  }),
+  'legacy exceptions are invalid': () => {
+    assert.ok(gc(LEGACY).length > 0);
+    [gc, report, list].forEach((call) => refuses(InvalidModule, 'INVALID', () => call(LEGACY, { legacy: false })));
+  },
+  'not found': () => {
+    const calls = [() => strip(SECTIONS, 'c'), () => why(TWO, 2), () => snip(CALLS, 'b'), () => stub(IMPORTS, hex('FF'))];
+    calls.forEach((call) => refuses(NotFound, 'NOT_FOUND', call));
+  },
+  'wrong arguments': () => {
+    const calls = [() => gc('text'), () => gc(TWO, { name: false }), () => gc(TWO, { names: 0 }), () => snip(CALLS, 3), () => strip(SECTIONS, '\uD800')];
+    calls.forEach((call) => assert.throws(call, TypeError));
+    [-1, 0.5, 2 ** 32, '1'].forEach((index) => assert.throws(() => why(TWO, index), RangeError));
+  },
+  'the statuses that only huge modules come to': async () => {
+    const wanted = [
+      [1, InvalidModule, 'INVALID'], [2, TooLarge, 'TOO_LARGE'], [3, OutOfMemory, 'NO_MEMORY'], [5, MulkaveshError, 'UNKNOWN_STATUS'], [6, NotFound, 'NOT_FOUND'],
+    ];
+    for (const [status, kind, code] of wanted) {
+      const other = await load(answering(status));
+      refuses(kind, code, () => other.gc(TWO));
+    }
+  },
+  'a trap, and a fresh instance': async () => {
+    const other = await load(snip(wasm, 'mulkavesh_gc'));
+    for (let times = 0; times < 3; times++) {
+      refuses(Trapped, 'TRAPPED', () => other.gc(TWO));
+      assert.equal(other.report(TWO), REPORT);
+    }
+  },
+  'memory runs out': async () => {
+    const other = await load(withMost(64));
+    for (let times = 0; times < 3; times++) {
+      refuses(OutOfMemory, 'NO_MEMORY', () => other.gc(large(1 << 20)));
+      refuses(OutOfMemory, 'NO_MEMORY', () => other.gc(large(1 << 23)));
+      equals(other.gc(TWO, alone), ONE);
+    }
+  },
+  'memory grows': () => {
+    for (const size of [1 << 20, 1 << 25, 1 << 16]) {
+      equals(gc(large(size), alone), large(size));
+      equals(gc(TWO, alone), ONE);
+    }
+  },
+  'each way to load': async () => {
+    const { buffer, byteOffset, length } = wasm, address = new URL('mulkavesh.wasm', here);
+    for (const source of [address, 'mulkavesh.wasm', address.href, wasm, buffer.slice(byteOffset, byteOffset + length), new WebAssembly.Module(wasm)]) {
+      equals((await load(source)).gc(TWO, alone), ONE);
+    }
+    await assert.rejects(load(TWO));
+    await assert.rejects(load(3), TypeError);
+  },
+};
+
+let finds = 0;
+for (const [name, run] of Object.entries(TRIES)) {
+  try {
+    await run();
+  } catch (error) {
+    finds++;
+    console.log(`FIND ${name}: ${error.stack}`);
+  }
+}
+console.log(`tests/web.sh: worked modules and errors: ${Object.keys(TRIES).length} tries, ${finds} finds`);
+process.exitCode = finds > 0 ? 1 : 0;

@@ -1,0 +1,63 @@
+// What mulkavesh.js takes and answers. docs/USING.md of the repository says more of each call.
+
+/** What is written or taken; each is true where it isn't told. */
+export interface Options {
+  /** Whether names are written. */
+  names?: boolean;
+  /** Whether producers are written, `walrus` 0.28.0 among them. */
+  producers?: boolean;
+  /** Whether bodies with legacy exceptions are taken; of `report` and `list` this one alone has a say. */
+  legacy?: boolean;
+}
+
+export type Bytes = Uint8Array | ArrayBuffer | ArrayBufferView;
+
+/** A function with a body that `gc` keeps. */
+export interface Listed {
+  /** Its index in the input. */
+  index: number;
+  /** The bytes of its body in the output. */
+  size: number;
+  /** Its name in the input, if it has one. */
+  name: string | null;
+}
+
+/** The calls. Each may throw InvalidModule, TooLarge, OutOfMemory and Trapped. */
+export interface Mulkavesh {
+  /** The module without what nothing reaches: the bytes that the program walrus-gc writes. */
+  gc(input: Bytes, options?: Options): Uint8Array;
+  /** How many items of each kind `gc` keeps and drops, in seven lines. */
+  report(input: Bytes, options?: Options): string;
+  /** The functions with a body that `gc` keeps, by rising index. */
+  list(input: Bytes, options?: Options): Listed[];
+  /** The module without its first custom section of this name, or NotFound; what nothing reaches stays. */
+  strip(input: Bytes, name: string | Bytes, options?: Options): Uint8Array;
+  /** By which references the function of this index stays, a line for each item, a root first; or that it isn't reached; or NotFound. */
+  why(input: Bytes, index: number): string;
+  /** The module where the function that is exported under this name traps, without what nothing reaches then; or NotFound. */
+  snip(input: Bytes, name: string | Bytes): Uint8Array;
+  /** The module where each function that is imported from the module of this name traps, without what nothing reaches then. */
+  stub(input: Bytes, from: string | Bytes): Uint8Array;
+  /** The version of the library, as `0.1.0`. */
+  version(): string;
+}
+
+/** Loads mulkavesh.wasm: from beside mulkavesh.js, or from an address, bytes, or a module that is compiled. */
+export function load(source?: string | URL | Bytes | WebAssembly.Module): Promise<Mulkavesh>;
+
+export type Code = 'INVALID' | 'TOO_LARGE' | 'NO_MEMORY' | 'NOT_FOUND' | 'TRAPPED' | 'UNKNOWN_STATUS';
+
+/** A call was refused. */
+export class MulkaveshError extends Error {
+  readonly code: Code;
+}
+/** The input is no module that keeps the rules. */
+export class InvalidModule extends MulkaveshError {}
+/** What is to be written has a count or a size past 32 bits. */
+export class TooLarge extends MulkaveshError {}
+/** Memory ran out. */
+export class OutOfMemory extends MulkaveshError {}
+/** There is nothing of this name or index that the call could work on. */
+export class NotFound extends MulkaveshError {}
+/** The library stopped in the midst of a call. Later calls have a fresh instance. */
+export class Trapped extends MulkaveshError {}

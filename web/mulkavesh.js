@@ -1,0 +1,191 @@
+// Mulkavesh, a verified module layer for WebAssembly, in JavaScript: for Node from 18 on and for browsers, with no other package.
+//
+//     import { load } from 'mulkavesh';
+//     const { gc } = await load();
+//     const smaller = gc(module, { names: false });
+//
+// Each call goes from the bytes of a module to bytes, a text or a list, and keeps nothing. mulkavesh.d.ts says what each takes and answers.
+
+/** A call was refused; `code` is one of INVALID, TOO_LARGE, NO_MEMORY, NOT_FOUND, TRAPPED and UNKNOWN_STATUS. */
+export class MulkaveshError extends Error {
+  constructor(code, message, options) {
+    super(message, options);
+    this.name = new.target.name;
+    this.code = code;
+  }
+}
+/** The input is no module that keeps the rules. */
+export class InvalidModule extends MulkaveshError {}
+/** What is to be written has a count or a size past 32 bits. */
+export class TooLarge extends MulkaveshError {}
+/** Memory ran out. */
+export class OutOfMemory extends MulkaveshError {}
+/** There is nothing of this name or index that the call could work on. */
+export class NotFound extends MulkaveshError {}
+/** The library stopped in the midst of a call, which is a mistake in it or a host with too little stack. Later calls have a fresh instance. */
+export class Trapped extends MulkaveshError {}
+
+const NO_ROOM = 4;
+const REFUSALS = new Map([
+  [1, () => new InvalidModule('INVALID', 'the input is no module that keeps the rules')],
+  [2, () => new TooLarge('TOO_LARGE', 'a count or a size passes 32 bits')],
+  [3, () => new OutOfMemory('NO_MEMORY', 'out of memory')],
+  [6, () => new NotFound('NOT_FOUND', 'there is nothing of this name or index')],
+]);
+const FLAGS = { names: 1, producers: 2, legacy: 4 };
+// A smaller module, or a list, is seldom longer than the input by more.
+const MARGIN = 256;
+// Seven lines of a word and two numbers of ten digits are shorter, and some two hundred lines of a chain.
+const ROOM_OF_A_REPORT = 512;
+const ROOM_OF_A_CHAIN = 4096;
+// Memory of WebAssembly never shrinks: an instance that has come to more is left behind.
+const MOST_MEMORY = 64 * 1024 * 1024;
+const NO_NAME = 2 ** 32 - 1;
+
+const encoder = new TextEncoder();
+const decoder = new TextDecoder('utf-8', { fatal: true, ignoreBOM: true });
+
+function bytesOf(data) {
+  if (data instanceof Uint8Array) return data;
+  if (ArrayBuffer.isView(data)) return new Uint8Array(data.buffer, data.byteOffset, data.byteLength);
+  if (data instanceof ArrayBuffer) return new Uint8Array(data);
+  throw new TypeError('bytes have to be a Uint8Array or an ArrayBuffer');
+}
+
+function nameOf(name) {
+  if (typeof name !== 'string') return bytesOf(name);
+  if (/\p{Surrogate}/u.test(name)) throw new TypeError('the name has half a character');
+  return encoder.encode(name);
+}
+
+// The number that stands for what isn't wanted.
+function flagsOf(options = {}) {
+  let flags = 0;
+  for (const [word, wanted] of Object.entries(options)) {
+    if (!Object.hasOwn(FLAGS, word)) throw new TypeError(`there is no option ${word}`);
+    if (wanted === false) flags |= FLAGS[word];
+    else if (wanted !== true && wanted !== undefined) throw new TypeError(`the option ${word} has to be true or false`);
+  }
+  return flags;
+}
+
+function indexOf(index) {
+  if (!Number.isInteger(index) || index < 0 || index >= 2 ** 32) throw new RangeError('an index is a whole number of 32 bits');
+  return index;
+}
+
+// An instance, what is held in its memory for one call, and the call.
+class Call {
+  constructor(exports) {
+    this.exports = exports;
+    this.held = [];
+  }
+
+  hold(count) {
+    const at = count < 2 ** 31 ? this.exports.room(count) >>> 0 : 0;
+    if (at === 0) throw REFUSALS.get(3)();
+    this.held.push(at);
+    return at;
+  }
+
+  // What the library takes for a module or a name: where it is and how long it is.
+  lend(bytes) {
+    const at = this.hold(bytes.length);
+    new Uint8Array(this.exports.memory.buffer, at, bytes.length).set(bytes);
+    return [at, BigInt(bytes.length)];
+  }
+
+  giveBack() {
+    while (this.held.length > 0) this.exports.give_back(this.held.pop());
+  }
+
+  // Calls with this much room, and where that is too little with as much as is asked for. Views are made anew behind each call, in which memory may have grown.
+  answer(name, words, guess) {
+    const length = this.hold(8);
+    for (let room = guess; ; ) {
+      const at = this.hold(room);
+      const status = this.exports[`mulkavesh_${name}`](...words, at, BigInt(room), length);
+      const { buffer } = this.exports.memory;
+      const count = Number(new DataView(buffer).getBigUint64(length, true));
+      if (status === 0) return new Uint8Array(buffer, at, count).slice();
+      if (status !== NO_ROOM) throw REFUSALS.get(status)?.() ?? new MulkaveshError('UNKNOWN_STATUS', `the library answers status ${status}`);
+      this.exports.give_back(this.held.pop());
+      room = count;
+    }
+  }
+}
+
+function listOf(bytes) {
+  const view = new DataView(bytes.buffer), found = [];
+  for (let at = 0; at < bytes.length; ) {
+    const [index, size, length] = [0, 4, 8].map((more) => view.getUint32(at + more, true));
+    at += 12;
+    const ends = at + (length === NO_NAME ? 0 : length);
+    found.push({ index, size, name: length === NO_NAME ? null : decoder.decode(bytes.subarray(at, ends)) });
+    at = ends;
+  }
+  return found;
+}
+
+// What holds the instance: one call at a time, since none of them waits.
+function caller(module) {
+  let exports = null;
+  const begin = () => new WebAssembly.Instance(module, {}).exports;
+  return function call(name, input, between, guess) {
+    exports ??= begin();
+    const one = new Call(exports);
+    try {
+      const words = [...one.lend(input), ...between.flatMap((it) => (typeof it === 'number' ? [it] : one.lend(it)))];
+      const answer = one.answer(name, words, guess);
+      one.giveBack();
+      if (exports.memory.buffer.byteLength > MOST_MEMORY) exports = null;
+      return answer;
+    } catch (error) {
+      if (error instanceof MulkaveshError) {
+        one.giveBack();
+        throw error;
+      }
+      exports = null;
+      throw new Trapped('TRAPPED', `the library stopped: ${error.message}`, { cause: error });
+    }
+  };
+}
+
+function callsOver(module) {
+  const call = caller(module);
+  const near = (input) => input.length + MARGIN;
+  const whole = (name, input, between) => call(name, input, between, near(input));
+  const version = new WebAssembly.Instance(module, {}).exports.mulkavesh_version();
+  return Object.freeze({
+    gc: (input, options) => whole('gc', bytesOf(input), [flagsOf(options)]),
+    report: (input, options) => decoder.decode(call('report', bytesOf(input), [flagsOf(options)], ROOM_OF_A_REPORT)),
+    list: (input, options) => listOf(whole('list', bytesOf(input), [flagsOf(options)])),
+    strip: (input, name, options) => whole('strip', bytesOf(input), [flagsOf(options), nameOf(name)]),
+    why: (input, index) => decoder.decode(call('why', bytesOf(input), [indexOf(index)], ROOM_OF_A_CHAIN)),
+    snip: (input, name) => whole('snip', bytesOf(input), [nameOf(name)]),
+    stub: (input, from) => whole('stub', bytesOf(input), [nameOf(from)]),
+    version: () => `${version >>> 16}.${(version >>> 8) & 255}.${version & 255}`,
+  });
+}
+
+// The bytes at an address; Node's `fetch` takes none of files.
+async function fetched(address) {
+  if (address.protocol === 'file:' && globalThis.process?.versions?.node) {
+    const { readFile } = await import('node:fs/promises');
+    return readFile(address);
+  }
+  const response = await fetch(address);
+  if (!response.ok) throw new Error(`${address}: status ${response.status}`);
+  return response.arrayBuffer();
+}
+
+/**
+ * Loads the library: mulkavesh.wasm beside this file, or from where the argument says, which is its address, its bytes, or a module of it that is compiled.
+ * A text is an address too, by that of the page, or by this file's where there is no page.
+ */
+export async function load(source = new URL('mulkavesh.wasm', import.meta.url)) {
+  if (source instanceof WebAssembly.Module) return callsOver(source);
+  const address = typeof source === 'string' ? new URL(source, globalThis.location?.href ?? import.meta.url) : source;
+  const bytes = address instanceof URL ? await fetched(address) : bytesOf(address);
+  return callsOver(await WebAssembly.compile(bytes));
+}
