@@ -47,9 +47,15 @@ fn demand_same(found: &[u8], wanted: &[u8], what: &str) -> Result<(), Fail> {
     }
 }
 
+/// The bytes that the text says, each in two hexadecimal digits, with spaces between them. Fails a test where memory doesn't suffice.
+pub fn bytes_of(alloc: Global, text: &str) -> Result<Vec<u8>, Fail> {
+    let mut bytes = Vec::new(alloc);
+    demand(add_bytes(&mut bytes, text), "memory")?;
+    Ok(bytes)
+}
+
 /// Fails a test where these aren't the bytes that the text says, and tells the first one that differs.
 pub fn demand_bytes(alloc: Global, found: &[u8], wanted: &str, what: &str) -> Result<(), Fail> {
-    let mut bytes = Vec::new(alloc);
-    demand(add_bytes(&mut bytes, wanted), "memory")?;
+    let bytes = bytes_of(alloc, wanted)?;
     demand_same(found, &bytes, what)
 }

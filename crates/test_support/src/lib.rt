@@ -6,5 +6,5 @@ mod demands;
 mod ids;
 
 pub use bytes::{add_bytes, are};
-pub use demands::{demand, demand_bytes, is_name, is_text};
+pub use demands::{bytes_of, demand, demand_bytes, is_name, is_text};
 pub use ids::{first_id, second_id};

@@ -19,107 +19,73 @@ const ACTIVE: &str =
 pub(crate) const GROUP: &str =
     "00 61 73 6D 01 00 00 00 01 09 01 4E 02 5F 00 5F 01 7F 00 06 07 01 63 00 00 D0 00 0B 07 05 01 01 67 03 00";
 
-// How many items the roots of a module have to reach, and how many of each kind are used.
-struct Counts {
-    reached: usize,
-    types: usize,
-    functions: usize,
-    tables: usize,
-    memories: usize,
-    globals: usize,
-    tags: usize,
-    elements: usize,
-    data_: usize,
-}
-
-// The function, its type, the data segment, and the memory.
-const OF_DATA: Counts = Counts {
-    reached: 3,
-    types: 1,
-    functions: 1,
-    tables: 0,
-    memories: 1,
-    globals: 0,
-    tags: 0,
-    elements: 0,
-    data_: 1,
-};
-
-// The function, its type, the table and its segment.
-const OF_ELEMENTS: Counts = Counts {
-    reached: 4,
-    types: 1,
-    functions: 1,
-    tables: 1,
-    memories: 0,
-    globals: 0,
-    tags: 0,
-    elements: 1,
-    data_: 0,
-};
-
-// The global and both types.
-const OF_GROUP: Counts = Counts {
-    reached: 3,
-    types: 2,
-    functions: 0,
-    tables: 0,
-    memories: 0,
-    globals: 1,
-    tags: 0,
-    elements: 0,
-    data_: 0,
-};
-
 // Whether the set holds so many ids.
 fn holds<K>(ids: &IdHashSet<K>, count: usize) -> bool {
     ids.iter().take(9).count() == count
 }
 
-fn are_used(used: &Used, wanted: &Counts) -> bool {
-    holds(&used.types, wanted.types)
-        && holds(&used.funcs, wanted.functions)
-        && holds(&used.globals, wanted.globals)
-        && holds(&used.tags, wanted.tags)
+// Whether so many types, functions, globals and tags are used.
+fn are_used(used: &Used, wanted: &[usize; 4]) -> bool {
+    let [types, functions, globals, tags] = *wanted;
+    holds(&used.types, types)
+        && holds(&used.funcs, functions)
+        && holds(&used.globals, globals)
+        && holds(&used.tags, tags)
 }
 
 // The same of tables and memories, and of what is copied into them.
-fn stand_with(used: &Used, wanted: &Counts) -> bool {
-    holds(&used.tables, wanted.tables)
-        && holds(&used.elements, wanted.elements)
-        && holds(&used.memories, wanted.memories)
-        && holds(&used.data_, wanted.data_)
+fn stand_with(used: &Used, wanted: &[usize; 4]) -> bool {
+    let [tables, elements, memories, data] = *wanted;
+    holds(&used.tables, tables)
+        && holds(&used.elements, elements)
+        && holds(&used.memories, memories)
+        && holds(&used.data_, data)
 }
 
-fn reaches(alloc: Global, module: &Module, wanted: &Counts) -> bool {
+fn reaches(
+    alloc: Global,
+    module: &Module,
+    items: usize,
+    ids: &[usize; 4],
+    others: &[usize; 4],
+) -> bool {
     match Used::counted(alloc, module) {
-        Ok((used, reached)) => reached == wanted.reached
-            && are_used(&used, wanted)
-            && stand_with(&used, wanted),
+        Ok((used, reached)) => reached == items
+            && are_used(&used, ids)
+            && stand_with(&used, others),
         Err(_) => false,
     }
 }
 
 // Whether the roots of the module that the text says reach what they have to.
-fn does_text_reach(alloc: Global, text: &str, wanted: &Counts) -> bool {
+fn does_text_reach(
+    alloc: Global,
+    text: &str,
+    items: usize,
+    ids: &[usize; 4],
+    others: &[usize; 4],
+) -> bool {
     match read(alloc, text) {
-        Ok(module) => reaches(alloc, &module, wanted),
+        Ok(module) => reaches(alloc, &module, items, ids, others),
         Err(_) => false,
     }
 }
 
+// Modules, how many items their roots have to reach, how many types, functions, globals and tags, and how many tables, element segments,
+// memories and data segments.
+const ROWS: [(&str, usize, [usize; 4], [usize; 4]); 3] = [
+    // the function, its type, the data segment, and the memory
+    (DROPS_DATA, 3, [1, 1, 0, 0], [0, 0, 1, 1]),
+    // the function, its type, the table and its segment
+    (ACTIVE, 4, [1, 1, 0, 0], [1, 1, 0, 0]),
+    // the global and both types
+    (GROUP, 3, [2, 0, 1, 0], [0, 0, 0, 0]),
+];
+
 #[test]
 fn what_is_used(rt: HostRuntime) -> Result<(), Fail> {
-    demand(
-        does_text_reach(rt.alloc(), DROPS_DATA, &OF_DATA),
-        "three items: a function, its type, a data segment; and a memory",
-    )?;
-    demand(
-        does_text_reach(rt.alloc(), ACTIVE, &OF_ELEMENTS),
-        "four items: a function, its type, a table, its segment",
-    )?;
-    demand(
-        does_text_reach(rt.alloc(), GROUP, &OF_GROUP),
-        "three items: a global, two types",
-    )
+    for (text, items, ids, others) in &ROWS {
+        demand(does_text_reach(rt.alloc(), text, *items, ids, others), text)?;
+    }
+    Ok(())
 }

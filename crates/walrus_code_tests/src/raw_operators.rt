@@ -2,7 +2,7 @@
 
 use std::alloc::Global;
 use std::test::Fail;
-use test_support::{add_bytes, demand, demand_bytes};
+use test_support::{bytes_of, demand, demand_bytes};
 use wasm_operators::{RawOperator, is_operator, kinds, read_operator, write_operator};
 
 // Fails where the operator is none that bytes spell, or isn't written so.
@@ -21,17 +21,6 @@ fn come_back(alloc: Global, bytes: &[u8], text: &str) -> Result<(), Fail> {
     };
     demand(rest.is_empty(), text)?;
     demand_written(alloc, &operator, text)
-}
-
-fn text_comes_back(alloc: Global, input: &str, output: &str) -> Result<(), Fail> {
-    let mut bytes = Vec::new(alloc);
-    demand(add_bytes(&mut bytes, input), "memory")?;
-    come_back(alloc, &bytes, output)
-}
-
-fn is_refused(alloc: Global, input: &str) -> bool {
-    let mut bytes = Vec::new(alloc);
-    add_bytes(&mut bytes, input) && read_operator(alloc, &bytes).is_err()
 }
 
 // Each operator, and what is written of it.
@@ -80,7 +69,8 @@ const ROWS: [(&str, &str); 24] = [
 #[test]
 fn operators_come_back(rt: HostRuntime) -> Result<(), Fail> {
     for (input, output) in &ROWS {
-        text_comes_back(rt.alloc(), input, output)?;
+        let bytes = bytes_of(rt.alloc(), input)?;
+        come_back(rt.alloc(), &bytes, output)?;
     }
     Ok(())
 }
@@ -99,7 +89,8 @@ const REFUSED: [&str; 7] = [
 #[test]
 fn others_are_refused(rt: HostRuntime) -> Result<(), Fail> {
     for input in &REFUSED {
-        demand(is_refused(rt.alloc(), input), input)?;
+        let bytes = bytes_of(rt.alloc(), input)?;
+        demand(read_operator(rt.alloc(), &bytes).is_err(), input)?;
     }
     Ok(())
 }

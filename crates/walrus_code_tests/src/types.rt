@@ -109,14 +109,19 @@ fn function_types_are_added(rt: HostRuntime) -> Result<(), Fail> {
     add_twice(&mut types)
 }
 
-// A group of one final type of functions, which takes a reference to this type.
-fn takes_a_reference(alloc: Global, id: TypeId) -> Result<Vec<NewType>, AllocError> {
+// A group of one type of functions, which take such a value.
+fn taking_one(
+    alloc: Global,
+    is_final: bool,
+    supertype: Option<TypeId>,
+    param: ValType,
+) -> Result<Vec<NewType>, AllocError> {
     let mut params = Vec::new(alloc);
-    params.push(reference_to(id))?;
+    params.push(param)?;
     let mut members = Vec::new(alloc);
     members.push(NewType {
-        is_final: true,
-        supertype: None,
+        is_final,
+        supertype,
         comp: CompositeType::Function(FunctionType::new(params, Vec::new(alloc))),
     })?;
     Ok(members)
@@ -124,19 +129,12 @@ fn takes_a_reference(alloc: Global, id: TypeId) -> Result<Vec<NewType>, AllocErr
 
 // A type that names itself, alone in its group. Returns its id.
 fn add_naming_itself(alloc: Global, types: &mut ModuleTypes) -> Option<TypeId> {
-    let Ok(ids) = types.next_ids(alloc, 1) else {
-        return None;
-    };
+    let ids = types.next_ids(alloc, 1).ok()?;
     let [id] = ids.as_slice() else {
         return None;
     };
-    let Ok(members) = takes_a_reference(alloc, *id) else {
-        return None;
-    };
-    match types.add_group(members) {
-        Ok(mut added) => added.next(),
-        Err(_) => None,
-    }
+    let members = taking_one(alloc, true, None, reference_to(*id)).ok()?;
+    types.add_group(members).ok()?.next()
 }
 
 // Fails where a type that names it from outside isn't another, which is found from then on.
@@ -200,27 +198,10 @@ fn locals_are_added(rt: HostRuntime) -> Result<(), Fail> {
     demand(has_a_local(&mut locals, name), "the local")
 }
 
-fn open_function(alloc: Global, supertype: Option<TypeId>) -> Result<Vec<NewType>, AllocError> {
-    let mut params = Vec::new(alloc);
-    params.push(ValType::I64)?;
-    let mut members = Vec::new(alloc);
-    members.push(NewType {
-        is_final: false,
-        supertype,
-        comp: CompositeType::Function(FunctionType::new(params, Vec::new(alloc))),
-    })?;
-    Ok(members)
-}
-
 // A type of functions that isn't final, alone in its group.
 fn add_open(alloc: Global, types: &mut ModuleTypes, supertype: Option<TypeId>) -> Option<TypeId> {
-    let Ok(members) = open_function(alloc, supertype) else {
-        return None;
-    };
-    match types.add_group(members) {
-        Ok(mut added) => added.next(),
-        Err(_) => None,
-    }
+    let members = taking_one(alloc, false, supertype, ValType::I64).ok()?;
+    types.add_group(members).ok()?.next()
 }
 
 fn takes_one_number(ty: &Type) -> bool {

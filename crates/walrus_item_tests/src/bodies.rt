@@ -2,13 +2,14 @@
 
 use std::alloc::Global;
 use std::test::Fail;
-use test_support::{add_bytes, are, demand};
+use test_support::{are, bytes_of, demand};
 use walrus_bodies::{
     Features, OpenBlocks, blocks_hold, emit_operators, read_declarations, read_operators,
 };
 use walrus_ir::{IdsToIndices, IndicesToIds, InstrLocId, LocalNumbers, ModuleTypes, Operator};
 
-const ALL: Features = Features {
+/// Legacy exceptions, and what isn't stable.
+pub(crate) const ALL: Features = Features {
     legacy_exceptions: true,
     only_stable: false,
 };
@@ -78,9 +79,6 @@ fn come_back(alloc: Global, bytes: &[u8]) -> bool {
 
 #[test]
 fn operators_are_read_and_written(rt: HostRuntime) -> Result<(), Fail> {
-    let mut bytes = Vec::new(rt.alloc());
-    demand(
-        add_bytes(&mut bytes, OPERATORS) && come_back(rt.alloc(), &bytes),
-        OPERATORS,
-    )
+    let bytes = bytes_of(rt.alloc(), OPERATORS)?;
+    demand(come_back(rt.alloc(), &bytes), OPERATORS)
 }

@@ -4,15 +4,16 @@ ghost use Rattle.walrus_bodies.specs.Indices.{ids_at};
 ghost use Rattle.walrus_ir.specs.PlainCode.{limits_in};
 ghost use Rattle.walrus_ir.specs.Scanned.{AreInPlace};
 
+use crate::bodies::ALL;
 use std::alloc::{AllocError, Global};
 use std::rc::Rc;
 use std::test::Fail;
-use test_support::{add_bytes, are, demand, first_id};
+use test_support::{are, bytes_of, demand, first_id};
 use walrus_base::FunctionId;
 use walrus_bodies::FunctionTypes;
 use walrus_ir::{
-    Features, IdsToIndices, IndicesToIds, InstrLocId, LocalFunction, ModuleLocals, ModuleTypes,
-    PlainCode, ScanRoom, emit_body, limits_of, read_body, scan_body,
+    IdsToIndices, IndicesToIds, InstrLocId, LocalFunction, ModuleLocals, ModuleTypes, PlainCode,
+    ScanRoom, emit_body, limits_of, read_body, scan_body,
 };
 
 // Two locals of i32: i32.const 5, local.set 0, local.get 0, drop, call 0, nop, end
@@ -20,11 +21,6 @@ const BODY: &str = "01 02 7F 41 05 21 00 20 00 1A 10 00 01 0B";
 
 // The same with the one local that is used.
 const WRITTEN: &str = "01 01 7F 41 05 21 00 20 00 1A 10 00 01 0B";
-
-const ALL: Features = Features {
-    legacy_exceptions: true,
-    only_stable: false,
-};
 
 // A table in which the function has the index 0.
 fn function_by_index(alloc: Global, id: FunctionId) -> Result<IndicesToIds, AllocError> {
@@ -108,9 +104,6 @@ fn comes_back(alloc: Global, id: FunctionId, bytes: &[u8]) -> bool {
 
 #[test]
 fn a_body_is_read_and_written(rt: HostRuntime) -> Result<(), Fail> {
-    let mut bytes = Vec::new(rt.alloc());
-    demand(
-        add_bytes(&mut bytes, BODY) && comes_back(rt.alloc(), first_id(rt.alloc()), &bytes),
-        BODY,
-    )
+    let bytes = bytes_of(rt.alloc(), BODY)?;
+    demand(comes_back(rt.alloc(), first_id(rt.alloc()), &bytes), BODY)
 }

@@ -1,7 +1,8 @@
 //! Element segments of a module that a program edits: which of them gc keeps, what is found dead, what they declare, and with which
 //! flag they are written.
 
-use crate::made_segments::{add_active, add_listed, bare_module, demand_left, gc_finds_dead};
+use crate::made::demand_left;
+use crate::made_segments::{add_active, add_listed, bare_module, gc_finds_dead};
 use std::alloc::Global;
 use std::test::Fail;
 use test_support::demand;

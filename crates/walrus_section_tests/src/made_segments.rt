@@ -1,12 +1,11 @@
-//! The module that the tests of element segments begin with, what they add to it, and what gc leaves of it.
+//! The module that the tests of element segments begin with, what they add to it, and that gc finds what is dead.
 
 use std::alloc::Global;
-use std::test::Fail;
 use walrus::passes::gc;
 use walrus::{
     ConstExpr, ElementId, ElementItems, ElementKind, Error, Module, ModuleConfig, TableId, Value,
 };
-use walrus_test_support::{add_function, demand_output, is_as_before, listed, shown};
+use walrus_test_support::{add_function, is_as_before, listed, shown};
 
 /// A module that holds nothing, to be written without producers.
 pub(crate) fn bare_module(alloc: Global) -> Result<Module, Error> {
@@ -32,12 +31,6 @@ pub(crate) fn add_active(
     module
         .elements
         .add(ElementKind::Active { table, offset }, items)
-}
-
-/// Fails where gc doesn't pass, or leaves what is written otherwise.
-pub(crate) fn demand_left(alloc: Global, module: &mut Module, expected: &str) -> Result<(), Fail> {
-    gc::run(alloc, module)?;
-    demand_output(alloc, module.emit_wasm(alloc), expected)
 }
 
 /// Whether gc refuses since something is dead, and leaves the module as it was.

@@ -1,9 +1,7 @@
 //! Worked modules with names: which are read, which are written, and where.
 
-use std::alloc::Global;
 use std::test::Fail;
-use test_support::demand;
-use walrus_test_support::{add_words, demand_comes_out, each_comes_out};
+use walrus_test_support::{demand_comes_out, each_comes_out_by};
 
 // Modules, and what they are written as without producers.
 const NAMED: [(&str, &str); 7] = [
@@ -97,12 +95,6 @@ const READ_IN_PART: [(&str, &str); 10] = [
         "00 61 73 6D 01 00 00 00 01 04 01 60 00 00 03 02 01 00 07 05 01 01 66 00 00 0A 04 01 02 00 0B 00 0B 04 6E 61 6D 65 01 04 01 00 01 61",
     ),
 ];
-
-fn each_comes_out_by(alloc: Global, text: &str, rows: &[(&str, &str)]) -> Result<(), Fail> {
-    let mut words = Vec::new(alloc);
-    demand(add_words(alloc, &mut words, text), "memory")?;
-    each_comes_out(alloc, &words, rows)
-}
 
 #[test]
 fn names_come_out(rt: HostRuntime) -> Result<(), Fail> {

@@ -1,6 +1,7 @@
 //! Element segments in the set of their table: what gc keeps of them, and what it finds dead.
 
-use crate::made_segments::{add_active, add_listed, bare_module, demand_left, gc_finds_dead};
+use crate::made::demand_left;
+use crate::made_segments::{add_active, add_listed, bare_module, gc_finds_dead};
 use std::alloc::Global;
 use std::test::Fail;
 use test_support::demand;

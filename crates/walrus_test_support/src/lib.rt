@@ -9,5 +9,7 @@ mod rows;
 
 pub use listing::{is_as_before, shown};
 pub use modules::{add_function, demand_output, listed, reference};
-pub use program::{Outcome, add_words, ended, is_invalid, passed, refused, run};
-pub use rows::{demand_comes_out, each_comes_out, each_is_refused};
+pub use program::{Outcome, ended, is_invalid, refused, run, words_of};
+pub use rows::{
+    demand_comes_out, each_comes_out, each_comes_out_by, each_is_refused_by, each_stays_by,
+};

@@ -1,7 +1,6 @@
 //! Running the program, and looking at what it answered and wrote.
 
-use std::alloc::Global;
-use test_support::are;
+use std::alloc::{AllocError, Global};
 use walrus::tool::{FromRead, FromWrite, command};
 
 /// What a run of the program answered and wrote.
@@ -35,11 +34,6 @@ pub fn ended(outcome: &Outcome, status: u8, told: &str) -> bool {
     outcome.status == status && outcome.errors.as_slice() == told.as_bytes()
 }
 
-/// Whether a run told nothing and wrote the bytes that the text says.
-pub fn passed(alloc: Global, outcome: &Outcome, text: &str) -> bool {
-    ended(outcome, 0, "") && are(alloc, &outcome.output, text)
-}
-
 /// Whether a run ended with this status, told this and wrote nothing.
 pub fn refused(outcome: &Outcome, status: u8, told: &str) -> bool {
     ended(outcome, status, told) && outcome.output.is_empty()
@@ -50,19 +44,11 @@ pub fn is_invalid(outcome: &Outcome) -> bool {
     refused(outcome, 1, "walrus-gc: The input WebAssembly is invalid\n")
 }
 
-fn add_word(alloc: Global, words: &mut Vec<String>, word: &str) -> bool {
-    match String::from_str(alloc, word) {
-        Ok(text) => words.push(text).is_ok(),
-        Err(_) => false,
-    }
-}
-
-/// Whether memory suffices for the words of the text, with a comma between them.
-pub fn add_words(alloc: Global, words: &mut Vec<String>, text: &str) -> bool {
+/// The words of the text, with a comma between them.
+pub fn words_of(alloc: Global, text: &str) -> Result<Vec<String>, AllocError> {
+    let mut words = Vec::new(alloc);
     for word in text.split(',') {
-        if !add_word(alloc, words, word) {
-            return false;
-        }
+        words.push(String::from_str(alloc, word)?)?;
     }
-    true
+    Ok(words)
 }

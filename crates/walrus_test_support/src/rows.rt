@@ -1,9 +1,9 @@
 //! Tables of modules that the program is run on: what goes in and what has to come out, byte for byte.
 
-use crate::program::{ended, is_invalid, run};
+use crate::program::{ended, is_invalid, run, words_of};
 use std::alloc::Global;
 use std::test::Fail;
-use test_support::{add_bytes, demand, demand_bytes};
+use test_support::{bytes_of, demand, demand_bytes};
 
 /// Fails where the program makes something else of this input than this output, and tells the first byte that differs.
 pub fn demand_comes_out(
@@ -12,8 +12,7 @@ pub fn demand_comes_out(
     input: &str,
     output: &str,
 ) -> Result<(), Fail> {
-    let mut bytes = Vec::new(alloc);
-    demand(add_bytes(&mut bytes, input), "memory")?;
+    let bytes = bytes_of(alloc, input)?;
     let outcome = run(alloc, words, &bytes);
     demand(ended(&outcome, 0, ""), input)?;
     demand_bytes(alloc, &outcome.output, output, input)
@@ -27,15 +26,27 @@ pub fn each_comes_out(alloc: Global, words: &[String], rows: &[(&str, &str)]) ->
     Ok(())
 }
 
-fn is_refused(alloc: Global, words: &[String], input: &str) -> bool {
-    let mut bytes = Vec::new(alloc);
-    add_bytes(&mut bytes, input) && is_invalid(&run(alloc, words, &bytes))
+/// The same by these words, with a comma between them.
+pub fn each_comes_out_by(alloc: Global, text: &str, rows: &[(&str, &str)]) -> Result<(), Fail> {
+    let words = words_of(alloc, text)?;
+    each_comes_out(alloc, &words, rows)
 }
 
-/// Fails where an input isn't refused as invalid.
-pub fn each_is_refused(alloc: Global, words: &[String], rows: &[&str]) -> Result<(), Fail> {
+/// Fails where a module comes to something else than itself by these words, with a comma between them.
+pub fn each_stays_by(alloc: Global, text: &str, rows: &[&str]) -> Result<(), Fail> {
+    let words = words_of(alloc, text)?;
+    for row in rows {
+        demand_comes_out(alloc, &words, row, row)?;
+    }
+    Ok(())
+}
+
+/// Fails where an input isn't refused as invalid by these words, with a comma between them.
+pub fn each_is_refused_by(alloc: Global, text: &str, rows: &[&str]) -> Result<(), Fail> {
+    let words = words_of(alloc, text)?;
     for input in rows {
-        demand(is_refused(alloc, words, input), input)?;
+        let bytes = bytes_of(alloc, input)?;
+        demand(is_invalid(&run(alloc, &words, &bytes)), input)?;
     }
     Ok(())
 }

@@ -1,9 +1,8 @@
 //! Worked modules with custom sections: which stay, and where they are written.
 
-use crate::made::{each_comes_out_by, each_is_refused_by};
 use crate::reports::each_settles;
 use std::test::Fail;
-use walrus_test_support::each_comes_out;
+use walrus_test_support::{each_comes_out, each_comes_out_by, each_is_refused_by};
 
 // Modules, and what they are written as without producers.
 const ROWS: [(&str, &str); 4] = [

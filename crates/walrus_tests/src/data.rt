@@ -1,6 +1,6 @@
 //! Data segments of a module that a program edits: which of them gc keeps, what is found dead, and what is written.
 
-use crate::made_data::{bare_module, demand_left};
+use crate::made::{bare_module, demand_dead, demand_left};
 use std::alloc::Global;
 use std::test::Fail;
 use test_support::demand;
@@ -80,14 +80,7 @@ fn delete_memory(alloc: Global, module: &mut Module, memory: MemoryId) -> Result
         return demand(false, "the memory");
     }
     module.memories.delete(memory);
-    demand(
-        matches!(gc::run(alloc, module), Err(Error::DeadItem)),
-        "DeadItem of gc",
-    )?;
-    demand(
-        matches!(module.emit_wasm(alloc), Err(Error::DeadItem)),
-        "DeadItem of emission",
-    )
+    demand_dead(alloc, module)
 }
 
 #[test]

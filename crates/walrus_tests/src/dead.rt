@@ -1,6 +1,6 @@
 //! An exported function that a program deletes, or leaves without a body: it is found, and nothing changes.
 
-use crate::made_data::bare_module;
+use crate::made::bare_module;
 use std::alloc::Global;
 use std::test::Fail;
 use test_support::demand;

@@ -3,9 +3,9 @@
 use crate::devices::{Narrow, Trickle};
 use std::alloc::Global;
 use std::test::Fail;
-use test_support::{add_bytes, demand, demand_bytes};
+use test_support::{bytes_of, demand, demand_bytes};
 use walrus::tool::{FromRead, FromWrite, command};
-use walrus_test_support::{Outcome, add_words, ended, refused};
+use walrus_test_support::{Outcome, ended, refused, words_of};
 
 // Two empty functions, of which the second is exported, and what comes of them.
 const INPUT: &str =
@@ -48,8 +48,7 @@ fn each_read_is_refused(alloc: Global, whole: &[u8]) -> Result<(), Fail> {
 
 #[test]
 fn a_read_that_fails(rt: HostRuntime) -> Result<(), Fail> {
-    let mut whole = Vec::new(rt.alloc());
-    demand(add_bytes(&mut whole, INPUT), "memory")?;
+    let whole = bytes_of(rt.alloc(), INPUT)?;
     each_read_is_refused(rt.alloc(), &whole)
 }
 
@@ -96,10 +95,8 @@ fn each_front_is_written(alloc: Global, input: &[u8], whole: &[u8]) -> Result<()
 
 #[test]
 fn a_write_that_fails(rt: HostRuntime) -> Result<(), Fail> {
-    let mut input = Vec::new(rt.alloc());
-    let mut whole = Vec::new(rt.alloc());
-    let has_memory = add_bytes(&mut input, INPUT) && add_bytes(&mut whole, OUTPUT);
-    demand(has_memory, "memory")?;
+    let input = bytes_of(rt.alloc(), INPUT)?;
+    let whole = bytes_of(rt.alloc(), OUTPUT)?;
     each_front_is_written(rt.alloc(), &input, &whole)
 }
 
@@ -138,11 +135,8 @@ fn write_once(
 
 #[test]
 fn one_byte_at_a_time(rt: HostRuntime) -> Result<(), Fail> {
-    let mut input = Vec::new(rt.alloc());
-    let mut words = Vec::new(rt.alloc());
-    let has_memory = add_bytes(&mut input, INPUT)
-        && add_words(rt.alloc(), &mut words, "--no-producers");
-    demand(has_memory, "memory")?;
+    let input = bytes_of(rt.alloc(), INPUT)?;
+    let words = words_of(rt.alloc(), "--no-producers")?;
     let mut output = Narrow::new(rt.alloc(), 1000, true);
     write_once(rt.alloc(), &words, &input, &mut output)
 }

@@ -4,7 +4,7 @@ use std::alloc::Global;
 use std::io;
 use std::io::{Read, Write};
 use std::test::Fail;
-use test_support::{add_bytes, demand};
+use test_support::{bytes_of, demand};
 use walrus::tool::{FromRead, FromWrite, command};
 use walrus_test_support::{Outcome, ended, refused};
 
@@ -111,8 +111,7 @@ fn no_read_is_tried_again(alloc: Global, input: &[u8]) -> Result<(), Fail> {
 
 #[test]
 fn a_read_that_is_interrupted(rt: HostRuntime) -> Result<(), Fail> {
-    let mut input = Vec::new(rt.alloc());
-    demand(add_bytes(&mut input, INPUT), "memory")?;
+    let input = bytes_of(rt.alloc(), INPUT)?;
     no_read_is_tried_again(rt.alloc(), &input)
 }
 
@@ -154,12 +153,8 @@ fn no_write_is_tried_again(alloc: Global, input: &[u8], whole: &[u8]) -> Result<
 
 #[test]
 fn a_write_that_is_interrupted(rt: HostRuntime) -> Result<(), Fail> {
-    let mut input = Vec::new(rt.alloc());
-    let mut whole = Vec::new(rt.alloc());
-    demand(
-        add_bytes(&mut input, INPUT) && add_bytes(&mut whole, OUTPUT),
-        "memory",
-    )?;
+    let input = bytes_of(rt.alloc(), INPUT)?;
+    let whole = bytes_of(rt.alloc(), OUTPUT)?;
     no_write_is_tried_again(rt.alloc(), &input, &whole)?;
     demand(
         fails_behind(

@@ -23,8 +23,6 @@ mod interrupted;
 #[cfg(test)]
 mod made;
 #[cfg(test)]
-mod made_data;
-#[cfg(test)]
 mod reports;
 #[cfg(test)]
 mod rows;

@@ -1,10 +1,11 @@
-//! The module that tests of edits begin with, and tables that the program is run on by words.
+//! The module that tests of edits begin with, what gc leaves of one, and that what is dead is found.
 
 use std::alloc::Global;
 use std::test::Fail;
 use test_support::demand;
+use walrus::passes::gc;
 use walrus::{Error, Module, ModuleConfig};
-use walrus_test_support::{add_words, each_comes_out, each_is_refused};
+use walrus_test_support::demand_output;
 
 /// A module that holds nothing, to be written without producers.
 pub(crate) fn bare_module(alloc: Global) -> Result<Module, Error> {
@@ -13,20 +14,20 @@ pub(crate) fn bare_module(alloc: Global) -> Result<Module, Error> {
     Module::with_config(alloc, config)
 }
 
-/// Fails where an input comes to something else than its output by these words, with a comma between them.
-pub(crate) fn each_comes_out_by(
-    alloc: Global,
-    text: &str,
-    rows: &[(&str, &str)],
-) -> Result<(), Fail> {
-    let mut words = Vec::new(alloc);
-    demand(add_words(alloc, &mut words, text), "memory")?;
-    each_comes_out(alloc, &words, rows)
+/// Fails where gc doesn't pass, or leaves what is written otherwise.
+pub(crate) fn demand_left(alloc: Global, module: &mut Module, expected: &str) -> Result<(), Fail> {
+    gc::run(alloc, module)?;
+    demand_output(alloc, module.emit_wasm(alloc), expected)
 }
 
-/// Fails where an input isn't refused as invalid by these words, with a comma between them.
-pub(crate) fn each_is_refused_by(alloc: Global, text: &str, rows: &[&str]) -> Result<(), Fail> {
-    let mut words = Vec::new(alloc);
-    demand(add_words(alloc, &mut words, text), "memory")?;
-    each_is_refused(alloc, &words, rows)
+/// Fails where something dead isn't found by gc and by emission.
+pub(crate) fn demand_dead(alloc: Global, module: &mut Module) -> Result<(), Fail> {
+    demand(
+        matches!(gc::run(alloc, module), Err(Error::DeadItem)),
+        "DeadItem of gc",
+    )?;
+    demand(
+        matches!(module.emit_wasm(alloc), Err(Error::DeadItem)),
+        "DeadItem of emission",
+    )
 }

@@ -1,11 +1,10 @@
 //! Reports: how many items are kept and how many dropped, of worked modules, and of what a run wrote.
 
-use crate::made::each_is_refused_by;
 use std::alloc::Global;
 use std::str;
 use std::test::Fail;
-use test_support::{add_bytes, demand};
-use walrus_test_support::{add_words, ended, run};
+use test_support::{bytes_of, demand};
+use walrus_test_support::{Outcome, each_is_refused_by, ended, run, words_of};
 
 // Modules, and what a report on them says.
 const ROWS: [(&str, &str); 5] = [
@@ -45,20 +44,16 @@ const INVALID: [&str; 5] = [
     "00 61 73 6D 01 00 00 00 01 04 01 60 00 00 03 03 02 00 00 0A 04 01 02 00 0B",
 ];
 
-fn is_reported(alloc: Global, text: &str, input: &str, report: &str) -> bool {
-    let mut words = Vec::new(alloc);
-    let mut bytes = Vec::new(alloc);
-    if !add_words(alloc, &mut words, text) || !add_bytes(&mut bytes, input) {
-        return false;
-    }
-    let outcome = run(alloc, &words, &bytes);
-    ended(&outcome, 0, "") && outcome.output.as_slice() == report.as_bytes()
+fn is_reported(outcome: &Outcome, report: &str) -> bool {
+    ended(outcome, 0, "") && outcome.output.as_slice() == report.as_bytes()
 }
 
 // Fails where a report by these words, with a comma between them, says something else of an input.
 fn each_is_reported(alloc: Global, text: &str, rows: &[(&str, &str)]) -> Result<(), Fail> {
+    let words = words_of(alloc, text)?;
     for (input, report) in rows {
-        demand(is_reported(alloc, text, input, report), input)?;
+        let bytes = bytes_of(alloc, input)?;
+        demand(is_reported(&run(alloc, &words, &bytes), report), input)?;
     }
     Ok(())
 }
@@ -70,10 +65,9 @@ fn reports_are_written(rt: HostRuntime) -> Result<(), Fail> {
 }
 
 // What the program makes of the bytes at this word.
-fn made(alloc: Global, word: &str, bytes: &[u8]) -> Vec<u8> {
-    let mut words = Vec::new(alloc);
-    add_words(alloc, &mut words, word);
-    run(alloc, &words, bytes).output
+fn made(alloc: Global, word: &str, bytes: &[u8]) -> Result<Vec<u8>, Fail> {
+    let words = words_of(alloc, word)?;
+    Ok(run(alloc, &words, bytes).output)
 }
 
 // Whether these are seven lines that say that nothing is dropped.
@@ -85,22 +79,28 @@ fn drops_nothing(report: &[u8]) -> bool {
     }
 }
 
-// Whether nothing of what a run makes of the module is dropped, and a second run leaves the same numbers.
-fn settles(alloc: Global, input: &str) -> bool {
-    let mut bytes = Vec::new(alloc);
-    if !add_bytes(&mut bytes, input) {
-        return false;
-    }
-    let first = made(alloc, "--no-producers", &bytes);
-    let second = made(alloc, "--no-producers", &first);
-    let report = made(alloc, "--report", &first);
-    drops_nothing(&report) && made(alloc, "--report", &second) == report
+// Fails where something of what a run makes of the module is dropped, or a second run leaves other numbers.
+fn settle(alloc: Global, input: &str) -> Result<(), Fail> {
+    let bytes = bytes_of(alloc, input)?;
+    let first = made(alloc, "--no-producers", &bytes)?;
+    let second = made(alloc, "--no-producers", &first)?;
+    let report = made(alloc, "--report", &first)?;
+    let again = made(alloc, "--report", &second)?;
+    demand(drops_nothing(&report) && again == report, input)
 }
 
 /// Fails where a second run drops something of what the first one made of one of these modules, or a report says so.
 pub(crate) fn each_settles(alloc: Global, rows: &[(&str, &str)]) -> Result<(), Fail> {
     for (input, _) in rows {
-        demand(settles(alloc, input), input)?;
+        settle(alloc, input)?;
+    }
+    Ok(())
+}
+
+/// The same of modules that are written as they are.
+pub(crate) fn each_same_settles(alloc: Global, rows: &[&str]) -> Result<(), Fail> {
+    for input in rows {
+        settle(alloc, input)?;
     }
     Ok(())
 }

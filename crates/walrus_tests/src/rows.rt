@@ -1,20 +1,52 @@
 //! Worked modules: what goes in and what has to come out, byte for byte.
 
-use crate::made::{each_comes_out_by, each_is_refused_by};
-use crate::reports::each_settles;
+use crate::reports::{each_same_settles, each_settles};
 use std::alloc::Global;
 use std::test::Fail;
 use test_support::{add_bytes, demand};
-use walrus_test_support::{add_words, is_invalid, run};
+use walrus_test_support::{
+    each_comes_out_by, each_is_refused_by, each_stays_by, is_invalid, run, words_of,
+};
 
 // A legacy try with an i32 as result, and a catch of a tag that carries an i32.
 const LEGACY: &str =
     "00 61 73 6D 01 00 00 00 01 08 02 60 00 00 60 01 7F 00 03 02 01 00 0D 03 01 00 01 07 05 01 01 66 00 00 0A 0C 01 0A 00 06 7F 41 00 07 00 0B 1A 0B";
 
-// Inputs and what they come to, in hexadecimal.
-const ROWS: [(&str, &str); 41] = [
+// Modules that are written as they are read.
+const SAME: [&str; 15] = [
     // the header alone
-    ("00 61 73 6D 01 00 00 00", "00 61 73 6D 01 00 00 00"),
+    "00 61 73 6D 01 00 00 00",
+    // the start function alone
+    "00 61 73 6D 01 00 00 00 01 04 01 60 00 00 03 02 01 00 08 01 00 0A 04 01 02 00 0B",
+    // a reference to a function that is exported
+    "00 61 73 6D 01 00 00 00 01 04 01 60 00 00 03 02 01 00 07 05 01 01 66 00 00 0A 07 01 05 00 D2 00 1A 0B",
+    // a function that asks for the size of the memory, and the memory with it
+    "00 61 73 6D 01 00 00 00 01 05 01 60 00 01 7F 03 02 01 00 05 03 01 00 01 07 05 01 01 66 00 00 0A 06 01 04 00 3F 00 0B",
+    // a supertype stays
+    "00 61 73 6D 01 00 00 00 01 0C 02 50 00 60 00 00 50 01 00 60 00 00 03 02 01 01 07 05 01 01 66 00 00 0A 04 01 02 00 0B",
+    // a memory of pages of one byte, and one of as many pages as 32 bits address
+    "00 61 73 6D 01 00 00 00 05 04 01 08 01 00 07 05 01 01 6D 02 00",
+    "00 61 73 6D 01 00 00 00 05 05 01 00 80 80 04 07 05 01 01 6D 02 00",
+    // an active segment, and with it its table and its function
+    "00 61 73 6D 01 00 00 00 01 04 01 60 00 00 03 02 01 00 04 04 01 70 00 01 09 07 01 00 41 00 0B 01 00 0A 04 01 02 00 0B",
+    // one in a table that an import brings
+    "00 61 73 6D 01 00 00 00 01 04 01 60 00 00 02 09 01 01 6D 01 74 01 70 00 01 03 02 01 00 09 07 01 00 41 00 0B 01 00 0A 04 01 02 00 0B",
+    // a function that drops a segment, and the memory that stays with data
+    "00 61 73 6D 01 00 00 00 01 04 01 60 00 00 03 02 01 00 05 03 01 00 01 07 05 01 01 66 00 00 0C 01 01 0A 07 01 05 00 FC 09 00 0B 0B 04 01 01 01 AA",
+    // a global whose initialiser reads an earlier one
+    "00 61 73 6D 01 00 00 00 06 0B 02 7F 00 41 00 0B 7F 00 23 00 0B 07 05 01 01 67 03 01",
+    // a global of a reference to a structure, which stays with its group
+    "00 61 73 6D 01 00 00 00 01 09 01 4E 02 5F 00 5F 01 7F 00 06 07 01 63 00 00 D0 00 0B 07 05 01 01 67 03 00",
+    // a table with a maximum
+    "00 61 73 6D 01 00 00 00 04 05 01 70 01 01 02 07 05 01 01 74 01 00",
+    // a legacy handler whose type is there, which is found
+    "00 61 73 6D 01 00 00 00 01 0D 03 60 00 00 60 01 7F 00 60 01 7F 01 7F 03 02 01 00 0D 03 01 00 01 07 05 01 01 66 00 00 0A 0C 01 0A 00 06 7F 41 00 07 00 0B 1A 0B",
+    // a legacy handler that takes nothing and gives nothing needs no type
+    "00 61 73 6D 01 00 00 00 01 04 01 60 00 00 03 02 01 00 0D 03 01 00 00 07 05 01 01 66 00 00 0A 09 01 07 00 06 40 07 00 0B 0B",
+];
+
+// Inputs and what they come to, in hexadecimal.
+const OTHERS: [(&str, &str); 26] = [
     // two empty functions, of which the second is exported
     (
         "00 61 73 6D 01 00 00 00 01 04 01 60 00 00 03 03 02 00 00 07 05 01 01 66 00 01 0A 07 02 02 00 0B 02 00 0B",
@@ -45,20 +77,10 @@ const ROWS: [(&str, &str); 41] = [
         "00 61 73 6D 01 00 00 00 01 04 01 60 00 00 03 02 01 00 07 05 01 01 66 00 00 0A 0C 01 0A 01 02 7F 20 01 1A 02 40 0B 0B",
         "00 61 73 6D 01 00 00 00 01 04 01 60 00 00 03 02 01 00 07 05 01 01 66 00 00 0A 0C 01 0A 01 01 7F 20 00 1A 02 40 0B 0B",
     ),
-    // the start function alone
-    (
-        "00 61 73 6D 01 00 00 00 01 04 01 60 00 00 03 02 01 00 08 01 00 0A 04 01 02 00 0B",
-        "00 61 73 6D 01 00 00 00 01 04 01 60 00 00 03 02 01 00 08 01 00 0A 04 01 02 00 0B",
-    ),
     // of two functions the second is the start function
     (
         "00 61 73 6D 01 00 00 00 01 04 01 60 00 00 03 03 02 00 00 08 01 01 0A 0A 02 05 00 41 00 1A 0B 02 00 0B",
         "00 61 73 6D 01 00 00 00 01 04 01 60 00 00 03 02 01 00 08 01 00 0A 04 01 02 00 0B",
-    ),
-    // a reference to a function that is exported
-    (
-        "00 61 73 6D 01 00 00 00 01 04 01 60 00 00 03 02 01 00 07 05 01 01 66 00 00 0A 07 01 05 00 D2 00 1A 0B",
-        "00 61 73 6D 01 00 00 00 01 04 01 60 00 00 03 02 01 00 07 05 01 01 66 00 00 0A 07 01 05 00 D2 00 1A 0B",
     ),
     // a reference to a function that nothing declares
     (
@@ -79,11 +101,6 @@ const ROWS: [(&str, &str); 41] = [
     (
         "00 61 73 6D 01 00 00 00 05 05 02 00 01 00 02 07 05 01 01 6D 02 01",
         "00 61 73 6D 01 00 00 00 05 03 01 00 02 07 05 01 01 6D 02 00",
-    ),
-    // a function that asks for the size of the memory, and the memory with it
-    (
-        "00 61 73 6D 01 00 00 00 01 05 01 60 00 01 7F 03 02 01 00 05 03 01 00 01 07 05 01 01 66 00 00 0A 06 01 04 00 3F 00 0B",
-        "00 61 73 6D 01 00 00 00 01 05 01 60 00 01 7F 03 02 01 00 05 03 01 00 01 07 05 01 01 66 00 00 0A 06 01 04 00 3F 00 0B",
     ),
     // a tag that nothing reaches, and its type
     (
@@ -115,36 +132,12 @@ const ROWS: [(&str, &str); 41] = [
         "00 61 73 6D 01 00 00 00 01 06 01 60 01 63 70 00 03 02 01 00 07 05 01 01 66 00 00 0A 04 01 02 00 0B",
         "00 61 73 6D 01 00 00 00 01 05 01 60 01 70 00 03 02 01 00 07 05 01 01 66 00 00 0A 04 01 02 00 0B",
     ),
-    // a supertype stays
-    (
-        "00 61 73 6D 01 00 00 00 01 0C 02 50 00 60 00 00 50 01 00 60 00 00 03 02 01 01 07 05 01 01 66 00 00 0A 04 01 02 00 0B",
-        "00 61 73 6D 01 00 00 00 01 0C 02 50 00 60 00 00 50 01 00 60 00 00 03 02 01 01 07 05 01 01 66 00 00 0A 04 01 02 00 0B",
-    ),
     // 50,000 declared locals, as many as there may be
     (
         "00 61 73 6D 01 00 00 00 01 04 01 60 00 00 03 02 01 00 07 05 01 01 66 00 00 0A 08 01 06 01 D0 86 03 7F 0B",
         "00 61 73 6D 01 00 00 00 01 04 01 60 00 00 03 02 01 00 07 05 01 01 66 00 00 0A 04 01 02 00 0B",
     ),
-    // a memory of pages of one byte, and one of as many pages as 32 bits address
-    (
-        "00 61 73 6D 01 00 00 00 05 04 01 08 01 00 07 05 01 01 6D 02 00",
-        "00 61 73 6D 01 00 00 00 05 04 01 08 01 00 07 05 01 01 6D 02 00",
-    ),
-    (
-        "00 61 73 6D 01 00 00 00 05 05 01 00 80 80 04 07 05 01 01 6D 02 00",
-        "00 61 73 6D 01 00 00 00 05 05 01 00 80 80 04 07 05 01 01 6D 02 00",
-    ),
-    // an active segment, and with it its table and its function
-    (
-        "00 61 73 6D 01 00 00 00 01 04 01 60 00 00 03 02 01 00 04 04 01 70 00 01 09 07 01 00 41 00 0B 01 00 0A 04 01 02 00 0B",
-        "00 61 73 6D 01 00 00 00 01 04 01 60 00 00 03 02 01 00 04 04 01 70 00 01 09 07 01 00 41 00 0B 01 00 0A 04 01 02 00 0B",
-    ),
-    // one in a table that an import brings
-    (
-        "00 61 73 6D 01 00 00 00 01 04 01 60 00 00 02 09 01 01 6D 01 74 01 70 00 01 03 02 01 00 09 07 01 00 41 00 0B 01 00 0A 04 01 02 00 0B",
-        "00 61 73 6D 01 00 00 00 01 04 01 60 00 00 02 09 01 01 6D 01 74 01 70 00 01 03 02 01 00 09 07 01 00 41 00 0B 01 00 0A 04 01 02 00 0B",
-    ),
-    // one that names table 0, and whose functions are expressions
+    // an active segment that names table 0, and whose functions are expressions
     (
         "00 61 73 6D 01 00 00 00 01 04 01 60 00 00 02 09 01 01 6D 01 74 01 70 00 01 03 02 01 00 09 0B 01 06 00 41 00 0B 70 01 D2 00 0B 0A 04 01 02 00 0B",
         "00 61 73 6D 01 00 00 00 01 04 01 60 00 00 02 09 01 01 6D 01 74 01 70 00 01 03 02 01 00 09 09 01 04 41 00 0B 01 D2 00 0B 0A 04 01 02 00 0B",
@@ -154,25 +147,10 @@ const ROWS: [(&str, &str); 41] = [
         "00 61 73 6D 01 00 00 00 05 03 01 00 01 0C 01 01 0B 04 01 01 01 AA",
         "00 61 73 6D 01 00 00 00",
     ),
-    // a function that drops a segment, and the memory that stays with data
-    (
-        "00 61 73 6D 01 00 00 00 01 04 01 60 00 00 03 02 01 00 05 03 01 00 01 07 05 01 01 66 00 00 0C 01 01 0A 07 01 05 00 FC 09 00 0B 0B 04 01 01 01 AA",
-        "00 61 73 6D 01 00 00 00 01 04 01 60 00 00 03 02 01 00 05 03 01 00 01 07 05 01 01 66 00 00 0C 01 01 0A 07 01 05 00 FC 09 00 0B 0B 04 01 01 01 AA",
-    ),
     // an active segment that names its memory, and a data count that isn't due
     (
         "00 61 73 6D 01 00 00 00 05 03 01 00 01 0C 01 01 0B 08 01 02 00 41 00 0B 01 AA",
         "00 61 73 6D 01 00 00 00 05 03 01 00 01 0B 07 01 00 41 00 0B 01 AA",
-    ),
-    // a global whose initialiser reads an earlier one
-    (
-        "00 61 73 6D 01 00 00 00 06 0B 02 7F 00 41 00 0B 7F 00 23 00 0B 07 05 01 01 67 03 01",
-        "00 61 73 6D 01 00 00 00 06 0B 02 7F 00 41 00 0B 7F 00 23 00 0B 07 05 01 01 67 03 01",
-    ),
-    // a global of a reference to a structure, which stays with its group
-    (
-        "00 61 73 6D 01 00 00 00 01 09 01 4E 02 5F 00 5F 01 7F 00 06 07 01 63 00 00 D0 00 0B 07 05 01 01 67 03 00",
-        "00 61 73 6D 01 00 00 00 01 09 01 4E 02 5F 00 5F 01 7F 00 06 07 01 63 00 00 D0 00 0B 07 05 01 01 67 03 00",
     ),
     // a global that nothing reaches
     (
@@ -184,27 +162,12 @@ const ROWS: [(&str, &str); 41] = [
         "00 61 73 6D 01 00 00 00 04 07 02 70 00 01 6F 00 02 07 05 01 01 74 01 01",
         "00 61 73 6D 01 00 00 00 04 04 01 6F 00 02 07 05 01 01 74 01 00",
     ),
-    // a table with a maximum
-    (
-        "00 61 73 6D 01 00 00 00 04 05 01 70 01 01 02 07 05 01 01 74 01 00",
-        "00 61 73 6D 01 00 00 00 04 05 01 70 01 01 02 07 05 01 01 74 01 00",
-    ),
     // a legacy handler of a type that isn't there, which is added
     (
         LEGACY,
         "00 61 73 6D 01 00 00 00 01 0D 03 60 00 00 60 01 7F 00 60 01 7F 01 7F 03 02 01 00 0D 03 01 00 01 07 05 01 01 66 00 00 0A 0C 01 0A 00 06 7F 41 00 07 00 0B 1A 0B",
     ),
-    // the same type once more, which is found
-    (
-        "00 61 73 6D 01 00 00 00 01 0D 03 60 00 00 60 01 7F 00 60 01 7F 01 7F 03 02 01 00 0D 03 01 00 01 07 05 01 01 66 00 00 0A 0C 01 0A 00 06 7F 41 00 07 00 0B 1A 0B",
-        "00 61 73 6D 01 00 00 00 01 0D 03 60 00 00 60 01 7F 00 60 01 7F 01 7F 03 02 01 00 0D 03 01 00 01 07 05 01 01 66 00 00 0A 0C 01 0A 00 06 7F 41 00 07 00 0B 1A 0B",
-    ),
-    // a legacy handler that takes nothing and gives nothing needs no type
-    (
-        "00 61 73 6D 01 00 00 00 01 04 01 60 00 00 03 02 01 00 0D 03 01 00 00 07 05 01 01 66 00 00 0A 09 01 07 00 06 40 07 00 0B 0B",
-        "00 61 73 6D 01 00 00 00 01 04 01 60 00 00 03 02 01 00 0D 03 01 00 00 07 05 01 01 66 00 00 0A 09 01 07 00 06 40 07 00 0B 0B",
-    ),
-    // the same of an imported tag
+    // the same where an import brings the tag
     (
         "00 61 73 6D 01 00 00 00 01 08 02 60 00 00 60 01 7F 00 02 08 01 01 6D 01 74 04 00 01 03 02 01 00 07 05 01 01 66 00 00 0A 0C 01 0A 00 06 7F 41 00 07 00 0B 1A 0B",
         "00 61 73 6D 01 00 00 00 01 0D 03 60 00 00 60 01 7F 00 60 01 7F 01 7F 02 08 01 01 6D 01 74 04 00 01 03 02 01 00 07 05 01 01 66 00 00 0A 0C 01 0A 00 06 7F 41 00 07 00 0B 1A 0B",
@@ -267,8 +230,10 @@ const INVALID: [&str; 27] = [
 
 #[test]
 fn rows_come_out(rt: HostRuntime) -> Result<(), Fail> {
-    each_comes_out_by(rt.alloc(), "--no-producers", &ROWS)?;
-    each_settles(rt.alloc(), &ROWS)
+    each_stays_by(rt.alloc(), "--no-producers", &SAME)?;
+    each_same_settles(rt.alloc(), &SAME)?;
+    each_comes_out_by(rt.alloc(), "--no-producers", &OTHERS)?;
+    each_settles(rt.alloc(), &OTHERS)
 }
 
 #[test]
@@ -349,10 +314,6 @@ fn each_is_cut_off(alloc: Global, words: &[String], rows: &[&str]) -> Result<(),
 
 #[test]
 fn beginnings_are_refused(rt: HostRuntime) -> Result<(), Fail> {
-    let mut words = Vec::new(rt.alloc());
-    demand(
-        add_words(rt.alloc(), &mut words, "--no-producers"),
-        "memory",
-    )?;
+    let words = words_of(rt.alloc(), "--no-producers")?;
     each_is_cut_off(rt.alloc(), &words, &BEGINNINGS)
 }

@@ -1,11 +1,8 @@
 //! Worked modules of segments in all their forms: which of them stay, and with which flags they are written.
 
-use crate::made::{each_comes_out_by, each_is_refused_by};
 use crate::reports::each_settles;
-use std::alloc::Global;
 use std::test::Fail;
-use test_support::demand;
-use walrus_test_support::{add_words, demand_comes_out};
+use walrus_test_support::{each_comes_out_by, each_is_refused_by, each_stays_by};
 
 // Modules that are written as they are read.
 const SAME: [&str; 13] = [
@@ -100,21 +97,9 @@ const INVALID: [&str; 14] = [
     "00 61 73 6D 01 00 00 00 01 04 01 60 00 00 03 02 01 00 08 01 01 0A 04 01 02 00 0B",
 ];
 
-fn each_stays(alloc: Global, words: &[String], rows: &[&str]) -> Result<(), Fail> {
-    for row in rows {
-        demand_comes_out(alloc, words, row, row)?;
-    }
-    Ok(())
-}
-
 #[test]
 fn segments_stay(rt: HostRuntime) -> Result<(), Fail> {
-    let mut words = Vec::new(rt.alloc());
-    demand(
-        add_words(rt.alloc(), &mut words, "--no-producers"),
-        "memory",
-    )?;
-    each_stays(rt.alloc(), &words, &SAME)
+    each_stays_by(rt.alloc(), "--no-producers", &SAME)
 }
 
 #[test]

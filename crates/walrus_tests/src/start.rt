@@ -1,10 +1,9 @@
 //! The start function of a module that a program edits: it stays with all that it calls, and one that was deleted is found.
 
-use crate::made_data::{bare_module, demand_left};
+use crate::made::{bare_module, demand_dead, demand_left};
 use std::alloc::Global;
 use std::test::Fail;
 use test_support::demand;
-use walrus::passes::gc;
 use walrus::{Error, FunctionId, Module};
 use walrus_test_support::add_function;
 
@@ -46,14 +45,7 @@ fn delete_start(alloc: Global, module: &mut Module, start: FunctionId) -> Result
         return demand(false, "the start function");
     }
     module.funcs.delete(start);
-    demand(
-        matches!(gc::run(alloc, module), Err(Error::DeadItem)),
-        "DeadItem of gc",
-    )?;
-    demand(
-        matches!(module.emit_wasm(alloc), Err(Error::DeadItem)),
-        "DeadItem of emission",
-    )?;
+    demand_dead(alloc, module)?;
     module.start = None;
     module.emit_wasm(alloc)?;
     Ok(())

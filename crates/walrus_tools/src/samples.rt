@@ -19,15 +19,8 @@ use crate::stubbing::stub;
 use crate::wanted::Wanted;
 use std::alloc::Global;
 use std::test::Fail;
-use test_support::{add_bytes, demand, demand_bytes, is_text};
+use test_support::{bytes_of, demand, demand_bytes, is_text};
 use walrus::Result;
-
-// The bytes that the text says.
-fn bytes_of(alloc: Global, text: &str) -> std::result::Result<Vec<u8>, Fail> {
-    let mut bytes = Vec::new(alloc);
-    demand(add_bytes(&mut bytes, text), "memory")?;
-    Ok(bytes)
-}
 
 // Fails where a caller refused, or answered with other bytes than these.
 fn demand_output(

@@ -2,10 +2,11 @@
 
 ghost use Rattle.std.specs.Prelude.{Some, None, nat_lt, ◌+◌, if◌then◌else◌};
 
+use crate::scans::LIMITS;
 use std::alloc::{AllocError, Global};
 use std::test::Fail;
-use test_support::{add_bytes, demand};
-use wasm_text::{Limits, NO_NUMBER, Numbers, append_filled, scan_operator};
+use test_support::{bytes_of, demand_bytes};
+use wasm_text::{NO_NUMBER, Numbers, append_filled, scan_operator};
 
 /// Operators, and what they become where each index below 100 is ten more.
 const ROWS: [(&str, &str); 9] = [
@@ -19,16 +20,6 @@ const ROWS: [(&str, &str); 9] = [
     ("03 03", "03 0D"),
     ("0E 02 00 81 00 00", "0E 02 00 01 00"),
 ];
-
-const LIMITS: Limits = Limits {
-    functions: 5,
-    globals: 5,
-    types: 5,
-    tables: 2,
-    memories: 1,
-    locals: 300,
-    labels: 2,
-};
 
 // Each index below 100 is ten more, all others have no new number.
 struct TenMore {}
@@ -55,22 +46,12 @@ fn rewritten(alloc: Global, bytes: &[u8]) -> Result<Vec<u8>, AllocError> {
     Ok(to)
 }
 
-fn becomes(alloc: Global, text: &str, wanted: &str) -> bool {
-    let mut bytes = Vec::new(alloc);
-    let mut expected = Vec::new(alloc);
-    if !add_bytes(&mut bytes, text) || !add_bytes(&mut expected, wanted) {
-        return false;
-    }
-    match rewritten(alloc, &bytes) {
-        Ok(given) => given.as_slice() == expected.as_slice(),
-        Err(_) => false,
-    }
-}
-
 #[test]
 fn indices_get_new_numbers(rt: HostRuntime) -> Result<(), Fail> {
     for (text, wanted) in &ROWS {
-        demand(becomes(rt.alloc(), text, wanted), text)?;
+        let bytes = bytes_of(rt.alloc(), text)?;
+        let given = rewritten(rt.alloc(), &bytes)?;
+        demand_bytes(rt.alloc(), &given, wanted, text)?;
     }
     Ok(())
 }

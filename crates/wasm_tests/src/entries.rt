@@ -88,77 +88,59 @@ fn comes_out(alloc: Global, kind: Kind, input: &str, output: &str) -> bool {
         && are(alloc, &written, output)
 }
 
-// Each entry, and what is written of it.
-const ROWS: [(Kind, &str, &str); 26] = [
+// Entries that are written as they are.
+const SAME: [(Kind, &str); 21] = [
+    // a type with a supertype
+    (Kind::Group, "50 01 00 60 00 00"),
+    // a struct of one byte
+    (Kind::Group, "5F 01 78 01"),
+    (Kind::Groups, "02 50 00 60 00 00 50 01 00 60 00 00"),
+    // a function, a table, a memory, a global and a tag
+    (Kind::Import, "01 6D 01 62 00 00"),
+    (Kind::Import, "01 6D 01 74 01 70 00 01"),
+    (Kind::Import, "01 6D 01 79 02 01 01 02"),
+    (Kind::Import, "01 6D 01 67 03 7F 01"),
+    (Kind::Import, "01 6D 01 65 04 00 00"),
+    (Kind::Export, "01 67 03 01"),
+    // a table with an initialiser
+    (Kind::Table, "40 00 70 00 00 D0 70 0B"),
+    (Kind::Global, "7F 00 41 00 0B"),
+    (
+        Kind::Expression,
+        "44 00 00 00 00 00 00 F0 3F 42 7F FB 08 01 02 0B",
+    ),
+    // segments of each flag
+    (Kind::Element, "00 41 00 0B 01 00"),
+    (Kind::Element, "01 00 01 00"),
+    (Kind::Element, "02 00 41 00 0B 00 01 00"),
+    (Kind::Element, "03 00 01 01"),
+    (Kind::Element, "04 41 00 0B 01 D2 00 0B"),
+    (Kind::Element, "05 70 01 D2 00 0B"),
+    (Kind::Element, "06 00 41 00 0B 70 01 D2 00 0B"),
+    (Kind::Element, "07 70 01 D2 00 0B"),
+    (Kind::Data, "01 01 AA"),
+];
+
+// Other entries, and what is written of them.
+const OTHERS: [(Kind, &str, &str); 5] = [
     // a group of one type, with its count
     (Kind::Group, "4E 01 60 00 00", "60 00 00"),
     // a final type without supertypes
     (Kind::Group, "4F 00 60 00 00", "60 00 00"),
     // a nullable reference to a function
     (Kind::Group, "60 01 63 70 00", "60 01 70 00"),
-    // a type with a supertype
-    (Kind::Group, "50 01 00 60 00 00", "50 01 00 60 00 00"),
-    // a struct of one byte
-    (Kind::Group, "5F 01 78 01", "5F 01 78 01"),
-    (
-        Kind::Groups,
-        "02 50 00 60 00 00 50 01 00 60 00 00",
-        "02 50 00 60 00 00 50 01 00 60 00 00",
-    ),
-    // a function, a table, a memory, a global and a tag
-    (Kind::Import, "01 6D 01 62 00 00", "01 6D 01 62 00 00"),
-    (
-        Kind::Import,
-        "01 6D 01 74 01 70 00 01",
-        "01 6D 01 74 01 70 00 01",
-    ),
-    (
-        Kind::Import,
-        "01 6D 01 79 02 01 01 02",
-        "01 6D 01 79 02 01 01 02",
-    ),
-    (Kind::Import, "01 6D 01 67 03 7F 01", "01 6D 01 67 03 7F 01"),
-    (Kind::Import, "01 6D 01 65 04 00 00", "01 6D 01 65 04 00 00"),
-    (Kind::Export, "01 67 03 01", "01 67 03 01"),
-    // a table with an initialiser
-    (
-        Kind::Table,
-        "40 00 70 00 00 D0 70 0B",
-        "40 00 70 00 00 D0 70 0B",
-    ),
     // a minimum in two bytes
     (Kind::Limits, "01 80 00 02", "01 00 02"),
-    (Kind::Global, "7F 00 41 00 0B", "7F 00 41 00 0B"),
-    (
-        Kind::Expression,
-        "44 00 00 00 00 00 00 F0 3F 42 7F FB 08 01 02 0B",
-        "44 00 00 00 00 00 00 F0 3F 42 7F FB 08 01 02 0B",
-    ),
-    // segments of each flag
-    (Kind::Element, "00 41 00 0B 01 00", "00 41 00 0B 01 00"),
-    (Kind::Element, "01 00 01 00", "01 00 01 00"),
-    (
-        Kind::Element,
-        "02 00 41 00 0B 00 01 00",
-        "02 00 41 00 0B 00 01 00",
-    ),
-    (Kind::Element, "03 00 01 01", "03 00 01 01"),
-    (
-        Kind::Element,
-        "04 41 00 0B 01 D2 00 0B",
-        "04 41 00 0B 01 D2 00 0B",
-    ),
-    (Kind::Element, "05 70 01 D2 00 0B", "05 70 01 D2 00 0B"),
-    (
-        Kind::Element,
-        "06 00 41 00 0B 70 01 D2 00 0B",
-        "06 00 41 00 0B 70 01 D2 00 0B",
-    ),
-    (Kind::Element, "07 70 01 D2 00 0B", "07 70 01 D2 00 0B"),
     // a memory's index that needs no mention
     (Kind::Data, "02 00 41 00 0B 01 AA", "00 41 00 0B 01 AA"),
-    (Kind::Data, "01 01 AA", "01 01 AA"),
 ];
+
+fn each_stays(alloc: Global, rows: &[(Kind, &str)]) -> Result<(), Fail> {
+    for (kind, text) in rows {
+        demand(comes_out(alloc, *kind, text, text), text)?;
+    }
+    Ok(())
+}
 
 fn each_comes_out(alloc: Global, rows: &[(Kind, &str, &str)]) -> Result<(), Fail> {
     for (kind, input, output) in rows {
@@ -169,5 +151,6 @@ fn each_comes_out(alloc: Global, rows: &[(Kind, &str, &str)]) -> Result<(), Fail
 
 #[test]
 fn entries_come_out_in_one_spelling(rt: HostRuntime) -> Result<(), Fail> {
-    each_comes_out(rt.alloc(), &ROWS)
+    each_stays(rt.alloc(), &SAME)?;
+    each_comes_out(rt.alloc(), &OTHERS)
 }

@@ -2,7 +2,7 @@
 
 use std::alloc::Global;
 use std::test::Fail;
-use test_support::{add_bytes, are, demand};
+use test_support::{are, bytes_of, demand};
 use wasm_wire::{Raw, RawBody, RawCustom, Section, measure, read_module};
 
 // Modules, and how many bytes each of their sections has with its id and its size, in hexadecimal: types, imports, functions, tables,
@@ -236,21 +236,13 @@ fn are_measured(alloc: Global, bytes: &[u8], wanted: &str) -> bool {
     }
 }
 
-fn is_row_measured(alloc: Global, module: &str, wanted: &str) -> bool {
-    let mut bytes = Vec::new(alloc);
-    add_bytes(&mut bytes, module) && are_measured(alloc, &bytes, wanted)
-}
-
-fn each_is_measured(alloc: Global, rows: &[(&str, &str)]) -> Result<(), Fail> {
-    for (module, wanted) in rows {
-        demand(is_row_measured(alloc, module, wanted), module)?;
-    }
-    Ok(())
-}
-
 #[test]
 fn sections_of_modules(rt: HostRuntime) -> Result<(), Fail> {
-    each_is_measured(rt.alloc(), &ROWS)
+    for (module, wanted) in &ROWS {
+        let bytes = bytes_of(rt.alloc(), module)?;
+        demand(are_measured(rt.alloc(), &bytes, wanted), module)?;
+    }
+    Ok(())
 }
 
 fn add_twos(sizes: &mut Vec<usize>) -> bool {

@@ -3,18 +3,13 @@
 use crate::told::Told;
 use std::alloc::Global;
 use std::test::Fail;
-use test_support::{add_bytes, demand, is_text};
+use test_support::{bytes_of, demand, is_text};
 use wasm_wire::read_names;
 
 // Whether this is told of the payload, where the functions 0 and 1 are known.
 fn says(alloc: Global, payload: &[u8], wanted: &str) -> bool {
     let mut told = Told::new(alloc, 2);
     read_names(payload, &mut told).is_ok() && is_text(&told.text, wanted)
-}
-
-fn tells(alloc: Global, text: &str, wanted: &str) -> bool {
-    let mut bytes = Vec::new(alloc);
-    add_bytes(&mut bytes, text) && says(alloc, &bytes, wanted)
 }
 
 // Each payload, and what is told of it.
@@ -61,14 +56,11 @@ const ROWS: [(&str, &str); 19] = [
     ("01 85 00 81 00 00 01 61", "function 0 a;"),
 ];
 
-fn each_is_told(alloc: Global, rows: &[(&str, &str)]) -> Result<(), Fail> {
-    for (text, wanted) in rows {
-        demand(tells(alloc, text, wanted), text)?;
-    }
-    Ok(())
-}
-
 #[test]
 fn namings_are_told(rt: HostRuntime) -> Result<(), Fail> {
-    each_is_told(rt.alloc(), &ROWS)
+    for (text, wanted) in &ROWS {
+        let payload = bytes_of(rt.alloc(), text)?;
+        demand(says(rt.alloc(), &payload, wanted), text)?;
+    }
+    Ok(())
 }

@@ -1,8 +1,7 @@
 //! Numbers by their places. The bytes and values are those of the standard's definitions of uN and sN, worked by hand.
 
-use std::alloc::Global;
 use std::test::Fail;
-use test_support::{add_bytes, demand};
+use test_support::{bytes_of, demand};
 use wasm_text::{NO_PLACE, number_at, past_number, past_s32, past_s64, past_u64};
 
 /// Where a number begins, and where it ends as a number of at most five bytes, an s32, an s64 and a u64, one behind another; 99 where
@@ -44,20 +43,11 @@ fn are_places(bytes: &[u8], at: usize, wanted: &[usize; 4]) -> bool {
         && is_place(past_u64(bytes, at), unsigned)
 }
 
-fn is_row(alloc: Global, text: &str, at: usize, wanted: &[usize; 4]) -> bool {
-    let mut bytes = Vec::new(alloc);
-    add_bytes(&mut bytes, text) && are_places(&bytes, at, wanted)
-}
-
-fn is_value(alloc: Global, text: &str, at: usize, wanted: u64) -> bool {
-    let mut bytes = Vec::new(alloc);
-    add_bytes(&mut bytes, text) && number_at(&bytes, at) == wanted
-}
-
 #[test]
 fn places_behind_numbers(rt: HostRuntime) -> Result<(), Fail> {
     for (text, at, wanted) in &ROWS {
-        demand(is_row(rt.alloc(), text, *at, wanted), text)?;
+        let bytes = bytes_of(rt.alloc(), text)?;
+        demand(are_places(&bytes, *at, wanted), text)?;
     }
     Ok(())
 }
@@ -65,7 +55,8 @@ fn places_behind_numbers(rt: HostRuntime) -> Result<(), Fail> {
 #[test]
 fn numbers_at_places(rt: HostRuntime) -> Result<(), Fail> {
     for (text, at, wanted) in &VALUES {
-        demand(is_value(rt.alloc(), text, *at, *wanted), text)?;
+        let bytes = bytes_of(rt.alloc(), text)?;
+        demand(number_at(&bytes, *at) == *wanted, text)?;
     }
     Ok(())
 }

@@ -2,7 +2,7 @@
 
 use std::alloc::{AllocError, Global};
 use std::test::Fail;
-use test_support::{add_bytes, demand, is_text};
+use test_support::{bytes_of, demand, is_text};
 use wasm_wire::{RawField, read_producers};
 
 fn tell_field(text: &mut String, field: &RawField<'_>) -> Result<(), AllocError> {
@@ -29,11 +29,6 @@ fn says(alloc: Global, payload: &[u8], wanted: &str) -> bool {
         Ok(fields) => tell_fields(&mut text, &fields) && is_text(&text, wanted),
         Err(_) => false,
     }
-}
-
-fn tells(alloc: Global, payload: &str, wanted: &str) -> bool {
-    let mut bytes = Vec::new(alloc);
-    add_bytes(&mut bytes, payload) && says(alloc, &bytes, wanted)
 }
 
 // Each payload, and its fields.
@@ -64,14 +59,11 @@ const ROWS: [(&str, &str); 12] = [
     ("01 01 61 FF FF FF FF 0F 01 62 01 31", ""),
 ];
 
-fn each_is_told(alloc: Global, rows: &[(&str, &str)]) -> Result<(), Fail> {
-    for (payload, wanted) in rows {
-        demand(tells(alloc, payload, wanted), payload)?;
-    }
-    Ok(())
-}
-
 #[test]
 fn fields_are_read(rt: HostRuntime) -> Result<(), Fail> {
-    each_is_told(rt.alloc(), &ROWS)
+    for (text, wanted) in &ROWS {
+        let payload = bytes_of(rt.alloc(), text)?;
+        demand(says(rt.alloc(), &payload, wanted), text)?;
+    }
+    Ok(())
 }

@@ -68,7 +68,8 @@ const OTHERS: [&str; 16] = [
     "FF",
 ];
 
-const LIMITS: Limits = Limits {
+/// How many items of each kind there are, how many locals, and how many blocks are open.
+pub(crate) const LIMITS: Limits = Limits {
     functions: 5,
     globals: 5,
     types: 5,

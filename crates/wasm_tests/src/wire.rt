@@ -2,7 +2,7 @@
 
 use std::alloc::Global;
 use std::test::Fail;
-use test_support::{add_bytes, are, demand};
+use test_support::{are, bytes_of, demand};
 use wasm_wire::{Raw, RawCustom, WireError, Writer, check, read_module};
 
 fn write_declarations(writer: &mut Writer, raw: &Raw<'_>) -> bool {
@@ -88,15 +88,16 @@ fn is_read_so(alloc: Global, bytes: &[u8], answer: Answer) -> bool {
     }
 }
 
-fn is_answered(alloc: Global, text: &str, answer: Answer) -> bool {
-    let mut bytes = Vec::new(alloc);
-    add_bytes(&mut bytes, text) && is_read_so(alloc, &bytes, answer)
+/// Fails a test where these bytes aren't answered so.
+pub fn demand_answer(alloc: Global, text: &str, answer: Answer) -> Result<(), Fail> {
+    let bytes = bytes_of(alloc, text)?;
+    demand(is_read_so(alloc, &bytes, answer), text)
 }
 
 /// Fails a test where not all of these are answered so.
-pub fn each_is_answered(alloc: Global, rows: &[(&str, Answer)]) -> Result<(), Fail> {
-    for (text, answer) in rows {
-        demand(is_answered(alloc, text, *answer), text)?;
+pub fn each_is_answered(alloc: Global, rows: &[&str], answer: Answer) -> Result<(), Fail> {
+    for text in rows {
+        demand_answer(alloc, text, answer)?;
     }
     Ok(())
 }
@@ -104,7 +105,7 @@ pub fn each_is_answered(alloc: Global, rows: &[(&str, Answer)]) -> Result<(), Fa
 /// Fails a test where not all of these are written back as they are.
 pub fn each_stays(alloc: Global, rows: &[&'static str]) -> Result<(), Fail> {
     for text in rows {
-        demand(is_answered(alloc, text, Answer::Written(text)), text)?;
+        demand_answer(alloc, text, Answer::Written(text))?;
     }
     Ok(())
 }
@@ -151,35 +152,22 @@ fn faults_of_custom_sections_are_kept(rt: HostRuntime) -> Result<(), Fail> {
     each_stays(rt.alloc(), &FAULTY_SECTIONS)
 }
 
-const BROKEN: [(&str, Answer); 5] = [
+const BROKEN: [&str; 4] = [
     // a start function that takes a number
-    (
-        "00 61 73 6D 01 00 00 00 01 05 01 60 01 7F 00 03 02 01 00 08 01 00 0A 04 01 02 00 0B",
-        Answer::Refused,
-    ),
+    "00 61 73 6D 01 00 00 00 01 05 01 60 01 7F 00 03 02 01 00 08 01 00 0A 04 01 02 00 0B",
     // a global that reads a later one
-    (
-        "00 61 73 6D 01 00 00 00 06 0B 02 7F 00 23 01 0B 7F 00 41 00 0B",
-        Answer::Refused,
-    ),
+    "00 61 73 6D 01 00 00 00 06 0B 02 7F 00 23 01 0B 7F 00 41 00 0B",
     // a table whose initialiser reads a global that isn't imported
-    (
-        "00 61 73 6D 01 00 00 00 04 09 01 40 00 70 00 00 23 00 0B 06 06 01 70 00 D0 70 0B",
-        Answer::Refused,
-    ),
+    "00 61 73 6D 01 00 00 00 04 09 01 40 00 70 00 00 23 00 0B 06 06 01 70 00 D0 70 0B",
     // an offset of 64 bits into a memory of 32 bits
-    (
-        "00 61 73 6D 01 00 00 00 05 03 01 00 01 0C 01 01 0B 08 01 02 00 42 00 0B 01 AA",
-        Answer::Refused,
-    ),
-    // a constant expression without an operator
-    (
-        "00 61 73 6D 01 00 00 00 06 04 01 7F 00 0B",
-        Answer::Malformed,
-    ),
+    "00 61 73 6D 01 00 00 00 05 03 01 00 01 0C 01 01 0B 08 01 02 00 42 00 0B 01 AA",
 ];
+
+// A constant expression without an operator.
+const NO_OPERATOR: &str = "00 61 73 6D 01 00 00 00 06 04 01 7F 00 0B";
 
 #[test]
 fn modules_that_break_a_rule_are_refused(rt: HostRuntime) -> Result<(), Fail> {
-    each_is_answered(rt.alloc(), &BROKEN)
+    each_is_answered(rt.alloc(), &BROKEN, Answer::Refused)?;
+    demand_answer(rt.alloc(), NO_OPERATOR, Answer::Malformed)
 }

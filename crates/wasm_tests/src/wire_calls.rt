@@ -2,7 +2,7 @@
 
 use std::alloc::Global;
 use std::test::Fail;
-use test_support::{add_bytes, are, demand};
+use test_support::{are, bytes_of, demand};
 use wasm_wire::{
     Raw, RawComp, RawConst, RawCustom, RawFuncType, RawGroup, RawLimits, RawSub, Writer, check,
     code_places, leb128_len, measure_code, read_module, written_module,
@@ -89,21 +89,15 @@ fn are_placed(raw: &Raw<'_>, writer: &mut Writer) -> bool {
     }
 }
 
-fn is_code_placed(alloc: Global, bytes: &[u8]) -> bool {
-    match read_module(alloc, bytes) {
-        Ok(raw) => matches!(measure_code(&raw.bodies), Ok(9))
-            && are_placed(&raw, &mut Writer::new(alloc)),
-        Err(_) => false,
-    }
+fn is_code_placed(alloc: Global, raw: &Raw<'_>) -> bool {
+    matches!(measure_code(&raw.bodies), Ok(9)) && are_placed(raw, &mut Writer::new(alloc))
 }
 
 #[test]
 fn bodies_have_their_places(rt: HostRuntime) -> Result<(), Fail> {
-    let mut bytes = Vec::new(rt.alloc());
-    demand(
-        add_bytes(&mut bytes, TWO_FUNCTIONS) && is_code_placed(rt.alloc(), &bytes),
-        TWO_FUNCTIONS,
-    )
+    let bytes = bytes_of(rt.alloc(), TWO_FUNCTIONS)?;
+    let raw = read_module(rt.alloc(), &bytes)?;
+    demand(is_code_placed(rt.alloc(), &raw), TWO_FUNCTIONS)
 }
 
 // An exported function, with custom sections `a`, `dylink.0` and `b` between its sections, and what is written of it.
@@ -120,20 +114,11 @@ fn is_whole_written(alloc: Global, raw: &Raw<'_>, text: &str) -> bool {
     }
 }
 
-fn are_gathered(alloc: Global, bytes: &[u8]) -> bool {
-    match read_module(alloc, bytes) {
-        Ok(raw) => is_whole_written(alloc, &raw, GATHERED),
-        Err(_) => false,
-    }
-}
-
 #[test]
 fn custom_sections_have_their_places(rt: HostRuntime) -> Result<(), Fail> {
-    let mut bytes = Vec::new(rt.alloc());
-    demand(
-        add_bytes(&mut bytes, SCATTERED) && are_gathered(rt.alloc(), &bytes),
-        SCATTERED,
-    )
+    let bytes = bytes_of(rt.alloc(), SCATTERED)?;
+    let raw = read_module(rt.alloc(), &bytes)?;
+    demand(is_whole_written(rt.alloc(), &raw, GATHERED), SCATTERED)
 }
 
 // Where the count and the body of the code section stand in GATHERED: behind 8 bytes of the header, 12 of `dylink.0`, 6 of the type, 4 of the
@@ -145,18 +130,9 @@ fn is_code_told(alloc: Global, raw: &Raw<'_>) -> bool {
     }
 }
 
-fn is_code_told_unwritten(alloc: Global, bytes: &[u8]) -> bool {
-    match read_module(alloc, bytes) {
-        Ok(raw) => is_code_told(alloc, &raw),
-        Err(_) => false,
-    }
-}
-
 #[test]
 fn code_has_its_places_unwritten(rt: HostRuntime) -> Result<(), Fail> {
-    let mut bytes = Vec::new(rt.alloc());
-    demand(
-        add_bytes(&mut bytes, SCATTERED) && is_code_told_unwritten(rt.alloc(), &bytes),
-        SCATTERED,
-    )
+    let bytes = bytes_of(rt.alloc(), SCATTERED)?;
+    let raw = read_module(rt.alloc(), &bytes)?;
+    demand(is_code_told(rt.alloc(), &raw), SCATTERED)
 }
