@@ -57,6 +57,45 @@ enum {
 /* What stands in a list for the length of a name that isn't there. */
 #define MULKAVESH_NO_NAME UINT32_MAX
 
+/* What is wrong with bytes: the first number that mulkavesh_diagnose tells. */
+enum {
+  /* Nothing: the bytes are accepted. The second number is 0. */
+  MULKAVESH_FAULT_NONE = 0,
+  /* The bytes don't begin as a WebAssembly module. The second number is 0. */
+  MULKAVESH_FAULT_HEADER = 1,
+  /* No well-formed section stands at a byte. The second number is its place from the start of the input; whole sections stand up to there. */
+  MULKAVESH_FAULT_SECTION = 2,
+  /* A rule on the whole is broken. The second number says which. */
+  MULKAVESH_FAULT_RULE = 3,
+  /* The body of a function isn't made of allowed instructions, well nested, with declared indices. The second number is the function's index,
+   * where imported ones come first; the bodies before it are well made. */
+  MULKAVESH_FAULT_BODY = 4
+};
+
+/* The rules on the whole: the second number that mulkavesh_diagnose tells behind MULKAVESH_FAULT_RULE. */
+enum {
+  /* The sections stand out of order, or one stands twice. */
+  MULKAVESH_RULE_ORDER = 1,
+  /* A type names one that isn't declared by the end of its group, or has a supertype that isn't before it, or more than one. */
+  MULKAVESH_RULE_TYPES = 2,
+  /* An index names something that isn't declared, or isn't yet. */
+  MULKAVESH_RULE_INDICES = 3,
+  /* A function or a tag has a type that is no function type. */
+  MULKAVESH_RULE_FUNCTION_TYPES = 4,
+  /* The limits of a table or a memory aren't allowed. */
+  MULKAVESH_RULE_LIMITS = 5,
+  /* The number of bodies or of data segments isn't the one that is declared. */
+  MULKAVESH_RULE_COUNTS = 6,
+  /* Two exports have the same name. */
+  MULKAVESH_RULE_EXPORT_NAMES = 7,
+  /* The start function has parameters or results. */
+  MULKAVESH_RULE_START = 8,
+  /* The offset of a segment isn't of the type of addresses. */
+  MULKAVESH_RULE_OFFSETS = 9,
+  /* A body declares more than 50,000 locals. */
+  MULKAVESH_RULE_LOCALS = 10
+};
+
 /* The version of the library: the major number times 2^16, the minor one times 2^8, and the patch. */
 #define MULKAVESH_VERSION 0x000100u
 uint32_t mulkavesh_version(void);
@@ -67,6 +106,11 @@ uint32_t mulkavesh_gc(const uint8_t *input, size_t input_length, uint32_t flags,
 /* How many items of each kind mulkavesh_gc keeps and drops, a line each: `functions kept 19 dropped 1`. Seven lines, as of --report; of the
  * flags MULKAVESH_NO_LEGACY alone has a say. */
 uint32_t mulkavesh_report(const uint8_t *input, size_t input_length, uint32_t flags, uint8_t *output, size_t room, size_t *length);
+
+/* What is wrong with bytes that aren't accepted: eight bytes, two numbers of 32 bits, little-endian, a MULKAVESH_FAULT_.. and what it says stands in
+ * the second one. Both are 0 exactly where the bytes are accepted. Where several things are wrong, one of them is told. The status is never
+ * MULKAVESH_INVALID; MULKAVESH_TOO_LARGE is for a second number past 32 bits. Of the flags MULKAVESH_NO_LEGACY alone has a say. */
+uint32_t mulkavesh_diagnose(const uint8_t *input, size_t input_length, uint32_t flags, uint8_t *output, size_t room, size_t *length);
 
 /* The functions with a body that mulkavesh_gc keeps, by rising index. For each of them three numbers of 32 bits, little-endian: its index in the input,
  * the bytes of its body in the output, and the length of its name in the input or MULKAVESH_NO_NAME; and then the name, in UTF-8. Of the flags

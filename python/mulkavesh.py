@@ -12,7 +12,8 @@ first, so that nothing can change them during the call. Other threads go on mean
 a process with threads no call may be made (`multiprocessing` with the start method "fork").
 
 Each call with a module raises `InvalidModule` where the bytes are no module that keeps the rules, `TooLarge` where what is to be written
-has a count or a size past 32 bits, and `MemoryError`. `strip`, `why`, `snip` and `stub` also raise `NotFound`.
+has a count or a size past 32 bits, and `MemoryError`. `strip`, `why`, `snip` and `stub` also raise `NotFound`. `diagnose` never raises
+`InvalidModule`: it says what is wrong with such bytes.
 """
 import ctypes
 import ctypes.util
@@ -25,8 +26,8 @@ from dataclasses import dataclass
 from typing import Any, Dict, Iterator, List, Optional, Tuple, Type, Union
 
 __all__ = [
-    "Function", "InvalidModule", "MulkaveshError", "NotFound", "TooLarge",
-    "gc", "list_functions", "report", "snip", "strip", "stub", "version", "why",
+    "Fault", "FaultKind", "Function", "InvalidModule", "MulkaveshError", "NotFound", "Rule", "TooLarge",
+    "diagnose", "gc", "list_functions", "report", "snip", "strip", "stub", "version", "why",
 ]
 
 Bytes = Union[bytes, bytearray, memoryview]
@@ -70,6 +71,66 @@ class Function:
     name: Optional[str]
 
 
+class FaultKind(enum.IntEnum):
+    """What a fault is of: the header, a section, a rule on the whole, or a body."""
+
+    HEADER = 1
+    SECTION = 2
+    RULE = 3
+    BODY = 4
+
+
+class Rule(enum.IntEnum):
+    """A rule on the sections of a module as a whole."""
+
+    ORDER = 1
+    TYPES = 2
+    INDICES = 3
+    FUNCTION_TYPES = 4
+    LIMITS = 5
+    COUNTS = 6
+    EXPORT_NAMES = 7
+    START = 8
+    OFFSETS = 9
+    LOCALS = 10
+
+
+# What is said where a rule is broken.
+_BROKEN: Dict[Rule, str] = {
+    Rule.ORDER: "the sections stand out of order, or one stands twice",
+    Rule.TYPES: "a type names one that isn't declared by the end of its group, or has a supertype that isn't before it, or more than one",
+    Rule.INDICES: "an index names something that isn't declared, or isn't yet",
+    Rule.FUNCTION_TYPES: "a function or a tag has a type that is no function type",
+    Rule.LIMITS: "the limits of a table or a memory aren't allowed",
+    Rule.COUNTS: "the number of bodies or of data segments isn't the one that is declared",
+    Rule.EXPORT_NAMES: "two exports have the same name",
+    Rule.START: "the start function has parameters or results",
+    Rule.OFFSETS: "the offset of a segment isn't of the type of addresses",
+    Rule.LOCALS: "a body declares more than 50,000 locals",
+}
+
+
+@dataclass(frozen=True)
+class Fault:
+    """What is wrong with bytes that are no module. `str` says it in plain words.
+
+    The number is 0 for the header; for a section the place, in bytes from the start, where none stands; for a rule the `Rule` that is broken;
+    and for a body the index of its function, where imported ones come first.
+    """
+
+    kind: FaultKind
+    number: int
+
+    def __str__(self) -> str:
+        if self.kind == FaultKind.HEADER:
+            return "the bytes don't begin as a WebAssembly module"
+        if self.kind == FaultKind.SECTION:
+            return f"no well-formed section stands at byte {self.number} (0x{self.number:X})"
+        if self.kind == FaultKind.RULE:
+            return _BROKEN[Rule(self.number)]
+        return f"the body of function {self.number} isn't made of allowed instructions, well nested, with declared indices"
+
+
 # ---- the library
 
 _LIBRARY = "libmulkavesh.so"
@@ -81,6 +142,7 @@ _WRITTEN = (ctypes.c_void_p, ctypes.c_size_t, ctypes.POINTER(ctypes.c_size_t))
 _BETWEEN: Dict[str, Tuple[Any, ...]] = {
     "gc": (ctypes.c_uint32,),
     "report": (ctypes.c_uint32,),
+    "diagnose": (ctypes.c_uint32,),
     "list": (ctypes.c_uint32,),
     "strip": (ctypes.c_uint32, *_READ),
     "why": (ctypes.c_uint32,),
@@ -135,6 +197,8 @@ _library = _loaded()
 _MARGIN = 256
 # Seven lines of a word and two numbers of ten digits are shorter, and some two hundred lines of a chain.
 _ROOM_OF_A_REPORT, _ROOM_OF_A_CHAIN = 512, 4096
+# What is wrong, and the place, the rule or the index.
+_FAULT = struct.Struct("<II")
 # The flags.
 _NO_NAMES, _NO_PRODUCERS, _NO_LEGACY = 1, 2, 4
 # The numbers in front of each name in a list, and what stands there for the length of a name that isn't there.
@@ -213,6 +277,17 @@ def gc(module: Bytes, *, names: bool = True, producers: bool = True, legacy: boo
 def report(module: Bytes, *, legacy: bool = True) -> str:
     """How many items of each kind `gc` keeps and drops, in seven lines as `functions kept 19 dropped 1`. Imported ones count too."""
     return _answer("report", module, _flags(True, True, legacy), room=_ROOM_OF_A_REPORT).decode()
+
+
+def diagnose(module: Bytes, *, legacy: bool = True) -> Optional[Fault]:
+    """What is wrong with bytes that the other calls refuse as `InvalidModule`, or None exactly where they are accepted.
+
+    Where several things are wrong, one of them is told. `TooLarge` where a place or an index passes 32 bits.
+    """
+    kind, number = _FAULT.unpack(_answer("diagnose", module, _flags(True, True, legacy), room=_FAULT.size))
+    if kind == 0:
+        return None
+    return Fault(FaultKind(kind), Rule(number) if kind == FaultKind.RULE else number)
 
 
 def list_functions(module: Bytes, *, legacy: bool = True) -> List[Function]:

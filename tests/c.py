@@ -5,7 +5,8 @@
 
 STATIC and SHARED are tests/c/call.c over the two libraries, REFUSED is refused.c as a shared library, COUNT says how many mutants, and FOLDER.. hold modules:
 those with a file NAME.expect are rows, whose words stand in NAME.args. The calls `gc` and `report` are held against the program: the same bytes, and the status
-that its own one and what it tells come to. The other calls are held against what stands in the modules themselves. Prints the finds and the counts.
+that its own one and what it tells come to. So is `diagnose`, which has to say that nothing is wrong exactly where the program accepts, and against the faults
+that were worked out by hand (tests/faults.txt). The other calls are held against what stands in the modules themselves. Prints the finds and the counts.
 """
 import collections
 import concurrent.futures
@@ -18,8 +19,12 @@ sys.dont_write_bytecode = True
 from hostile import bodies, mutated, number, sections
 from refused import requests_of
 
+FAULTS = pathlib.Path(__file__).resolve().parent / "faults.txt"
 SEED = 73
 NO_NAME = 2**32 - 1
+# The kinds of what is wrong with bytes.
+NONE, HEADER, SECTION, RULE, BODY = range(5)
+RULES = 10
 NOT_FOUND = 6
 WORDS = {"--no-names": 1, "--no-producers": 2, "--no-legacy": 4}
 UNKNOWN_WORD = 8
@@ -119,6 +124,64 @@ def beside_the_program(program, callers, data, words):
             yield f"{name} {flags}: status {found[0]} and {len(found[1])} bytes, and not {wanted[0]} and {len(wanted[1])}"
 
 
+def faults():
+    """The faults that were worked out by hand: a name, the flags, what is to be answered, and the bytes."""
+    why = ""
+    for line in FAULTS.read_text(encoding="utf-8").splitlines():
+        why = line.removeprefix("# ") if line.startswith("#") else why
+        if line and not line.startswith("#"):
+            numbers, data, _ = line.split("|")
+            flags, *wanted = map(int, numbers.split())
+            yield why, flags, tuple(wanted), bytes.fromhex(data)
+
+
+def fault_of(caller, data, flags):
+    """The two numbers that are answered of the bytes, or the status where they aren't."""
+    status, told = call(caller, "diagnose", data, flags)
+    return (int.from_bytes(told[:4], "little"), int.from_bytes(told[4:], "little")) if status == 0 and len(told) == 8 else f"status {status} and {len(told)} bytes"
+
+
+def as_worked_out(callers, data, flags, wanted):
+    """Where a caller answers otherwise of bytes whose fault is known."""
+    for caller in callers:
+        found = fault_of(caller, data, flags)
+        if found != wanted:
+            yield f"diagnose {flags}: {found}, and not {wanted}"
+
+
+def ends_sections(data, place):
+    """Whether whole sections, by their sizes, stand behind the header up to this place, and bytes are left there."""
+    at = 8
+    while at < place:
+        size, at = number(data, at + 1)
+        at += size
+    return at == place < len(data)
+
+
+def can_be(data, kind, of_it):
+    """Whether this can be wrong with the bytes, by their framing."""
+    if kind == HEADER or not data.startswith(b"\0asm\1\0\0\0"):
+        return kind == HEADER and of_it == 0 and not data.startswith(b"\0asm\1\0\0\0")
+    if kind == SECTION:
+        return ends_sections(data, of_it)
+    if kind == RULE:
+        return sections(data) is not None and 1 <= of_it <= RULES
+    imported = sum(kind_of == 0 for _, kind_of in imports(data)) if kind == BODY else 0
+    return (kind, of_it) == (NONE, 0) or kind == BODY and 0 <= of_it - imported < len(bodies(section(data, 10)))
+
+
+def diagnosed(program, callers, data, flags):
+    """Where what is said to be wrong isn't nothing exactly where the program accepts, or can't be; the sections before a place have to be well-formed."""
+    words = ["--no-legacy"] if flags else []
+    accepts = by_program(program, words, data)[0] in (0, 2)
+    for caller in callers:
+        found = fault_of(caller, data, flags)
+        if (found == (NONE, 0)) != accepts or isinstance(found, str) or not can_be(data, *found):
+            yield f"diagnose {flags}: {found}, and the program {'accepts' if accepts else 'refuses'} it"
+        elif found[0] == SECTION and fault_of(caller, data[: found[1]], flags)[0] not in (NONE, RULE, BODY):
+            yield f"diagnose {flags}: {found}, and what stands in front of the place isn't well-formed either"
+
+
 def in_the_list(caller, data, flags):
     """Where a list isn't that of the bodies that are written, and of their names."""
     (status, listed), (_, output) = call(caller, "list", data, flags), call(caller, "gc", data, 0)
@@ -213,15 +276,15 @@ def snipped_and_stubbed(program, caller, data):
         yield "stub: an import that isn't there"
 
 
-def refused_in_turn(caller, refused, data, name, *words):
-    """Where a call of which one request for memory fails ends otherwise than with ample memory, or as having too little."""
+def refused_in_turn(caller, refused, data, least, name, *words):
+    """Where a call of which one request for memory fails ends otherwise than with ample memory, or as having too little; and fewer requests than the least."""
     command = [caller, name, *map(str, words)]
     ample, count = requests_of(command, data, refused)
     for which in range(1, count + 1):
         ended = subprocess.run(command, input=data, capture_output=True, env={"LD_PRELOAD": refused, "REFUSED": str(which)}, timeout=120, check=False)
         if (ended.returncode, ended.stdout) not in (ample[:2], OUT_OF_MEMORY):
             yield f"{name}, request {which} refused: status {ended.returncode}"
-    if count < 10:
+    if count < least:
         yield f"{name}: only {count} requests"
 
 
@@ -274,17 +337,23 @@ def main():
     ways = [[word for word, flag in WORDS.items() if flags & flag] + more for flags in range(8) for more in ([], ["--report"])]
     tries.all("modules under each flag", ((path.name, beside_the_program, program, callers, data[path], words) for path in modules for words in [*ways, ["--no-such-word"]]))
     tries.all("rows", ((path.name, beside_the_program, program, callers, data[path], words_of(path)) for path in rows))
+    tries.all("faults that were worked out by hand", ((why, as_worked_out, callers, given, flags, wanted) for why, flags, wanted, given in faults()))
+    both = [(path.name, diagnosed, program, callers, data[path], flags) for path in [*modules, *rows] for flags in (0, 4)]
+    tries.all("diagnoses of modules and rows", both)
     taken = [path for path in modules if call(static, "gc", data[path])[0] == 0]
     small = [path for path in taken if len(data[path]) < 100_000]
     tries.all("lists", ((path.name, in_the_list, static, data[path], flags) for path in taken for flags in (0, 3)))
     others = (lambda it: (it.name, in_the_chains, static, data[it]), lambda it: (it.name, stripped, static, data[it]), lambda it: (it.name, snipped_and_stubbed, program, static, data[it]))
     tries.all("chains, sections, exports and imports", (one(path) for path in small if len(data[path]) < 12_000 for one in others))
     bases = [data[path] for path in small]
-    mutants = (mutated(random.Random(f"{SEED}:{i}"), bases) for i in range(int(count)))
+    mutants = [mutated(random.Random(f"{SEED}:{i}"), bases) for i in range(int(count))]
     tries.all("mutants", ((f"mutant {i}", beside_the_program, program, [callers[i % 2]], mutant, ways[i % 16]) for i, mutant in enumerate(mutants)))
+    tries.all("diagnoses of mutants", ((f"mutant {i}", diagnosed, program, [callers[i % 2]], mutant, i % 4 // 2 * 4) for i, mutant in enumerate(mutants)))
     calls = (("gc", 0), ("report", 0), ("list", 0), ("why", 0), ("strip", 0, "target_features"), ("snip", 0, "fill"), ("stub", 0, "env"))
     tiny = [path for path in small if len(data[path]) < MOST_BYTES_REFUSED]
-    tries.all("calls of which each request for memory was refused in turn", ((path.name, refused_in_turn, static, refused, data[path], *one) for path in tiny for one in calls))
+    inputs = [*((path.name, data[path], 10, *one) for path in tiny for one in calls), *((path.name, data[path], 1, "diagnose", 0) for path in tiny)]
+    inputs += [(why, given, 0, "diagnose", flags) for why, flags, _, given in faults()]
+    tries.all("calls of which each request for memory was refused in turn", ((name, refused_in_turn, static, refused, *one) for name, *one in inputs))
     sys.exit(tries.finds > 0 or not taken)
 
 

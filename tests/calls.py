@@ -121,7 +121,7 @@ def handed_on(module):
     named = re.findall(ITEM.replace(r"(?:\(crate\))?", "") + r"(\w+)", text, re.M)
     for line in re.findall(r"^pub use [^;]*;", text, re.M):
         names = uses(file_of("walrus", module))
-        named += [("", name) for name in re.findall(r"\w+", line) if name in names]
+        named += [("", name) for name in re.findall(r"\w+", line.rpartition("::")[2]) if name in names]
     for kind, name in dict.fromkeys(named):
         if kind != "mod":
             yield module, name, find("walrus", module, name)

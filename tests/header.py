@@ -2,8 +2,9 @@
 """Compares include/mulkavesh.h with the signatures of crates/mulkavesh_c, and rust/mulkavesh-sys and python/mulkavesh.py with the header.
 
 A slice is a pointer and its length, a `&mut usize` a pointer, and a `Global` nothing. Compared are the names, the types and the order of the
-parameters, the constants, and the version with those of the packages; no compiler is needed. Prints what differs, a line each, and ends with status 1 where
-there is any.
+parameters, the constants (those of what is wrong with bytes are numbers of crates/walrus_tools), the words of docs/FORMATS.md for these with the header's
+comments and with tests/faults.txt, and the version with those of the packages; no compiler is needed. Prints what differs, a line each, and ends with
+status 1 where there is any.
 """
 import pathlib
 import re
@@ -57,10 +58,19 @@ def differing(what, wanted, found):
             yield f"{what}: {name} is {found.get(name)}, and not {wanted.get(name)}"
 
 
+def faults_of_sources():
+    """The kinds of what is wrong with bytes, and the rules, by the names that the header gives them."""
+    text = read("crates", "walrus_tools", "src", "diagnosing.rt")
+    kinds = re.findall(r"(None|Fault::\w+)(?:\(\w+\))?\)? => \((\d+),", text)
+    yield from ((f"FAULT_{name.removeprefix('Fault::').upper()}", int(number)) for name, number in kinds)
+    for name, number in re.findall(r"BrokenRule::(\w+) => (\d+),", text):
+        yield "RULE" + re.sub(r"([A-Z])", r"_\1", name).upper(), int(number)
+
+
 def constants_of_sources():
-    """The statuses, flags and the version, by the names that the header gives them."""
+    """The statuses, flags, the version, and what is wrong with bytes, by the names that the header gives them."""
     text = "".join(path.read_text(encoding="utf-8") for path in sorted((CRATES / CRATE / "src").glob("*.rt")))
-    return {name: int(number) for name, number in re.findall(r"const (\w+): u32 = (\d+);", text)}
+    return {**{name: int(number) for name, number in re.findall(r"const (\w+): u32 = (\d+);", text)}, **dict(faults_of_sources())}
 
 
 def constants_of_header(text):
@@ -73,8 +83,38 @@ def constants_of_rust(text):
 
 
 def constants_of_python(text):
-    numbers = re.search(r"class Status\(.*?(?=\n\n\n)", text, re.S)
-    return {name: int(number) for name, number in re.findall(r"^    ([A-Z_]+) = (\d+)", numbers[0], re.M)}
+    found = {}
+    for of_python, front in (("Status", ""), ("FaultKind", "FAULT_"), ("Rule", "RULE_")):
+        numbers = re.search(rf"class {of_python}\(.*?(?=\n\n\n)", text, re.S)
+        found.update((front + name, int(number)) for name, number in re.findall(r"^    ([A-Z_]+) = (\d+)", numbers[0], re.M))
+    return found
+
+
+def words_of_documents():
+    """The rows of docs/FORMATS.md that say in words what is wrong with bytes: the name of each, and the words, up to what differs from one to the other."""
+    section = read("docs", "FORMATS.md").partition("\n## What is wrong with bytes\n")[2].partition("\n## ")[0]
+    for name, words in re.findall(r"^\|[^|]*`(\w+)`[^|]* \|[^|]*\| ([^|]*) \|$", section, re.M):
+        yield name, words
+
+
+def words_of_tests():
+    """The words of tests/faults.txt, to which those of Rust, Python and JavaScript are held, with the place and the index of docs/FORMATS.md."""
+    for words in re.findall(r"^\d[^|]*\|[^|]*\| (.+)$", read("tests", "faults.txt"), re.M):
+        yield re.sub(r"of function \d+", "of function 7", re.sub(r"byte \d+ \(0x[0-9A-F]+\)", "byte 1234 (0x4D2)", words))
+
+
+def unlike_the_words(header):
+    """Where the header or the tests have other words than docs/FORMATS.md; the header has no place of a section and no index of a function."""
+    told = re.sub(r"\s*\n \*\s*|\s+", " ", header)
+    rows = dict(words_of_documents())
+    for words in sorted({*words_of_tests()} ^ {*rows.values()}):
+        yield f"tests/faults.txt and docs/FORMATS.md: only one of them says: {words}"
+    for name, words in rows.items():
+        wanted = words.replace("byte 1234 (0x4D2)", "a byte").replace("of function 7", "of a function")
+        if f"{wanted[0].upper()}{wanted[1:]}." not in told:
+            yield f"include/mulkavesh.h: no comment says of {name}: {wanted}"
+    if len(rows) != 13:
+        yield f"docs/FORMATS.md: {len(rows)} rows say what is wrong with bytes, and not 13"
 
 
 def versions(number):
@@ -92,6 +132,7 @@ def wrong():
     header = read("include", "mulkavesh.h")
     yield from differing("include/mulkavesh.h", sources, dict(of_header(header)))
     yield from differing("include/mulkavesh.h", constants, constants_of_header(header))
+    yield from unlike_the_words(header)
     rust = read("rust", "mulkavesh-sys", "src", "lib.rs")
     if rust is not None:
         yield from differing("rust/mulkavesh-sys", sources, dict(of_rust(rust)))
@@ -99,8 +140,9 @@ def wrong():
         yield from differing("rust/mulkavesh-sys", numbers, constants_of_rust(rust))
     python = read("python", "mulkavesh.py")
     if python is not None:
-        statuses = {name: number for name, number in constants.items() if name not in ("VERSION", "NO_NAMES", "NO_PRODUCERS", "NO_LEGACY")}
-        yield from differing("python/mulkavesh.py", statuses, constants_of_python(python))
+        others = ("VERSION", "NO_NAMES", "NO_PRODUCERS", "NO_LEGACY", "FAULT_NONE")
+        numbers = {name: number for name, number in constants.items() if name not in others}
+        yield from differing("python/mulkavesh.py", numbers, constants_of_python(python))
     yield from versions(constants["VERSION"])
 
 

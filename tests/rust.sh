@@ -2,9 +2,10 @@
 # Calls the library from Rust: tests/rust.sh [FOLDER [PROGRAM]], the static library that tests/build.sh mulkavesh_c left and the proved program where none are
 # given, or those of tests/unproved.sh. The crates stand in rust; they need no others, so nothing is fetched, and nothing is left in the tree.
 #   header.py    the declarations of mulkavesh-sys are compared with the sources
-#   cargo test   each call on worked modules, in the tests and in the docs, and on those of tests/samples and ../shared/samples (where it is there): `gc` and
-#                `report` beside the program, over mutants of the small ones too, and the other calls beside one another; in four threads at once
-#   shrink_last  the example, on a module in a file: it is what the program writes, alone; and what is refused stays as it was
+#   cargo test   each call on worked modules, in the tests and in the docs, `diagnose` on the bytes of faults.txt, and all on those of tests/samples and
+#                ../shared/samples (where it is there): `gc`, `report` and `diagnose` beside the program, over mutants of the small ones too, and the
+#                other calls beside one another; in four threads at once
+#   shrink_last  the example, on a module in a file: it is what the program writes, alone; and what is refused stays as it was, and what is wrong is told
 # Prints the counts and a line for each find. Where there is no cargo, nothing is run, and the status is 2. Half a minute of one processor.
 set -eu
 top=$(cd "$(dirname "$0")/.." && pwd)
@@ -32,6 +33,7 @@ shrinks() {
   "$MULKAVESH_PROGRAM" --no-names < "$work/files/module" > "$work/wanted"
   "$CARGO_TARGET_DIR/debug/examples/shrink_last" --no-names "$work/files/module" > "$work/said" 2>&1 || return 1
   ! "$CARGO_TARGET_DIR/debug/examples/shrink_last" "$work/files/other" 2>> "$work/said" || return 1
+  grep -q "invalid: the bytes don't begin as a WebAssembly module" "$work/said" || return 1
   cmp "$work/files/module" "$work/wanted" && [ "$(cat "$work/files/other")" = "no module" ] && [ "$(find "$work/files" -type f | wc -l)" = 2 ]
 }
 

@@ -6,7 +6,7 @@ export interface Options {
   names?: boolean;
   /** Whether producers are written, `walrus` 0.28.0 among them. */
   producers?: boolean;
-  /** Whether bodies with legacy exceptions are taken; of `report` and `list` this one alone has a say. */
+  /** Whether bodies with legacy exceptions are taken; of `report`, `diagnose` and `list` this one alone has a say. */
   legacy?: boolean;
 }
 
@@ -22,12 +22,27 @@ export interface Listed {
   name: string | null;
 }
 
-/** The calls. Each may throw InvalidModule, TooLarge, OutOfMemory and Trapped. */
+/** A rule on the sections of a module as a whole. */
+export type Rule = 'Order' | 'Types' | 'Indices' | 'FunctionTypes' | 'Limits' | 'Counts' | 'ExportNames' | 'Start' | 'Offsets' | 'Locals';
+
+/**
+ * What is wrong with bytes that are no module: the header; the place, in bytes from the start, where no section stands; the rule that is broken; or the index of
+ * a function whose body isn't well made, where imported ones come first. `text` says it in plain words.
+ */
+export type Fault =
+  | { kind: 'header'; text: string }
+  | { kind: 'section'; place: number; text: string }
+  | { kind: 'rule'; rule: Rule; text: string }
+  | { kind: 'body'; index: number; text: string };
+
+/** The calls. Each may throw InvalidModule, TooLarge, OutOfMemory and Trapped, but `diagnose` never the first. */
 export interface Mulkavesh {
   /** The module without what nothing reaches: the bytes that the program walrus-gc writes. */
   gc(input: Bytes, options?: Options): Uint8Array;
   /** How many items of each kind `gc` keeps and drops, in seven lines. */
   report(input: Bytes, options?: Options): string;
+  /** What is wrong with bytes that the others refuse as invalid, or null exactly where they are accepted. */
+  diagnose(input: Bytes, options?: Options): Fault | null;
   /** The functions with a body that `gc` keeps, by rising index. */
   list(input: Bytes, options?: Options): Listed[];
   /** The module without its first custom section of this name, or NotFound; what nothing reaches stays. */

@@ -4,7 +4,7 @@
 //     const { gc } = await load();
 //     const smaller = gc(module, { names: false });
 //
-// Each call goes from the bytes of a module to bytes, a text or a list, and keeps nothing. mulkavesh.d.ts says what each takes and answers.
+// Each call goes from the bytes of a module to bytes, a text, a list or a fault, and keeps nothing. mulkavesh.d.ts says what each takes and answers.
 
 /** A call was refused; `code` is one of INVALID, TOO_LARGE, NO_MEMORY, NOT_FOUND, TRAPPED and UNKNOWN_STATUS. */
 export class MulkaveshError extends Error {
@@ -37,6 +37,8 @@ const FLAGS = { names: 1, producers: 2, legacy: 4 };
 const MARGIN = 256;
 // Seven lines of a word and two numbers of ten digits are shorter, and some two hundred lines of a chain.
 const ROOM_OF_A_REPORT = 512;
+// Two numbers of 32 bits.
+const ROOM_OF_A_FAULT = 8;
 const ROOM_OF_A_CHAIN = 4096;
 // Memory of WebAssembly never shrinks: an instance that has come to more is left behind.
 const MOST_MEMORY = 64 * 1024 * 1024;
@@ -127,6 +129,34 @@ function listOf(bytes) {
   return found;
 }
 
+// The rules on the whole, by their numbers from 1 on, and what is said where one is broken.
+const RULES = [
+  ['Order', 'the sections stand out of order, or one stands twice'],
+  ['Types', "a type names one that isn't declared by the end of its group, or has a supertype that isn't before it, or more than one"],
+  ['Indices', "an index names something that isn't declared, or isn't yet"],
+  ['FunctionTypes', 'a function or a tag has a type that is no function type'],
+  ['Limits', "the limits of a table or a memory aren't allowed"],
+  ['Counts', "the number of bodies or of data segments isn't the one that is declared"],
+  ['ExportNames', 'two exports have the same name'],
+  ['Start', 'the start function has parameters or results'],
+  ['Offsets', "the offset of a segment isn't of the type of addresses"],
+  ['Locals', 'a body declares more than 50,000 locals'],
+];
+
+// What is wrong, by its kind and the number behind that.
+const FAULTS = [
+  () => null,
+  () => ({ kind: 'header', text: "the bytes don't begin as a WebAssembly module" }),
+  (place) => ({ kind: 'section', place, text: `no well-formed section stands at byte ${place} (0x${place.toString(16).toUpperCase()})` }),
+  (number) => ({ kind: 'rule', rule: RULES[number - 1][0], text: RULES[number - 1][1] }),
+  (index) => ({ kind: 'body', index, text: `the body of function ${index} isn't made of allowed instructions, well nested, with declared indices` }),
+];
+
+function faultOf(bytes) {
+  const view = new DataView(bytes.buffer);
+  return FAULTS[view.getUint32(0, true)](view.getUint32(4, true));
+}
+
 // What holds the instance: one call at a time, since none of them waits.
 function caller(module) {
   let exports = null;
@@ -159,6 +189,7 @@ function callsOver(module) {
   return Object.freeze({
     gc: (input, options) => whole('gc', bytesOf(input), [flagsOf(options)]),
     report: (input, options) => decoder.decode(call('report', bytesOf(input), [flagsOf(options)], ROOM_OF_A_REPORT)),
+    diagnose: (input, options) => faultOf(call('diagnose', bytesOf(input), [flagsOf(options)], ROOM_OF_A_FAULT)),
     list: (input, options) => listOf(whole('list', bytesOf(input), [flagsOf(options)])),
     strip: (input, name, options) => whole('strip', bytesOf(input), [flagsOf(options), nameOf(name)]),
     why: (input, index) => decoder.decode(call('why', bytesOf(input), [indexOf(index)], ROOM_OF_A_CHAIN)),

@@ -20,7 +20,7 @@ from unittest import mock
 
 import mulkavesh
 import packing
-from mulkavesh import Function, InvalidModule, MulkaveshError, NotFound, TooLarge
+from mulkavesh import Fault, FaultKind, Function, InvalidModule, MulkaveshError, NotFound, Rule, TooLarge
 from tests import worked
 
 HERE = pathlib.Path(__file__).resolve().parent.parent
@@ -29,6 +29,7 @@ HEADER = HERE.parent / "include" / "mulkavesh.h"
 CALLS: Dict[str, Callable[[Any], Any]] = {
     "gc": mulkavesh.gc,
     "report": mulkavesh.report,
+    "diagnose": mulkavesh.diagnose,
     "list": mulkavesh.list_functions,
     "strip": lambda module: mulkavesh.strip(module, "a"),
     "why": lambda module: mulkavesh.why(module, 0),
@@ -70,6 +71,26 @@ class Answers(unittest.TestCase):
 
     def test_report(self) -> None:
         self.assertEqual(mulkavesh.report(worked.TWO), worked.REPORT)
+
+    def test_diagnose(self) -> None:
+        self.assertIsNone(mulkavesh.diagnose(worked.TWO))
+        self.assertIsNone(mulkavesh.diagnose(worked.LEGACY))
+        self.assertEqual(mulkavesh.diagnose(worked.LEGACY, legacy=False), Fault(FaultKind.BODY, 0))
+        self.assertEqual(mulkavesh.diagnose(b"no module"), Fault(FaultKind.HEADER, 0))
+        self.assertEqual(mulkavesh.diagnose(worked.TWO + b"\0"), Fault(FaultKind.SECTION, len(worked.TWO)))
+        found = mulkavesh.diagnose(worked.TWO[:-10])
+        self.assertEqual(found, Fault(FaultKind.RULE, Rule.COUNTS))
+        self.assertIsInstance(found and found.number, Rule)
+
+    def test_faults_that_were_worked_out(self) -> None:
+        count = 0
+        for flags, kind, number, module, words in worked.faults():
+            with self.subTest(words, module=module.hex(" ")):
+                found = mulkavesh.diagnose(module, legacy=not flags & 4)
+                self.assertEqual(found, Fault(FaultKind(kind), number) if kind else None)
+                self.assertEqual(str(found) if found else "", words)
+            count += 1
+        self.assertGreater(count, 13)
 
     def test_list(self) -> None:
         self.assertEqual(mulkavesh.list_functions(worked.TWO), [Function(1, 2, None)])
@@ -136,7 +157,10 @@ class Refusals(unittest.TestCase):
         for name, call in CALLS.items():
             for module in (b"", bytearray(), memoryview(b""), b"\0asm", b"no module at all", worked.TWO[:-1], worked.TWO + b"\0"):
                 with self.subTest(name, module=bytes(module)):
-                    self.assertRaises(InvalidModule, call, module)
+                    if name == "diagnose":
+                        self.assertIsNotNone(call(module))
+                    else:
+                        self.assertRaises(InvalidModule, call, module)
 
     def test_what_is_not_found(self) -> None:
         self.assertRaisesRegex(NotFound, "no custom section 'c'", mulkavesh.strip, worked.SECTIONS, "c")
@@ -307,7 +331,7 @@ class Declared(unittest.TestCase):
         declared = {}
         for name, parameters in re.findall(r"^uint32_t (\w+)\((.*)\);", HEADER.read_text(encoding="utf-8"), re.M):
             declared[name] = [self.IN_C[kind] for kind in re.findall(r"(const uint8_t \*|uint8_t \*|uint32_t |size_t \*|size_t )\w", parameters)]
-        self.assertEqual(len(declared), 8)
+        self.assertEqual(len(declared), 9)
         for name, kinds in declared.items():
             call = getattr(getattr(mulkavesh, "_library"), name)
             self.assertEqual((name, list(call.argtypes), call.restype), (name, kinds, ctypes.c_uint32))
@@ -315,8 +339,10 @@ class Declared(unittest.TestCase):
     @unittest.skipUnless(HEADER.exists(), "there is no include/mulkavesh.h")
     def test_the_numbers_of_the_header(self) -> None:
         numbers = {name: int(number) for name, number in re.findall(r"MULKAVESH_(\w+) = (\d+)", HEADER.read_text(encoding="utf-8"))}
-        flags = {name: getattr(mulkavesh, f"_{name}") for name in ("NO_NAMES", "NO_PRODUCERS", "NO_LEGACY")}
-        self.assertEqual(numbers, {**flags, **{status.name: status.value for status in mulkavesh.Status}})
+        wanted = {name: getattr(mulkavesh, f"_{name}") for name in ("NO_NAMES", "NO_PRODUCERS", "NO_LEGACY")}
+        for of_python, front in ((mulkavesh.Status, ""), (FaultKind, "FAULT_"), (Rule, "RULE_")):
+            wanted.update((front + name, member.value) for name, member in of_python.__members__.items())
+        self.assertEqual(numbers, {**wanted, "FAULT_NONE": 0})
 
     def test_all_is_typed_and_told(self) -> None:
         for name, function in inspect.getmembers(mulkavesh, inspect.isfunction):

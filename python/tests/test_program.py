@@ -1,4 +1,5 @@
-"""The calls `gc` and `report` over the modules of tests/samples, and of ../shared/samples where that is there, beside the program walrus-gc: the same bytes.
+"""The calls `gc` and `report` over the modules of tests/samples, and of ../shared/samples where that is there, beside the program walrus-gc: the same bytes;
+and `diagnose`, which has to say that nothing is wrong exactly where the program accepts.
 
 The program is the one that the environment variable MULKAVESH_PROGRAM names, or else that of crates/walrus_gc/out.
 """
@@ -10,6 +11,7 @@ import unittest
 from typing import List, Tuple
 
 import mulkavesh
+from tests import worked
 
 TOP = pathlib.Path(__file__).resolve().parent.parent.parent
 PROGRAM = os.environ.get("MULKAVESH_PROGRAM") or str(TOP / "crates" / "walrus_gc" / "out" / "walrus_gc")
@@ -44,6 +46,11 @@ def setUpModule() -> None:
 class BesideTheProgram(unittest.TestCase):
     """Under all words."""
 
+    def compare(self, module: bytes, words: List[str]) -> None:
+        wanted, fault = of_program(module, words), mulkavesh.diagnose(module, legacy="--no-legacy" not in words)
+        self.assertTrue(of_call(module, words) == wanted)
+        self.assertEqual(fault is not None, wanted == INVALID, fault)
+
     def test_samples(self) -> None:
         modules = {path.name: path.read_bytes() for folder in FOLDERS for path in sorted(folder.glob("*.wasm"))}
         self.assertGreater(len(modules), 2)
@@ -51,11 +58,13 @@ class BesideTheProgram(unittest.TestCase):
             for which in range(16):
                 words = [word for bit, word in enumerate((*WORDS, "--report")) if which >> bit & 1]
                 with self.subTest(name, words=words):
-                    self.assertTrue(of_call(module, words) == of_program(module, words))
+                    self.compare(module, words)
 
     def test_what_is_no_module(self) -> None:
-        for module in (b"", b"no module"):
-            self.assertEqual(of_call(module, []), of_program(module, []))
+        for module in (b"", b"no module", *(module for _, _, _, module, _ in worked.faults())):
+            for words in ([], ["--no-legacy"]):
+                with self.subTest(module=module.hex(" "), words=words):
+                    self.compare(module, words)
 
 
 if __name__ == "__main__":

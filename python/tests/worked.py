@@ -1,4 +1,6 @@
-"""Modules whose bytes were worked out by hand, and what comes of them: those of crates/walrus_tools/src/samples.rt, and a few more."""
+"""Modules whose bytes were worked out by hand, and what comes of them: those of crates/walrus_tools/src/samples.rt, and a few more; and faults."""
+import pathlib
+from typing import Iterator, Tuple
 
 HEADER = bytes.fromhex("00 61 73 6D 01 00 00 00")
 # What is written behind a module where producers are wanted and there were none.
@@ -56,6 +58,17 @@ SNIPPED = module(TYPE, "03 02 01 00", "07 05 01 01 61 00 00", "0A 05 01 03 00 00
 # One function, exported as `a` and as `b`.
 TWICE = module(TYPE, "03 02 01 00", "07 09 02 01 61 00 00 01 62 00 00", "0A 06 01 04 00 01 01 0B")
 
+
+FAULTS = pathlib.Path(__file__).resolve().parent.parent.parent / "tests" / "faults.txt"
+
+
+def faults() -> Iterator[Tuple[int, int, int, bytes, str]]:
+    """The lines of tests/faults.txt: the flags, the kind and the number of a fault, the bytes, and the words."""
+    for line in FAULTS.read_text(encoding="utf-8").splitlines():
+        if line and not line.startswith("#"):
+            numbers, data, words = line.split("|")
+            flags, kind, which = map(int, numbers.split())
+            yield flags, kind, which, bytes.fromhex(data), words.strip()
 
 
 def number(value: int) -> bytes:

@@ -20,6 +20,7 @@ struct asked {
 static uint32_t answer(const struct asked *it, const uint8_t *input, size_t size, uint8_t *output, size_t room, size_t *length) {
   if (!strcmp(it->call, "gc")) return mulkavesh_gc(input, size, it->number, output, room, length);
   if (!strcmp(it->call, "report")) return mulkavesh_report(input, size, it->number, output, room, length);
+  if (!strcmp(it->call, "diagnose")) return mulkavesh_diagnose(input, size, it->number, output, room, length);
   if (!strcmp(it->call, "list")) return mulkavesh_list(input, size, it->number, output, room, length);
   if (!strcmp(it->call, "why")) return mulkavesh_why(input, size, it->number, output, room, length);
   if (!strcmp(it->call, "strip")) return mulkavesh_strip(input, size, it->number, it->name, it->name_length, output, room, length);

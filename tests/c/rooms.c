@@ -89,7 +89,7 @@ static void in_rooms(const char *path, const struct asked *asked, const uint8_t 
 int main(int count, char **paths) {
   static const struct asked all[] = {
       {"gc", 0, NULL, 0}, {"gc", 7, NULL, 0}, {"gc", 8, NULL, 0}, {"gc", UINT32_MAX, NULL, 0}, {"report", 0, NULL, 0}, {"report", 8, NULL, 0},
-      {"list", 0, NULL, 0}, {"list", 8, NULL, 0}, {"why", 0, NULL, 0}, {"why", 5, NULL, 0}, {"why", UINT32_MAX, NULL, 0},
+      {"diagnose", 0, NULL, 0}, {"diagnose", 4, NULL, 0}, {"diagnose", 8, NULL, 0}, {"list", 0, NULL, 0}, {"list", 8, NULL, 0}, {"why", 0, NULL, 0}, {"why", 5, NULL, 0}, {"why", UINT32_MAX, NULL, 0},
       {"strip", 0, (const uint8_t *)"target_features", 15}, {"strip", 3, (const uint8_t *)"target_features", 15}, {"strip", 0, (const uint8_t *)"", 0},
       {"strip", 8, (const uint8_t *)"", 0}, {"snip", 0, (const uint8_t *)"f", 1}, {"snip", 0, (const uint8_t *)"\xFF", 1},
       {"stub", 0, (const uint8_t *)"env", 3}, {"stub", 0, (const uint8_t *)"", 0}, {"stub", 0, (const uint8_t *)"\xFF", 1}};

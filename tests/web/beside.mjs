@@ -1,5 +1,6 @@
-// Holds the calls `gc` and `report` against the program: node tests/web/beside.mjs FOLDER PROGRAM MUTANTS MODULES.. , each but the program a folder. The
-// modules go under each of the eight sets of words, a mutant under one of the sixteen ways. The other calls are held against one another. tests/web.sh calls it.
+// Holds the calls `gc` and `report` against the program, and `diagnose`, which has to find nothing wrong exactly where the program accepts:
+// node tests/web/beside.mjs FOLDER PROGRAM MUTANTS MODULES.. , each but the program a folder. The modules go under each of the eight sets of words, a mutant under
+// one of the sixteen ways. The other calls are held against one another. tests/web.sh calls it.
 import { spawnSync } from 'node:child_process';
 import { readFileSync, readdirSync } from 'node:fs';
 import { basename, join } from 'node:path';
@@ -49,6 +50,8 @@ function besideTheProgram(name, input, way) {
   if (wanted[0] !== found[0] || !wanted[1].equals(found[1])) {
     find(name, `${JSON.stringify(way)}: ${found[0]} and ${found[1].length} bytes, and not ${wanted[0]} and ${wanted[1].length}`);
   }
+  const fault = library.diagnose(input, way.options);
+  if ((fault === null) !== (wanted[0] === 'DONE' || wanted[0] === 'TOO_LARGE')) find(name, `diagnose: ${JSON.stringify(fault)}, and the program ends as ${wanted[0]}`);
   return wanted[0];
 }
 

@@ -1,5 +1,6 @@
-// Each call on modules whose bytes were worked out by hand (those of crates/walrus_tools/src/samples.rt and python/tests/worked.py), an error of each kind, each
-// way to load, and memory: node tests/web/worked.mjs FOLDER, that of mulkavesh.js. tests/web.sh calls it. Prints the count and a line for each find.
+// Each call on modules whose bytes were worked out by hand (those of crates/walrus_tools/src/samples.rt and python/tests/worked.py; for `diagnose` those of
+// tests/faults.txt), an error of each kind, each way to load, and memory: node tests/web/worked.mjs FOLDER, that of mulkavesh.js. tests/web.sh calls it. Prints
+// the count and a line for each find.
 import assert from 'node:assert/strict';
 import { readFileSync } from 'node:fs';
 import { join } from 'node:path';
@@ -9,7 +10,7 @@ const folder = process.argv[2], here = pathToFileURL(join(folder, 'mulkavesh.js'
 const wasm = readFileSync(join(folder, 'mulkavesh.wasm'));
 const { load, MulkaveshError, InvalidModule, TooLarge, OutOfMemory, NotFound, Trapped } = await import(here);
 const library = await load();
-const { gc, report, list, strip, why, snip, stub, version } = library;
+const { gc, report, diagnose, list, strip, why, snip, stub, version } = library;
 
 // ---- modules
 
@@ -68,6 +69,18 @@ function large(size) {
   return made;
 }
 
+// The lines of tests/faults.txt: the options, the fault that is to be told, and the bytes.
+function faults() {
+  const rules = [, 'Order', 'Types', 'Indices', 'FunctionTypes', 'Limits', 'Counts', 'ExportNames', 'Start', 'Offsets', 'Locals'];
+  const lines = readFileSync(new URL('../faults.txt', import.meta.url), 'utf8').split('\n').filter((it) => it !== '' && !it.startsWith('#'));
+  return lines.map((line) => {
+    const [numbers, digits, text] = line.split('|').map((it) => it.trim()), [flags, kind, which] = numbers.split(' ').map(Number);
+    const of = [null, { kind: 'header' }, { kind: 'section', place: which }, { kind: 'rule', rule: rules[which] }, { kind: 'body', index: which }][kind];
+    const options = { names: !(flags & 1), producers: !(flags & 2), legacy: !(flags & 4) };
+    return { options, fault: of && { ...of, text }, bytes: digits === '' ? new Uint8Array() : hex(digits) };
+  });
+}
+
 // A library whose call `gc` answers nothing but this status.
 function answering(status) {
   const name = (text) => [text.length, ...new TextEncoder().encode(text)];
@@ -115,6 +128,15 @@ const TRIES = {
   'gc with names': () => equals(gc(TWO_NAMED, { names: true, producers: false }), ONE_NAMED),
   'gc without names': () => equals(gc(TWO_NAMED, { names: false, producers: false }), ONE),
   report: () => assert.equal(report(TWO), REPORT),
+  diagnose: () => {
+    assert.equal(diagnose(TWO), null);
+    assert.equal(diagnose(LEGACY, { legacy: false }).index, 0);
+    faults().forEach(({ options, fault, bytes }) => assert.deepEqual(diagnose(bytes, options), fault));
+    assert.ok(faults().length > 13);
+  },
+  'what gc refuses is diagnosed': () => faults().filter(({ fault }) => fault !== null).forEach(({ options, bytes }) => {
+    refuses(InvalidModule, 'INVALID', () => gc(bytes, options));
+  }),
   list: () => assert.deepEqual(list(TWO), [{ index: 1, size: 2, name: null }]),
   'list with a name': () => assert.deepEqual(list(TWO_NAMED), [{ index: 1, size: 2, name: 'é' }]),
   'list with more room': () => assert.deepEqual(list(listedInMore()), [...Array(120).keys()].map((index) => ({ index, size: 2, name: null }))),

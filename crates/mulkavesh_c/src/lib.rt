@@ -7,6 +7,7 @@ mod given;
 mod named;
 
 ghost use Rattle.std.specs.Prelude.{◌≡◌, true};
+ghost use Rattle.walrus_tools.specs.Diagnosed.{AnswersFault};
 ghost use Rattle.walrus_tools.specs.Handed.{ReportsOn, RunsOn, config_of, defaults};
 ghost use Rattle.walrus_tools.specs.Reasons.{AnswersChain};
 ghost use Rattle.walrus_tools.specs.Sized.{AnswersListed};
@@ -68,6 +69,25 @@ pub extern "C" fn mulkavesh_report(
         return refused(length, UNKNOWN_FLAG);
     };
     let made = walrus_tools::report(alloc, input, wanted);
+    put(made, output, length)
+}
+
+/// What is wrong with the bytes, in eight bytes: `walrus_tools::fault`.
+#[unsafe(no_mangle)]
+pub extern "C" fn mulkavesh_diagnose(
+    alloc: Global,
+    input: &[u8],
+    flags: u32,
+    output: &mut [u8],
+    length: &mut usize,
+) -> u32
+    ensures { Gives (is_known flags) (AnswersFault (config_wanted (wanted flags)) input.now)
+        output.old output.new length.new result }
+{
+    let Some(wanted) = wanted_by(flags) else {
+        return refused(length, UNKNOWN_FLAG);
+    };
+    let made = walrus_tools::fault(alloc, input, wanted);
     put(made, output, length)
 }
 

@@ -7,6 +7,7 @@ pub mod Transfer
 pub mod Used
 pub mod Asked
 pub mod Collected
+pub mod Handed
 pub mod Headline
 pub mod Reported
 pub mod Marked

@@ -10,6 +10,7 @@ pub use crate::command::command;
 pub use crate::device::{DeviceFailed, FromRead, FromWrite, Sink, Source};
 pub use crate::message::refuse;
 pub use crate::slices::{report_of, smaller_of};
+pub use crate::transfer::{ReadAllError, read_all, write_all};
 use crate::work::{Report, Run, transfer};
 use std::alloc::Global;
 use walrus_module::{Error, ModuleConfig};

@@ -5,6 +5,7 @@ pub mod Brought
 pub mod Carrying
 pub mod ChainHandlers
 pub mod DeclaredLocals
+pub mod FirstUnread
 pub mod FoundTypes
 pub mod Grown
 pub mod Held
@@ -23,6 +24,7 @@ pub mod ProducersHeld
 pub mod Refusals
 pub mod Rooms
 pub mod Rows
+pub mod StillBrought
 pub mod StillThere
 pub mod Stays
 pub mod StaysByRules
@@ -36,6 +38,7 @@ pub mod EditedLocals
 pub mod LocatedOtherwise
 pub mod AfterAll
 pub mod Becoming
+pub mod Faulty
 pub mod Filled
 pub mod Finished
 pub mod Locals

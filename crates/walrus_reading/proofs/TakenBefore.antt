@@ -16,9 +16,10 @@ use Rattle.walrus_functions.specs.ReadFunction.{AddsTypes, Slots, StaysInFront, 
 use Rattle.walrus_items.specs.Functions.{FunctionValue}
 use Rattle.walrus_model.specs.Sections.{Said}
 use Rattle.walrus_contents.specs.View.{handlers_at}
-use Rattle.walrus_items.specs.declared.error.Error.{Error}
 use Rattle.walrus_items.specs.declared.error.Error.TheVariants as Parts
 use Rattle.walrus_reading.specs.Taken.{AddsLocalsOf, AreThere, IsTaken, SaysUnder, TakesFunction}
+use Rattle.walrus_reading.specs.declared.unread.Unread.{Unread}
+use Rattle.walrus_reading.specs.declared.unread.Unread.TheVariants.{Body, Fails}
 use Rattle.walrus_reading.proofs.Grown.{handlers_same, read_after, read_before, same_there}
 use Rattle.wasm_frames.specs.Record as wire
 
@@ -63,7 +64,7 @@ module _ (names : Lookup) (features : Features) (tags : ℕ → Option ℕ) (fir
             (handlers_same names tags first.types now.types there stays (locals_after (item_at now.types f.0) t.said) (ops_of t.read.operators.texts) t.said.1 t.read.operators.named) t.handlers;
       }
 
-      pub refused_before : (before after : List (Option FunctionValue)) (e : Error) → TakesFunction (under now) (item_at now.types) tags f now next old new before after (Err e) → TakesFunction (under first) (item_at first.types) tags f now next old new before after (Err e)
-      refused_before before after (Parts.Memory m) h = tt
-      refused_before before after (Parts.InvalidWasm kind) h = λ said read. h said (says_after said read)
-      refused_before before after _ h = absurd h
+      pub refused_before : (before after : List (Option FunctionValue)) (e : Unread) → TakesFunction (under now) (item_at now.types) tags f now next old new before after (Err e) → TakesFunction (under first) (item_at first.types) tags f now next old new before after (Err e)
+      refused_before before after (Body index) h = (h.0, λ said read. h.1 said (says_after said read))
+      refused_before before after (Fails (Parts.Memory m)) h = tt
+      refused_before before after (Fails _) h = absurd h

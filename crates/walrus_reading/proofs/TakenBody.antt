@@ -1,9 +1,10 @@
 -- A function whose body was read, among the functions and locals of a module.
-use Rattle.std.proofs.Common.{◌≡◌, ℕ, ◌+◌, ◌<◌, ◌≤◌, List, [], ◌∷◌, ◌++◌, length, map, flat_map, take, get_or, refl, sym, ap, ap₂, subst, ◌∙◌, arith, append_assoc, append-nil, length-append}
+use Rattle.std.proofs.Common.{◌≡◌, ℕ, suc, ◌+◌, ◌<◌, ◌≤◌, List, [], ◌∷◌, ◌++◌, length, map, flat_map, take, get_or, refl, sym, ap, ap₂, subst, ◌∙◌, arith, append_assoc, append-nil, length-append}
 use Rattle.std.specs.Prelude.{Option, Some, None, Result, Err, replicate, zip}
 use Rattle.std.specs.List.{AllZip, range_with_len}
 use Rattle.std.proofs.lemmas.Grind.{flat_map-append}
-use Rattle.std.proofs.lemmas.List.{length-map, get_or-map, map-append}
+use Rattle.std.proofs.lemmas.List.{length-map, length-take-le, get_or-map, map-append}
+use Rattle.std.proofs.lemmas.Option.{slice_get-get_or}
 use Rattle.walrus_base.specs.Arena.{item_at}
 use Rattle.walrus_base.specs.Types.{ValType}
 use Rattle.walrus_base.specs.TypeDef.{TypeDef}
@@ -24,12 +25,13 @@ use Rattle.walrus_items.specs.Functions.{FunctionValue}
 use Rattle.walrus_items.specs.declared.function_kind.FunctionKind.TheVariants as kind
 use Rattle.walrus_model.specs.Sections.{Said}
 use Rattle.walrus_contents.specs.View.{handlers_at}
-use Rattle.walrus_model.proofs.PlacedTypes.{zip_at, pair_at, pairs_long, pairs_more, pairs_all}
-use Rattle.walrus_items.specs.Errors.{error_of_ir}
-use Rattle.walrus_items.specs.declared.error.Error.{Error}
+use Rattle.walrus_model.proofs.PlacedTypes.{zip_length, pair_at, pairs_long, pairs_more, pairs_all}
 use Rattle.walrus_items.specs.declared.error.Error.TheVariants as Parts
 use Rattle.walrus_reading.specs.Placed.{AllPlaced}
-use Rattle.walrus_reading.specs.Taken.{AddsHandlersOf, AddsLocalsOf, AreTaken, HoldsLocal, IsSaid, IsTaken, SaysUnder, TakesFunction, TakesFunctions, locals_said}
+use Rattle.walrus_reading.specs.Taken.{AddsHandlersOf, AddsLocalsOf, AreTaken, HoldsLocal, HoldFunctions, IsSaid, IsTaken, SaysUnder, TakesFunction, TakesFunctions, locals_said}
+use Rattle.walrus_reading.specs.Unread.{unread_of}
+use Rattle.walrus_reading.specs.declared.unread.Unread.{Unread}
+use Rattle.walrus_reading.specs.declared.unread.Unread.TheVariants.{Body, Fails}
 use Rattle.walrus_reading.proofs.Grown.{handlers_moved}
 use Rattle.walrus_reading.proofs.Placed.{held_push, new_placed}
 use Rattle.walrus_reading.proofs.Rows.{in_turn_append, placed_append, placed_length}
@@ -47,14 +49,18 @@ module _ (c : Context) (tags : ℕ → Option ℕ) (f : ℕ × wire.Body) (ty : 
   abbrev Reads : ℕ → Result LocalFunction IrError → Type 0
   Reads t result = ReadsFunction c tags t old_types new_types old new f.1.bytes result
 
-  pub not_taken : (before after : List (Option FunctionValue)) (e : IrError) → ReadsFunction c tags ty old_types new_types old new f.1.bytes (Err e) → TakesFunction c (item_at old_types.types) tags f old_types new_types old new before after (Err (error_of_ir e))
-  not_taken before after Malformed h = λ said read.
-      let count = length (params_of (types f.0)) + length said.0 in
-      (subst (λ t. Reads t (Err Malformed)) own h) said.0 (map (moved_op (length old)) said.1) (there c (length old) count f.1.bytes said.0 said.1 read)
-  not_taken before after (Memory m) h = tt
-  not_taken before after NoIndex h = absurd h
-  not_taken before after NotWritable h = absurd h
-  not_taken before after TooLarge h = absurd h
+  pub not_taken : (before after : List (Option FunctionValue)) (index : ℕ) → index ≡ length before → (e : IrError) → ReadsFunction c tags ty old_types new_types old new f.1.bytes (Err e)
+      → TakesFunction c (item_at old_types.types) tags f old_types new_types old new before after (Err (unread_of index e))
+  not_taken before after index next Malformed h = (
+    next,
+    λ said read.
+        let count = length (params_of (types f.0)) + length said.0 in
+        (subst (λ t. Reads t (Err Malformed)) own h) said.0 (map (moved_op (length old)) said.1) (there c (length old) count f.1.bytes said.0 said.1 read),
+  )
+  not_taken before after index next (Memory m) h = tt
+  not_taken before after index next NoIndex h = absurd h
+  not_taken before after index next NotWritable h = absurd h
+  not_taken before after index next TooLarge h = absurd h
 
   module _ (g : LocalFunction) (is : FunctionIsRead c tags f.0 old_types new_types old new f.1.bytes g) where
     arity : length (params_of (types f.0)) ≡ length is.params
@@ -129,6 +135,30 @@ more_taken c types tags first now next fs all new old slots after f slot starts 
       starts_are = counted ∙ ap (λ (l : List ℕ). l ++ length new ∷ []) done.starts_are ∙ sym (one_more_start types (length old) done.said p (length new) long);
     }
 
+-- there is a function for each that is held
+held_long : (types : ℕ → Option TypeDef) (id first : ℕ) (ps : List (ℕ × Said)) (slots : List (Option FunctionValue)) → HoldFunctions types id first ps slots → length slots ≡ length ps
+held_long types id first [] [] h = refl
+held_long types id first [] (slot ∷ slots) h = absurd h
+held_long types id first (p ∷ ps) [] h = absurd h
+held_long types id first (p ∷ ps) (slot ∷ slots) h = ap suc (held_long types (id + 1) (first + length (locals_said types p)) ps slots h.1)
+
+-- so many functions are taken behind the others
+taken_long : (c : Context) (types : ℕ → Option TypeDef) (tags : ℕ → Option ℕ) (fs : List (ℕ × wire.Body)) (i : ℕ) (all : List (Option Local)) (first now : Slots) (old after : List (Option FunctionValue)) (starts : List ℕ) → i < length fs
+    → AreTaken c types tags (take i fs) all first now old after starts → length after ≡ length old + i
+taken_long c types tags fs i all first now old after starts lt done =
+    let added : List (Option FunctionValue) = done.functions.added in
+    let as_said : length added ≡ length done.said = held_long types (length old) 0 done.said added done.functions.held in
+    let as_read : length (take i fs) ≡ length done.said = zip_length (IsSaid c types) (take i fs) done.said done.read in
+    let so_many : length (take i fs) ≡ i = length-take-le i fs (omega (arith, lt)) in
+    omega (arith, ap length done.functions.behind, length-append old added, as_said, as_read, so_many)
+
+-- what the bodies say, without the types
+says_alone : (c : Context) (types : ℕ → Option TypeDef) (fs : List (ℕ × wire.Body)) (said : List (ℕ × Said)) → AllZip (IsSaid c types) fs said → AllZip (SaysUnder c types) fs (map (λ (s : ℕ × Said). s.1) said)
+says_alone c types [] [] h = tt
+says_alone c types [] (s ∷ said) h = absurd h
+says_alone c types (f ∷ fs) [] h = absurd h
+says_alone c types (f ∷ fs) (s ∷ said) h = (h.0.1, says_alone c types fs said h.1)
+
 module _ (c : Context) (types : ℕ → Option TypeDef) (tags : ℕ → Option ℕ) (fs : List ℕ) (raw : List RawBody) (many : length raw ≡ length fs) where
   abbrev pairs : List (ℕ × wire.Body)
   pairs = zip fs (map wire.body_record raw)
@@ -167,17 +197,26 @@ module _ (c : Context) (types : ℕ → Option TypeDef) (tags : ℕ → Option �
       → AreTaken c types tags (zip fs (map wire.body_record raw)) all first now old after starts
   all_taken i first now all old after starts le done = subst (λ (l : List (ℕ × wire.Body)). AreTaken c types tags l all first now old after starts) (pairs_all fs (map wire.body_record raw) i as_many le) done
 
-  -- one isn't
-  pub one_refused : (i : ℕ) (d : ℕ) (e : RawBody) (now next : Slots) (old new : List (Option Local)) (others : ModuleLocals) (early late : Slots) (before after first last : List (Option FunctionValue)) (error : Error) → i < length fs
+  -- one isn't, where those in front of it are
+  pub one_refused : (i : ℕ) (d : ℕ) (e : RawBody) (now next : Slots) (old new : List (Option Local)) (others : ModuleLocals) (early late : Slots) (before after first last : List (Option FunctionValue)) (starts : List ℕ) (error : Unread) → i < length fs
+      → AreTaken c types tags (take i (zip fs (map wire.body_record raw))) old early now first before starts
       → TakesFunction c types tags (get_or fs i d, wire.body_record (get_or raw i e)) now next old new before after (Err error) → TakesFunctions c types tags (zip fs (map wire.body_record raw)) others early late first last (Err error)
-  one_refused i d e now next old new others early late before after first last (Parts.Memory m) lt h = tt
-  one_refused i d e now next old new others early late before after first last (Parts.InvalidWasm kind) lt h = λ saids are.
+  one_refused i d e now next old new others early late before after first last starts (Body index) lt done h =
       let long : length pairs ≡ length fs = pairs_long fs (map wire.body_record raw) as_many in
-      let at = zip_at (SaysUnder c types) pairs saids i (d, wire.body_record e) are (omega (arith, lt, long)) in
+      let within : i < length pairs = omega (arith, lt, long) in
       let here : get_or pairs i (d, wire.body_record e) ≡ (get_or fs i d, wire.body_record (get_or raw i e)) =
       pair_at fs (map wire.body_record raw) i d (wire.body_record e) as_many lt ∙ ap (λ (b : wire.Body). (get_or fs i d, b)) (body_at i e lt) in
-      h at.0 (subst (λ (f : ℕ × wire.Body). SaysUnder c types f at.0) here at.1)
-  one_refused i d e now next old new others early late before after first last _ lt h = absurd h
+      record {
+        place = i;
+        counted = h.0 ∙ taken_long c types tags pairs i old early now first before starts within done;
+        function = (get_or fs i d, wire.body_record (get_or raw i e));
+        there = slice_get-get_or pairs i (d, wire.body_record e) within ∙ ap Some here;
+        unread = h.1;
+        bodies = map (λ (s : ℕ × Said). s.1) done.said;
+        before = says_alone c types (take i pairs) done.said done.read;
+      }
+  one_refused i d e now next old new others early late before after first last starts (Fails (Parts.Memory m)) lt done h = tt
+  one_refused i d e now next old new others early late before after first last starts (Fails _) lt done h = absurd h
 
 -- ---- what they say
 

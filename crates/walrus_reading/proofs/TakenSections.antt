@@ -1,5 +1,5 @@
 -- The fields of a module that took in all sections.
-use Rattle.std.proofs.Common.{◌≡◌, ℕ, true, List, [], length, map, get_or, sym, ap, subst, ◌∙◌}
+use Rattle.std.proofs.Common.{◌≡◌, ℕ, ◌+◌, true, List, [], length, map, get_or, sym, ap, subst, ◌∙◌}
 use Rattle.std.specs.Prelude.{Option, Some, Result, Err, Vec, All, flat_map, option_map, zip}
 use Rattle.std.specs.declared.alloc.Global.{Global}
 use Rattle.walrus_base.specs.Arena.{item_at}
@@ -32,12 +32,14 @@ use Rattle.walrus_contents.specs.declared.parts.Contents.{Contents}
 use Rattle.walrus_reading.specs.Held.{HoldsData, HoldsElement, HoldsGlobal, HoldsImport, HoldsImportedFunction, HoldsMemory, HoldsTable, HoldsTag, memory_keeps, table_keeps}
 use Rattle.walrus_reading.specs.Imported.{HoldsImported}
 use Rattle.walrus_reading.specs.Placed.{AddsPlaced, AllPlaced, InTurn}
-use Rattle.walrus_reading.specs.Taken.{AddsFunctions, AreTaken, HasTaken, HasTakenWith, HoldsExport, HoldsHandlers, HoldsLocal, TakesFunctions, TakesSections, locals_said, starts_of, tag_types_of}
+use Rattle.walrus_reading.specs.Taken.{AddsFunctions, AreTaken, HasTaken, HasTakenWith, HoldsExport, HoldsHandlers, HoldsLocal, TakesBodies, TakesFunctions, locals_said, starts_of, tag_types_of}
+use Rattle.walrus_reading.specs.Unread.{brought_functions}
+use Rattle.walrus_reading.specs.declared.unread.Unread.{Unread}
+use Rattle.walrus_reading.specs.declared.unread.Unread.TheVariants.{Body, Fails}
 use Rattle.walrus_model.proofs.PlacedTypes.{same_types, same_functions}
 use Rattle.walrus_reading.proofs.FoundTypes.{all_found, all_unnamed}
 use Rattle.walrus_reading.proofs.Rows.{placed_length, placed_more}
 use Rattle.walrus_reading.proofs.TakenBody.{saids_of}
-use Rattle.walrus_items.specs.declared.error.Error.{Error}
 use Rattle.walrus_items.specs.declared.error.Error.TheVariants as Parts
 use Rattle.wasm_frames.specs.Record as wire
 
@@ -51,10 +53,10 @@ module _ (c : Features) (r : wire.Module) (indices : IndicesToIds) (ts : ModuleT
   same_context = ap (λ n. context n (is_function_at ts) c) names ∙ ap (λ p. context (declared r) p c) (same_functions r ts typed)
 
   module _ (tags : ℕ → Option ℕ) (same_tags : tags ≡ tag_types_of r) (fs : List ℕ) (bs : List wire.Body) (same_fs : fs ≡ r.functions) (same_bs : bs ≡ r.bodies) (all : ModuleLocals) (first last : Slots) (old new : List (Option FunctionValue)) where
-    abbrev Takes : Context → (ℕ → Option TypeDef) → (ℕ → Option ℕ) → List (ℕ × wire.Body) → Result (Vec ℕ Global) Error → Type 0
+    abbrev Takes : Context → (ℕ → Option TypeDef) → (ℕ → Option ℕ) → List (ℕ × wire.Body) → Result (Vec ℕ Global) Unread → Type 0
     Takes x types ts fs result = TakesFunctions x types ts fs all first last old new result
 
-    pub under_sections : (result : Result (Vec ℕ Global) Error) → TakesFunctions (context (ids_at indices) (is_function_at ts) c) (item_at (type_slots ts)) tags (zip fs bs) all first last old new result
+    pub under_sections : (result : Result (Vec ℕ Global) Unread) → TakesFunctions (context (ids_at indices) (is_function_at ts) c) (item_at (type_slots ts)) tags (zip fs bs) all first last old new result
         → TakesFunctions (context_with c r) (types_of r) (tag_types_of r) (zip r.functions r.bodies) all first last old new result
     under_sections result h =
         subst (λ (x : Context). Takes x (types_of r) (tag_types_of r) (zip r.functions r.bodies) result) same_context
@@ -63,13 +65,22 @@ module _ (c : Features) (r : wire.Module) (indices : IndicesToIds) (ts : ModuleT
         (subst (λ (l : List wire.Body). Takes (context (ids_at indices) (is_function_at ts) c) (item_at (type_slots ts)) tags (zip r.functions l) result) same_bs
         (subst (λ (l : List ℕ). Takes (context (ids_at indices) (is_function_at ts) c) (item_at (type_slots ts)) tags (zip l bs) result) same_fs h))))
 
-    refused : (e : Error) → Takes (context_with c r) (types_of r) (tag_types_of r) (zip r.functions r.bodies) (Err e) → TakesSections c r (Err e)
-    refused (Parts.Memory m) h = tt
-    refused (Parts.InvalidWasm kind) h = h
-    refused _ h = absurd h
+    refused : length old ≡ brought_functions r → (e : Unread) → Takes (context_with c r) (types_of r) (tag_types_of r) (zip r.functions r.bodies) (Err e) → TakesBodies c r (Err e)
+    refused many (Body index) h = record {
+      place = h.place;
+      counted = h.counted ∙ ap (λ (n : ℕ). n + h.place) many;
+      function = h.function;
+      there = h.there;
+      unread = h.unread;
+      bodies = h.bodies;
+      before = h.before;
+    }
+    refused many (Fails (Parts.Memory m)) h = tt
+    refused many (Fails _) h = absurd h
 
-    pub sections_refused : (e : Error) → TakesFunctions (context (ids_at indices) (is_function_at ts) c) (item_at (type_slots ts)) tags (zip fs bs) all first last old new (Err e) → TakesSections c r (Err e)
-    sections_refused e h = refused e (under_sections (Err e) h)
+    pub bodies_refused : AllPlaced HoldsImportedFunction 0 (imported imported_function 0 r.imports) old → (e : Unread)
+        → TakesFunctions (context (ids_at indices) (is_function_at ts) c) (item_at (type_slots ts)) tags (zip fs bs) all first last old new (Err e) → TakesBodies c r (Err e)
+    bodies_refused brings e h = refused (sym (placed_length HoldsImportedFunction 0 (imported imported_function 0 r.imports) old brings)) e (under_sections (Err e) h)
 
 -- what is added behind imports, and then the segments, which tables and memories keep, is all that the module holds
 module _ (c : Features) (r : wire.Module) (m b : Contents) (held : HoldsImported r b) where

@@ -17,3 +17,5 @@ pub mod Shown
 pub mod Sink
 pub mod Synthetic
 pub mod TakenNames
+pub mod Faults
+pub mod Unread

@@ -22,7 +22,7 @@ use Rattle.walrus_bodies.specs.BodyRead.{BodyLocated}
 use Rattle.walrus_functions.specs.Handlers.{handlers_of, params_of}
 use Rattle.walrus_functions.specs.Laws.{moved_op}
 use Rattle.walrus_functions.specs.ReadFunction.{AddsTypes, Slots, locals_from}
-use Rattle.walrus_functions.specs.Signatures.{tag_places}
+use Rattle.walrus_functions.specs.Signatures.{slots_of, tag_places}
 use Rattle.walrus_bodies.specs.Body.{Context, context, BodyReads}
 use Rattle.walrus_bodies.specs.FunctionTypes.{is_function_at}
 use Rattle.walrus_bodies.specs.declared.features.Features.{Features}
@@ -32,7 +32,7 @@ use Rattle.walrus_items.specs.Exports.{ExportValue, exports}
 use Rattle.walrus_items.specs.Functions.{FunctionValue, functions}
 use Rattle.walrus_items.specs.declared.function_kind.FunctionKind.TheVariants.{Local}
 use Rattle.walrus_groups.specs.Groups.{types_from}
-use Rattle.walrus_model.specs.Reads.{ReadsBodyWith}
+use Rattle.walrus_model.specs.Reads.{ReadsBodyWith, context_with}
 use Rattle.walrus_items.specs.Imports.{imports}
 use Rattle.walrus_items.specs.Data.{data_segments}
 use Rattle.walrus_items.specs.Elements.{elements}
@@ -44,11 +44,15 @@ use Rattle.walrus_model.specs.Abstract.{Function}
 use Rattle.walrus_model.specs.Sections.{Said, imported, imported_function, imports_after, types_of, export_of, tables_of, memories_of, tags_of, globals_of, elements_of, data_segments_of}
 use Rattle.walrus_reading.specs.Held.{HoldsData, HoldsElement, HoldsGlobal, HoldsImport, HoldsImportedFunction, HoldsMemory, HoldsTable, HoldsTag, memory_keeps, table_keeps}
 use Rattle.walrus_theorem.specs.Chain.{AreFoundOrAdded}
+use Rattle.walrus_reading.specs.Imported.{HoldsImported}
 use Rattle.walrus_reading.specs.TakenNames.{starts_from}
 use Rattle.walrus_contents.specs.View as view
 use Rattle.walrus_contents.specs.declared.parts.Contents.{Contents}
 use Rattle.walrus_reading.specs.Placed.{AddsPlaced, AllPlaced, InTurn}
+use Rattle.walrus_reading.specs.Unread.{IsFirstOf, IsFirstUnread}
 use Rattle.walrus_reading.specs.declared.functions.Under.{Under}
+use Rattle.walrus_reading.specs.declared.unread.Unread.{Unread}
+use Rattle.walrus_reading.specs.declared.unread.Unread.TheVariants.{Body, Fails}
 use Rattle.wasm_entries.specs.Record as entries
 use Rattle.wasm_frames.specs.Record as wire
 use Rattle.walrus_items.specs.declared.error.Error.{Error}
@@ -242,15 +246,30 @@ pub record AreTaken (c : Context) (types : ℕ → Option TypeDef) (tags : ℕ �
   pub starts_are : starts ≡ starts_of types (length old) said
 
 -- one more slot holds the function; refused: its body isn't read, or memory ran out
-abbrev pub TakesFunction : Context → (types : ℕ → Option TypeDef) (tags : ℕ → Option ℕ) → ℕ × wire.Body → (old_types new_types : Slots) (old_locals new_locals : List (Option LocalItem)) (old new : List (Option FunctionValue)) → Result Unit Error → Type 0
+abbrev pub TakesFunction : Context → (types : ℕ → Option TypeDef) (tags : ℕ → Option ℕ) → ℕ × wire.Body → (old_types new_types : Slots) (old_locals new_locals : List (Option LocalItem)) (old new : List (Option FunctionValue)) → Result Unit Unread → Type 0
 TakesFunction c types tags f old_types new_types old_locals new_locals old new (Ok u) = (slot : Option FunctionValue) × ((new ≡ old ++ slot ∷ []) × IsTaken c types tags (length old) old_types new_types old_locals new_locals f slot)
-TakesFunction c types tags f old_types new_types old_locals new_locals old new (Err (Memory e)) = Unit {0}
-TakesFunction c types tags f old_types new_types old_locals new_locals old new (Err (InvalidWasm kind)) = (said : Said) → SaysUnder c types f said → ⊥
-TakesFunction c types tags f old_types new_types old_locals new_locals old new (Err _) = ⊥
+TakesFunction c types tags f old_types new_types old_locals new_locals old new (Err (Body index)) = (index ≡ length old) × ((said : Said) → SaysUnder c types f said → ⊥)
+TakesFunction c types tags f old_types new_types old_locals new_locals old new (Err (Fails (Memory e))) = Unit {0}
+TakesFunction c types tags f old_types new_types old_locals new_locals old new (Err (Fails _)) = ⊥
 
--- the functions, their locals and the types of their handlers are added; refused: not all bodies are read, or memory ran out
-abbrev pub TakesFunctions : Context → (types : ℕ → Option TypeDef) (tags : ℕ → Option ℕ) → List (ℕ × wire.Body) → ModuleLocals → (old_types new_types : Slots) (old new : List (Option FunctionValue)) → Result (Vec ℕ Global) Error → Type 0
+-- the functions, their locals and the types of their handlers are added; refused: this is the first whose body isn't read, or memory ran out
+abbrev pub TakesFunctions : Context → (types : ℕ → Option TypeDef) (tags : ℕ → Option ℕ) → List (ℕ × wire.Body) → ModuleLocals → (old_types new_types : Slots) (old new : List (Option FunctionValue)) → Result (Vec ℕ Global) Unread → Type 0
 TakesFunctions c types tags fs all old_types new_types old new (Ok starts) = AreTaken c types tags fs (locals all) old_types new_types old new starts.items
-TakesFunctions c types tags fs all old_types new_types old new (Err (Memory e)) = Unit {0}
-TakesFunctions c types tags fs all old_types new_types old new (Err (InvalidWasm kind)) = (bodies : List Said) → AllZip (SaysUnder c types) fs bodies → ⊥
-TakesFunctions c types tags fs all old_types new_types old new (Err _) = ⊥
+TakesFunctions c types tags fs all old_types new_types old new (Err (Body index)) = IsFirstOf (SaysUnder c types) (length old) fs index
+TakesFunctions c types tags fs all old_types new_types old new (Err (Fails (Memory e))) = Unit {0}
+TakesFunctions c types tags fs all old_types new_types old new (Err (Fails _)) = ⊥
+
+-- Some contents hold what imports brought, and m is these with the tags of the sections, and their functions, whose locals begin there.
+pub record HasFunctions (features : Features) (r : wire.Module) (m : Contents) (starts : List ℕ) : Type 0 where
+  pub brought : Contents
+  pub begun : HoldsImported r brought
+  pub others : m ≡ record brought { types = m.types; locals = m.locals; funcs = m.funcs; tags = m.tags }
+  pub tags : AllPlaced HoldsTag 0 (tags_of r) (tags m.tags)
+  pub taken : AreTaken (context_with features r) (types_of r) (tag_types_of r) (zip r.functions r.bodies) (locals m.locals) (slots_of brought.types) (slots_of m.types) (functions brought.funcs) (functions m.funcs) starts
+
+-- the tags and functions are there; refused: this is the first whose body isn't read, or memory ran out
+abbrev pub TakesBodies : Features → wire.Module → Result (Contents × Vec ℕ Global × ℕ) Unread → Type 0
+TakesBodies features r (Ok m) = HasFunctions features r m.0 m.1.items
+TakesBodies features r (Err (Body index)) = IsFirstUnread features r (Some index)
+TakesBodies features r (Err (Fails (Memory e))) = Unit {0}
+TakesBodies features r (Err (Fails _)) = ⊥

@@ -15,7 +15,7 @@ ghost use Rattle.walrus_model.specs.Reads.{declared};
 ghost use Rattle.walrus_reading.specs.Imported.{HoldsImported};
 ghost use Rattle.walrus_reading.specs.Numbers.{FitsIndices};
 ghost use Rattle.walrus_reading.specs.Producers.{HoldsProducers};
-ghost use Rattle.walrus_reading.specs.Taken.{AreLocatedIn, TakesSections};
+ghost use Rattle.walrus_reading.specs.Taken.{AreLocatedIn, TakesBodies, TakesSections};
 ghost use Rattle.walrus_reading.specs.Sections.{Rules};
 ghost use Rattle.walrus_items.specs.Errors.{out_of_memory};
 ghost use Rattle.wasm_frames.specs.Record.{sections};
@@ -34,7 +34,9 @@ use crate::start::start_named;
 use crate::tables::add_tables;
 use crate::tags::{add_tags, types_of_tags};
 use crate::types::add_types;
+use crate::unread::Unread;
 use std::alloc::Global;
+use std::result;
 use walrus_bodies::Features;
 use walrus_code::{IndicesToIds, InstrLocId};
 use walrus_contents::Contents;
@@ -65,23 +67,13 @@ pub(crate) fn read_contents<L: Fn(&usize) -> InstrLocId>(
     ensures counted { IfOk result (λ m. m.2 ≡ length (types_from 0 (sections raw.now).types)) }
 {
     let mut indices = IndicesToIds::new(alloc);
-    let (mut contents, type_count) = read_imported(alloc, raw, &mut indices)?;
-    add_tags(&raw.tags, &indices, &mut contents.tags)?;
-    let tag_types = types_of_tags(alloc, &contents.tags)?;
-    let starts = add_functions(
-        &Under {
-            alloc,
-            features,
-            indices: &indices,
-            tag_types: &tag_types,
-            texts: texts_of(alloc, as_texts, raw, &indices, &contents.types)?,
-            locate,
-        },
-        &raw.functions,
-        &raw.bodies,
-        &mut contents.types,
-        &mut contents.locals,
-        &mut contents.funcs,
+    let (mut contents, starts, type_count) = read_functions(
+        alloc,
+        raw,
+        features,
+        as_texts,
+        locate,
+        &mut indices,
     )?;
     add_tables(alloc, &raw.tables, &indices, &mut contents.tables)?;
     add_memories(&raw.memories, &mut contents.memories)?;
@@ -103,6 +95,48 @@ pub(crate) fn read_contents<L: Fn(&usize) -> InstrLocId>(
     add_exports(&raw.exports, &indices, &mut contents.exports)?;
     contents.start = start_named(raw.start, &indices);
     add_producers(alloc, &raw.customs, &mut contents.producers)?;
+    Ok((contents, starts, type_count))
+}
+
+/// The types of these sections, what their imports bring, their tags and their functions, as [`read_contents`] reads them; where the locals of each
+/// function begin, with the end behind them; and how many types were read. Refused, the first function whose body isn't read is told.
+pub(crate) fn read_functions<L: Fn(&usize) -> InstrLocId>(
+    alloc: Global,
+    raw: &Raw<'_>,
+    features: &Features,
+    as_texts: bool,
+    locate: &L,
+    indices: &mut IndicesToIds,
+) -> result::Result<(Contents, Vec<usize>, usize), Unread>
+    requires rules { Rules (sections raw.now) }
+    requires room { FitsIndices (sections raw.now) }
+    requires callable { L.IsAlwaysCallable locate.now }
+    requires no_indices { (space : Space) → places_in indices.old space ≡ [] }
+    ensures taken { TakesBodies features.now (sections raw.now) result }
+    ensures located { IfOk result (λ m. AreLocatedIn (GivenIf as_texts (FnReturnsAt L.Fn locate.now))
+        (sections raw.now) (functions m.0.funcs)) }
+    ensures counted { IfOk result (λ m. m.2 ≡ length (types_from 0 (sections raw.now).types)) }
+    ensures numbered { OnOk result (ids_at indices.new ≡ declared (sections raw.now)) }
+{
+    let (mut contents, type_count) = read_imported(alloc, raw, indices)?;
+    add_tags(&raw.tags, indices, &mut contents.tags)?;
+    let tag_types = types_of_tags(alloc, &contents.tags)?;
+    let texts = texts_of(alloc, as_texts, raw, indices, &contents.types)?;
+    let starts = add_functions(
+        &Under {
+            alloc,
+            features,
+            indices,
+            tag_types: &tag_types,
+            texts,
+            locate,
+        },
+        &raw.functions,
+        &raw.bodies,
+        &mut contents.types,
+        &mut contents.locals,
+        &mut contents.funcs,
+    )?;
     Ok((contents, starts, type_count))
 }
 

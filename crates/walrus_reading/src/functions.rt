@@ -19,13 +19,15 @@ ghost use Rattle.walrus_reading.specs.Taken.{AddLocated, AddsLocated, AreThere, 
 ghost use Rattle.wasm_frames.specs.Record.{body_record};
 
 use crate::bodies::{end_of, first_starts, read_located};
+use crate::unread::{Unread, unread_at};
 use std::alloc::Global;
 use std::rc::Rc;
+use std::result;
 use walrus_base::{ModuleLocals, ModuleTypes, TypeId};
 use walrus_bodies::{Features, PlainCode};
 use walrus_code::{IndicesToIds, InstrLocId};
 use walrus_functions::HandlerTypes;
-use walrus_items::{ModuleFunctions, Result};
+use walrus_items::ModuleFunctions;
 use wasm_frames::RawBody;
 
 // What bodies are read under: the proposals that they may use, what indices name, the types of tags by their places, the code of those that
@@ -51,7 +53,7 @@ fn add_function<L: Fn(&usize) -> InstrLocId>(
     funcs: &mut ModuleFunctions,
     number: u32,
     handlers: &mut HandlerTypes,
-) -> Result<()>
+) -> result::Result<(), Unread>
     requires callable { L.IsAlwaysCallable under.now.locate.now }
     requires in_place { IfSome under.now.texts (λ code.
         AreInPlace (limits_in code.value) (ids_at under.now.indices.now)) }
@@ -68,13 +70,18 @@ fn add_function<L: Fn(&usize) -> InstrLocId>(
     let Some(ty) = under.indices.get_type(index) else {
         unreachable!();
     };
-    let function = read_located(under, ty, body, types, all, number, handlers)?;
-    funcs.add_local(function)?;
-    Ok(())
+    let read = read_located(under, ty, body, types, all, number, handlers);
+    match read {
+        Ok(function) => {
+            funcs.add_local(function)?;
+            Ok(())
+        }
+        Err(e) => Err(unread_at(funcs.next_id().index(), e)),
+    }
 }
 
 // Reads the bodies of the functions of these types, which get the next ids. The module has no other locals. Answers where the locals of each
-// function begin, and behind them the end.
+// function begin, and behind them the end. Refused, it tells the first function whose body isn't read.
 pub fn add_functions<L: Fn(&usize) -> InstrLocId>(
     under: &Under<'_, L>,
     of_types: &[u32],
@@ -82,7 +89,7 @@ pub fn add_functions<L: Fn(&usize) -> InstrLocId>(
     types: &mut ModuleTypes,
     all: &mut ModuleLocals,
     funcs: &mut ModuleFunctions,
-) -> Result<Vec<usize>>
+) -> result::Result<Vec<usize>, Unread>
     requires callable { L.IsAlwaysCallable under.now.locate.now }
     requires in_place { IfSome under.now.texts (λ code.
         AreInPlace (limits_in code.value) (ids_at under.now.indices.now)) }

@@ -7,6 +7,7 @@ mod customs;
 mod data;
 mod elements;
 mod exports;
+mod faults;
 mod functions;
 mod globals;
 mod imports;
@@ -24,7 +25,10 @@ mod synthetic;
 mod tables;
 mod tags;
 mod types;
+mod unread;
 
+pub use faults::{Fault, first_fault};
 pub use module::{ReadModule, read};
 pub use names::add_names;
 pub use sink::NameBounds;
+pub use unread::unread_body;

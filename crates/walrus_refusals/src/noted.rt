@@ -1,7 +1,6 @@
 //! Custom sections that scenes add: a raw one, and one of a caller's own.
 ghost use Rattle.std.specs.Prelude.{true, [], ◌∷◌, codes};
-ghost use Rattle.walrus_base.specs.Id.{place};
-ghost use Rattle.walrus_base.specs.Operators.{Functions};
+ghost use Rattle.walrus.specs.Handed.{Functions, place};
 
 use std::alloc::Global;
 use walrus::{

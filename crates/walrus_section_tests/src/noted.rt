@@ -1,7 +1,6 @@
 //! A custom section of a caller's own.
 ghost use Rattle.std.specs.Prelude.{true, [], ◌∷◌};
-ghost use Rattle.walrus_base.specs.Id.{place};
-ghost use Rattle.walrus_base.specs.Operators.{Functions};
+ghost use Rattle.walrus.specs.Handed.{Functions, place};
 ghost use Rattle.walrus_section_tests.specs.Noted.{index_byte};
 
 use std::alloc::Global;

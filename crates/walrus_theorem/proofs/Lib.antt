@@ -138,3 +138,4 @@ pub mod Initialisers
 pub mod Indices
 pub mod RulesAgree
 pub mod References
+pub mod ReadAccepted

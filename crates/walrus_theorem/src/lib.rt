@@ -23,7 +23,7 @@ pub use edits::{
     well_made_is_sound,
 };
 pub use engines::{no_engine_tells, worked_engine};
-pub use rules::{references_agree, rules_agree};
+pub use rules::{accepts_read, references_agree, rules_agree};
 pub use run::runs_come_out;
 pub use settled::{one_report, settles_again, worked_report};
 pub use spelling::{has_alternatives, reads_once, spelled_once, spelled_reads, worked_row};

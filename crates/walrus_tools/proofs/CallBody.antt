@@ -1,7 +1,6 @@
 -- A body with a call in front: it reads back, and declares what it did.
 use Rattle.std.proofs.Common.{◌≡◌, ℕ, ◌<◌, ◌^◌, Bool, List, [], ◌∷◌, ◌++◌, refl, ap, ◌∙◌}
 use Rattle.std.specs.Prelude.{Option, Some}
-use Rattle.wasm_opcodes.specs.declared.one_byte.TheConstants.{CALL}
 use Rattle.wasm_forms.specs.Reading.{◌>>=◌}
 use Rattle.wasm_forms.specs.Grammar.{Is}
 use Rattle.wasm_forms.proofs.Bind.{bind_at}
@@ -33,7 +32,7 @@ counted_call n b h = record { locals = h.locals; distinct = h.distinct; are = h.
 -- ---- its bytes
 
 abbrev call_text : ℕ → wire.Op
-call_text k = record { op = CALL; args = raw.Function k ∷ [] }
+call_text k = record { op = (call_op 0).op; args = raw.Function k ∷ [] }
 
 call_spelled : (k : ℕ) → k < 2 ^ 32 → Is operator (op_bytes (call_text k)) (call_text k)
 unfolding spells kinds_of
@@ -44,7 +43,7 @@ text_with k h = h.front ++ (op_bytes (call_text k) ++ h.back)
 
 module _ (names : Lookup) (p : ℕ → Bool) (f : Features) (locals : ℕ → Option ℕ) (k n : ℕ) (small : k < 2 ^ 32) (leads : names Functions k ≡ Some n) where
   call_named : named_op names locals (op_of (call_text k)) ≡ Some (call_op n)
-  call_named = ap (λ (o : Option ℕ). ((o >>= λ i. Some (Index (Functions, i))) >>= λ (x : Arg). Some (x ∷ [])) >>= λ (args : List Arg). let q : Op = record { op = CALL; args = args } in Some q) leads
+  call_named = ap (λ (o : Option ℕ). ((o >>= λ i. Some (Index (Functions, i))) >>= λ (x : Arg). Some (x ∷ [])) >>= λ (args : List Arg). let q : Op = record { op = (call_op 0).op; args = args } in Some q) leads
 
   -- index k leads to function n: so the bytes with a call of k in front are the body with a call of n in front
   pub call_reads : (text : List ℕ) (types : List (ValType ℕ)) (ops : List Op) (h : BodyReads (context names p f) locals text types ops) → BodyReads (context names p f) locals (text_with k h) types (call_op n ∷ ops)

@@ -8,7 +8,9 @@ mod CountStep
 mod CountTurn
 mod EachMoves
 mod EditEnds
+mod FaultEnds
 mod Finishing
+mod FoundEnds
 mod FunctionsThere
 mod HookEnds
 mod HookSteps

@@ -1,7 +1,9 @@
 pub mod Count
 pub mod Counted
+pub mod Diagnosed
 pub mod Edited
 pub mod Finding
+pub mod Found
 pub mod Handed
 pub mod Hooked
 pub mod Listed

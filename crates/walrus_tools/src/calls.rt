@@ -6,8 +6,8 @@ ghost use Rattle.walrus_items.specs.Errors.{out_of_memory};
 ghost use Rattle.walrus_tools.specs.Count.{CallsFirst, KindCalls};
 
 use std::alloc::Global;
+use walrus::opcodes::CALL;
 use walrus::{Arg, Args, FunctionId, FunctionKind, LocalFunction, Operator, Result};
-use wasm_opcodes::one_byte::CALL;
 
 // Puts a call of a function in front of the operators of this one.
 fn put_call(alloc: Global, function: &mut LocalFunction, called: FunctionId) -> Result<()>

@@ -5,7 +5,9 @@
 mod calls;
 mod chaining;
 mod counting;
+mod diagnosing;
 mod ending;
+mod finding;
 mod hooking;
 mod law;
 mod lessening;
@@ -29,6 +31,8 @@ mod wanted;
 
 pub use chaining::chain;
 pub use counting::count_calls;
+pub use diagnosing::{diagnose, fault, fault_words};
+pub use finding::find;
 pub use hooking::with_export;
 pub use law::moves_once;
 pub use lessening::gc;
@@ -45,4 +49,9 @@ pub use snipping::snip;
 pub use stripping::strip;
 pub use stubbing::stub;
 pub use walrus::Error;
+pub use walrus::tool::{
+    DeviceFailed, FromWrite, ReadAllError, Sink, Source, ToolError, read_all, write_all,
+};
+pub use walrus_reading::Fault;
 pub use wanted::Wanted;
+pub use wasm_wire::BrokenRule;

@@ -2,6 +2,8 @@
 
 use crate::chaining::chain;
 use crate::counting::count_calls;
+use crate::diagnosing::fault;
+use crate::finding::find;
 use crate::hooking::with_export;
 use crate::lessening::gc;
 use crate::listing::keep_listed;
@@ -418,4 +420,37 @@ fn a_chain_stands_alone(rt: HostRuntime) -> std::result::Result<(), Fail> {
     let bytes = bytes_of(rt.alloc(), TWO)?;
     demand_text(chain(rt.alloc(), &bytes, 1), "function 1\n")?;
     demand_text(chain(rt.alloc(), &bytes, 0), "function 0 isn't reached\n")
+}
+
+// ---- find
+
+#[test]
+fn a_function_is_found_by_its_export(rt: HostRuntime) -> std::result::Result<(), Fail> {
+    let bytes = bytes_of(rt.alloc(), TWO)?;
+    demand(find(rt.alloc(), &bytes, "f")? == 1, "the function")
+}
+
+// ---- diagnose
+
+// What is asked, and the two numbers of what is wrong with it: nothing; behind the types, at byte 14, an id that is no section's; in function 0 an
+// operator that isn't known.
+const FAULTS: [(&str, &str); 3] = [
+    (TWO, "00 00 00 00 00 00 00 00"),
+    (
+        "00 61 73 6D 01 00 00 00 01 04 01 60 00 00 0E 00",
+        "02 00 00 00 0E 00 00 00",
+    ),
+    (
+        "00 61 73 6D 01 00 00 00 01 04 01 60 00 00 03 02 01 00 0A 05 01 03 00 FF 0B",
+        "04 00 00 00 00 00 00 00",
+    ),
+];
+
+#[test]
+fn faults_are_told_in_eight_bytes(rt: HostRuntime) -> std::result::Result<(), Fail> {
+    for (bytes, told) in &FAULTS {
+        let input = bytes_of(rt.alloc(), bytes)?;
+        demand_output(rt.alloc(), fault(rt.alloc(), &input, no_producers()), told)?;
+    }
+    Ok(())
 }

@@ -20,7 +20,7 @@ use walrus::{Error, FunctionId, ModuleConfig, ModuleFunctions, Result};
 pub const NO_NAME: u32 = u32::MAX;
 
 // Puts a number behind the bytes, its lowest byte first.
-fn add_number(to: &mut Vec<u8>, number: u32) -> result::Result<(), AllocError>
+pub(crate) fn add_number(to: &mut Vec<u8>, number: u32) -> result::Result<(), AllocError>
     ensures { OnOk result (to.new.items ≡ to.old.items ++ number_bytes number) }
 {
     let four = number.to_le_bytes();
@@ -28,7 +28,7 @@ fn add_number(to: &mut Vec<u8>, number: u32) -> result::Result<(), AllocError>
 }
 
 // A number of 32 bits.
-fn narrow(number: usize) -> Result<u32>
+pub(crate) fn narrow(number: usize) -> Result<u32>
     ensures value { IfOk result (λ n. n ≡ number) }
     ensures refused { IfErr result (RefusesIf (2 ^ 32 ≤ number)) }
 {

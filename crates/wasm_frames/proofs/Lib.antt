@@ -4,4 +4,5 @@ pub mod Contents
 pub mod Added
 pub mod Sections
 pub mod Modules
+pub mod Until
 pub mod SectionRows

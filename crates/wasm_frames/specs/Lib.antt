@@ -2,4 +2,5 @@ pub mod Record
 pub mod Order
 pub mod Frames
 pub mod Steps
+pub mod Until
 pub mod Spelling

@@ -1,7 +1,5 @@
 -- Reading a module from left to right, step by step.
-use Rattle.std.specs.Prelude.{◌≡◌, ℕ, zero, suc, ◌+◌, ◌-◌, List, [], ◌∷◌, ◌++◌, length, Option, Some, None, Result, Ok, Err, nat_eq, if◌then◌else◌, map}
-use Rattle.wasm_forms.specs.declared.error.WireError.{WireError}
-use Rattle.wasm_forms.specs.declared.error.WireError.TheVariants.{Malformed, Memory, TooLarge}
+use Rattle.std.specs.Prelude.{◌≡◌, ℕ, zero, suc, ◌+◌, ◌-◌, List, [], ◌∷◌, ◌++◌, length, Option, Some, None, nat_eq, if◌then◌else◌, map}
 use Rattle.wasm_forms.specs.Reading.{◌>>=◌, byte_at}
 use Rattle.wasm_forms.specs.Grammar.{Form, Block, Vector, U32, name, at}
 use Rattle.wasm_entries.specs.Record.{group, import_entry, table_entry, global_entry, export_entry, element_entry, data_entry}
@@ -11,6 +9,7 @@ use Rattle.wasm_frames.specs.declared.section.RawSection.{RawSection}
 use Rattle.wasm_frames.specs.declared.section.RawSection.TheVariants as raw
 use Rattle.wasm_frames.specs.Record.{Body, Custom, Module, body_record, custom_record}
 use Rattle.wasm_frames.specs.Frames.{Section, CustomSection, Types, Imports, Functions, Tables, Memories, Globals, Exports, Start, Elements, Code, DataSegments, DataCount, Tags, with_section, header}
+use Rattle.wasm_frames.specs.Until.{LacksHeader}
 
 -- what a section in memory holds
 abbrev pub section_record : RawSection → Section
@@ -92,8 +91,11 @@ unfoldable pub next_at : ℕ → Module → List ℕ → Option (Module × List 
 next_at place m bytes = section_at place bytes >>= λ s. Some (with_section m s.0, s.1)
 
 -- what was read of the header: what stands behind it, or that it doesn't stand in front
-abbrev pub ReadsHeader : {X : Type 0} → (X → List ℕ) → List ℕ → Result X WireError → Type 0
-ReadsHeader view bytes (Ok x) = bytes ≡ header ++ view x
-ReadsHeader view bytes (Err Malformed) = (rest : List ℕ) → bytes ≡ header ++ rest → ⊥
-ReadsHeader view bytes (Err (Memory e)) = ⊥
-ReadsHeader view bytes (Err TooLarge) = ⊥
+abbrev pub ReadsHeader : {X : Type 0} → (X → List ℕ) → List ℕ → Option X → Type 0
+ReadsHeader view bytes (Some x) = bytes ≡ header ++ view x
+ReadsHeader view bytes None = LacksHeader bytes
+
+-- what was found, seen by view, is what stands there
+abbrev pub GoesOn : {X Y : Type 0} → (X → Y) → Option X → Option Y → Type 0
+GoesOn view (Some x) read = read ≡ Some (view x)
+GoesOn view None read = read ≡ None

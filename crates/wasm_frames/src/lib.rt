@@ -9,5 +9,5 @@ mod section;
 mod spell;
 mod tag;
 
-pub use read::{one_record, read_module};
+pub use read::{Framed, framed_until, one_place, one_record, read_module};
 pub use record::{Raw, RawBody, RawCustom};

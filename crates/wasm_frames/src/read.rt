@@ -4,20 +4,33 @@ ghost use Rattle.std.specs.Prelude.{◌≡◌, ◌+◌, ◌-◌, ◌^◌, ◌<�
 ghost use Rattle.wasm_forms.specs.Reading.{Gives};
 ghost use Rattle.wasm_frames.specs.Record.{Module, sections, no_sections};
 ghost use Rattle.wasm_frames.specs.Frames.{Frames, HasOneRecord, header, with_section};
-ghost use Rattle.wasm_frames.specs.Steps.{ReadsHeader, section_record, next_at};
+ghost use Rattle.wasm_frames.specs.Steps.{ReadsHeader, GoesOn, section_record, next_at};
+ghost use Rattle.wasm_frames.specs.Until.{HoldsWhole, IsFramed, HasOnePlace, IsNoModule};
 
 use crate::record::Raw;
 use crate::section::{RawSection, read_section};
 use std::alloc::{AllocError, Global};
 use wasm_forms::WireError;
 
+/// How far bytes are a module: what [`framed_until`] found.
+#[derive(Drop)]
+pub enum Framed<'a> {
+    /// All of them: the records.
+    Whole(Raw<'a>),
+    /// The magic number and the version don't stand in front.
+    NoHeader,
+    /// Whole sections stand up to this place, in bytes from the start of the input. Bytes are left there, and none stands in
+    /// front of them.
+    Until(usize),
+}
+
 /// What stands behind the magic number and the version (Binary Format > Modules).
-fn read_header(bytes: &[u8]) -> Result<&[u8], WireError>
+fn read_header(bytes: &[u8]) -> Option<&[u8]>
     ensures { ReadsHeader (λ r. r.now) bytes.now result }
 {
     match bytes {
-        [0x00, 0x61, 0x73, 0x6D, 0x01, 0x00, 0x00, 0x00, rest @ ..] => Ok(rest),
-        _ => Err(WireError::Malformed),
+        [0x00, 0x61, 0x73, 0x6D, 0x01, 0x00, 0x00, 0x00, rest @ ..] => Some(rest),
+        _ => None,
     }
 }
 
@@ -109,6 +122,56 @@ fn read_next<'a>(
     Ok(rest)
 }
 
+/// What stands behind the section at this place, which is added, or `None` where no section stands there.
+fn next_rest<'a>(
+    alloc: Global,
+    place: usize,
+    bytes: &'a [u8],
+    raw: &mut Raw<'a>,
+) -> Result<Option<&'a [u8]>, AllocError>
+    requires { place + length bytes.now < 2 ^ 64 }
+    ensures { IfOk result (λ o. GoesOn (λ r. (sections raw.new, r.now)) o
+        (next_at place (sections raw.old) bytes.now)) }
+{
+    match read_next(alloc, place, bytes, raw) {
+        Ok(rest) => Ok(Some(rest)),
+        Err(WireError::Memory(failed)) => Err(failed),
+        // no reader refuses anything as too large
+        Err(WireError::Malformed | WireError::TooLarge) => Ok(None),
+    }
+}
+
+/// How far bytes are a module: the records of all of them, names and bodies borrowed from them, or up to which place whole
+/// sections stand (Binary Format > Modules).
+///
+/// # Errors
+///
+/// Where memory runs out, and never else.
+pub fn framed_until(alloc: Global, bytes: &[u8]) -> Result<Framed<'_>, AllocError>
+    ensures found { IfOk result (λ f. IsFramed bytes.now f) }
+    ensures only { (m : Module) → Frames bytes.now m → IfOk result (λ f. HoldsWhole m f) }
+{
+    let Some(mut rest) = read_header(bytes) else {
+        return Ok(Framed::NoHeader);
+    };
+    let mut raw = no_records(alloc);
+    while !rest.is_empty() {
+        let place = bytes.len() - rest.len();
+        let Some(behind) = next_rest(alloc, place, rest, &mut raw)? else {
+            return Ok(Framed::Until(place));
+        };
+        rest = behind;
+    }
+    Ok(Framed::Whole(raw))
+}
+
+/// The place up to which whole sections stand, where bytes that none begins follow, is one: the one that [`framed_until`]
+/// gives. A module has none.
+pub fn one_place()
+    ensures once { HasOnePlace }
+    ensures apart { IsNoModule }
+{}
+
 /// The records of a module's bytes, names and bodies borrowed from them (Binary Format > Modules).
 ///
 /// # Errors
@@ -119,13 +182,10 @@ pub fn read_module(alloc: Global, bytes: &[u8]) -> Result<Raw<'_>, WireError>
     ensures only { (m : Module) → Frames bytes.now m → Gives sections result (Some m) }
     ensures not_large { ¬ IsErrOf result WireError.TooLarge }
 {
-    let mut rest = read_header(bytes)?;
-    let mut raw = no_records(alloc);
-    while !rest.is_empty() {
-        let place = bytes.len() - rest.len();
-        rest = read_next(alloc, place, rest, &mut raw)?;
+    match framed_until(alloc, bytes)? {
+        Framed::Whole(raw) => Ok(raw),
+        Framed::NoHeader | Framed::Until(_) => Err(WireError::Malformed),
     }
-    Ok(raw)
 }
 
 /// The bytes of a module hold one thing: the records that [`read_module`] gives are the only ones.

@@ -1,10 +1,9 @@
 -- What a check answered, of a fact that says the same, and of lists as they lie in memory.
 use Rattle.std.proofs.Common.{◌≡◌, ℕ, ◌+◌, ◌<◌, Bool, true, false, ltb, List, [], ◌∷◌, length, get_or, map, refl, sym, ap, ◌∙◌, subst, arith, ltb-true, ltb-false}
-use Rattle.std.specs.Prelude.{All, Result, Ok, Err, IsErrAnd}
+use Rattle.std.specs.Prelude.{All, Result, Ok, Err}
 use Rattle.std.proofs.lemmas.List.{get_or-map, get_or_default, length-map}
 use Rattle.std.proofs.lemmas.List.Sums.{fold_more}
 use Rattle.std.proofs.lemmas.List.Elements.{All-map}
-use Rattle.std.proofs.lemmas.Result.{err_from_is_err_and}
 use Rattle.wasm_forms.specs.declared.error.WireError.{WireError}
 use Rattle.wasm_forms.specs.declared.error.WireError.TheVariants.{Malformed, Memory, TooLarge}
 use Rattle.std.specs.Global.{Vec}
@@ -25,16 +24,6 @@ all_mapped P v xs h = All-map P v xs h
 
 pub all_unmapped : {X Y : Type 0} (P : Y → Type 0) (v : X → Y) (xs : List X) → All P (map v xs) → All (λ x. P (v x)) xs
 all_unmapped P v xs h = λ k d within. subst P (get_or-map v xs k d (v d) within) (h k (v d) (omega (arith, length-map xs v)))
-
--- a refusal, of a fact from which this one follows
-pub checks_err : (e : WireError) (P Q : Type 0) → (Q → P) → Checks (Err e) P → Checks (Err e) Q
-checks_err Malformed P Q f h = λ q. h (f q)
-checks_err (Memory m) P Q f h = tt
-checks_err TooLarge P Q f h = h
-
--- the same, of what the exit of a `?` returns
-pub passed_check : (r : Result Unit WireError) (e : WireError) (P Q : Type 0) → (Q → P) → Checks (Err e) P → IsErrAnd r (λ y. y ≡ e) → Checks r Q
-passed_check r e P Q f h given = let p = err_from_is_err_and r given in rw (p.1, p.2) (checks_err e P Q f h)
 
 -- R of each element's view and its place
 abbrev pub EachView : {X Y : Type 0} → (ℕ → Y → Type 0) → (X → Y) → List X → Type 0

@@ -1,4 +1,5 @@
 pub mod Checked
+pub mod NamedRules
 pub mod Gathered
 pub mod Order
 pub mod Names

@@ -4,6 +4,7 @@ pub mod Ranks
 pub mod Locals
 pub mod Gathering
 pub mod Rules
+pub mod Broken
 pub mod Names
 pub mod ModuleSpelling
 pub mod ModuleWriting

@@ -7,7 +7,7 @@ mod rules;
 mod written;
 
 pub use places::code_places;
-pub use rules::{Counts, check};
+pub use rules::{BrokenRule, Counts, broken_rule, check, rules_are_these};
 pub use wasm_entries::{
     RawComp, RawConst, RawData, RawDataMode, RawDesc, RawElement, RawElementMode, RawExport,
     RawExportKind, RawExpression, RawFieldType, RawFuncType, RawGlobal, RawGlobalType, RawGroup,

@@ -56,6 +56,53 @@ pub const MULKAVESH_NO_LEGACY: u32 = 4;
 /// What stands in a list for the length of a name that isn't there.
 pub const MULKAVESH_NO_NAME: u32 = u32::MAX;
 
+/// Nothing is wrong with the bytes: the first number that [`mulkavesh_diagnose`] tells.
+pub const MULKAVESH_FAULT_NONE: u32 = 0;
+
+/// The bytes don't begin as a WebAssembly module; the second number is 0.
+pub const MULKAVESH_FAULT_HEADER: u32 = 1;
+
+/// No well-formed section stands at the place, in bytes from the start, that is the second number.
+pub const MULKAVESH_FAULT_SECTION: u32 = 2;
+
+/// The rule on the whole that the second number says is broken.
+pub const MULKAVESH_FAULT_RULE: u32 = 3;
+
+/// The body of the function whose index is the second number isn't made of allowed instructions,
+/// well nested, with declared indices.
+pub const MULKAVESH_FAULT_BODY: u32 = 4;
+
+/// The sections stand out of order, or one stands twice: a rule, which is the second number.
+pub const MULKAVESH_RULE_ORDER: u32 = 1;
+
+/// A type names one that isn't declared by the end of its group, or has a supertype that isn't
+/// before it, or more than one.
+pub const MULKAVESH_RULE_TYPES: u32 = 2;
+
+/// An index names something that isn't declared, or isn't yet.
+pub const MULKAVESH_RULE_INDICES: u32 = 3;
+
+/// A function or a tag has a type that is no function type.
+pub const MULKAVESH_RULE_FUNCTION_TYPES: u32 = 4;
+
+/// The limits of a table or a memory aren't allowed.
+pub const MULKAVESH_RULE_LIMITS: u32 = 5;
+
+/// The number of bodies or of data segments isn't the one that is declared.
+pub const MULKAVESH_RULE_COUNTS: u32 = 6;
+
+/// Two exports have the same name.
+pub const MULKAVESH_RULE_EXPORT_NAMES: u32 = 7;
+
+/// The start function has parameters or results.
+pub const MULKAVESH_RULE_START: u32 = 8;
+
+/// The offset of a segment isn't of the type of addresses.
+pub const MULKAVESH_RULE_OFFSETS: u32 = 9;
+
+/// A body declares more than 50,000 locals.
+pub const MULKAVESH_RULE_LOCALS: u32 = 10;
+
 extern "C" {
     /// The version of the library: the major number times 2^16, the minor one times 2^8, and the
     /// patch.
@@ -74,6 +121,19 @@ extern "C" {
     /// How many items of each kind [`mulkavesh_gc`] keeps and drops, in seven lines. Of the flags
     /// [`MULKAVESH_NO_LEGACY`] alone has a say.
     pub fn mulkavesh_report(
+        input: *const u8,
+        input_length: usize,
+        flags: u32,
+        output: *mut u8,
+        room: usize,
+        length: *mut usize,
+    ) -> u32;
+
+    /// What is wrong with bytes that aren't accepted, as two numbers of 32 bits, little-endian: a
+    /// `MULKAVESH_FAULT_..`, and what that one says. Both are 0 exactly where the bytes are
+    /// accepted. Never [`MULKAVESH_INVALID`]; [`MULKAVESH_TOO_LARGE`] is for a second number past
+    /// 32 bits. Of the flags [`MULKAVESH_NO_LEGACY`] alone has a say.
+    pub fn mulkavesh_diagnose(
         input: *const u8,
         input_length: usize,
         flags: u32,

@@ -39,6 +39,10 @@ impl<'a> Call<'a> {
         Call(Form::Numbered(library::mulkavesh_report, flags.bits()))
     }
 
+    pub(crate) fn diagnose(flags: Flags) -> Self {
+        Call(Form::Numbered(library::mulkavesh_diagnose, flags.bits()))
+    }
+
     pub(crate) fn list(flags: Flags) -> Self {
         Call(Form::Numbered(library::mulkavesh_list, flags.bits()))
     }
@@ -154,6 +158,8 @@ mod tests {
         assert_eq!(strip.answer(SECTIONS, 0), Err(Error::NotFound));
         assert_eq!(Call::why(0).answer(SECTIONS, 0), Err(Error::NotFound));
         assert_eq!(Call::stub("a").answer(b"", 0), Err(Error::Invalid));
+        let told = Call::diagnose(NO_PRODUCERS).answer(b"", 0);
+        assert_eq!(told.as_deref(), Ok(&[1, 0, 0, 0, 0, 0, 0, 0][..]));
     }
 
     #[test]

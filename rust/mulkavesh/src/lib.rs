@@ -1,5 +1,5 @@
 //! Drops from a WebAssembly module what nothing reaches, and says what was dropped and why the rest
-//! stays. Bytes go in and bytes come out; nothing is kept from one call to the next, and calls in
+//! stays, or what is wrong with bytes that are no module. Bytes go in and bytes come out; nothing is kept from one call to the next, and calls in
 //! several threads at once are fine.
 //!
 //! The library behind it is Mulkavesh, which is written in Rattle and proved. This crate isn't: it
@@ -32,10 +32,12 @@
 #[allow(unsafe_code)]
 mod call;
 mod error;
+mod fault;
 mod flags;
 mod listed;
 
 pub use crate::error::Error;
+pub use crate::fault::{Fault, Rule};
 pub use crate::flags::Flags;
 pub use crate::listed::Listed;
 
@@ -46,6 +48,9 @@ const MORE: usize = 256;
 
 /// Seven lines of a word and two numbers of ten digits: none is longer than 44 bytes.
 const ROOM_OF_A_REPORT: usize = 512;
+
+/// Two numbers of 32 bits.
+const ROOM_OF_A_FAULT: usize = 8;
 
 /// Some two hundred lines of a chain, which are mostly enough.
 const ROOM_OF_A_CHAIN: usize = 4096;
@@ -118,6 +123,33 @@ pub fn gc(input: &[u8], flags: Flags) -> Result<Vec<u8>, Error> {
 pub fn report(input: &[u8], flags: Flags) -> Result<String, Error> {
     let lines = Call::report(flags).answer(input, ROOM_OF_A_REPORT)?;
     Ok(text(lines))
+}
+
+/// What is wrong with bytes that [`gc`] refuses as invalid, or `None` exactly where they are accepted.
+///
+/// Where several things are wrong, one of them is told. Of the flags `no_legacy` alone has a say.
+///
+/// # Errors
+///
+/// [`Error::NoMemory`], and [`Error::TooLarge`] where a place or an index passes 32 bits; never
+/// [`Error::Invalid`].
+///
+/// ```
+/// use mulkavesh::{diagnose, Fault, Flags, Rule};
+///
+/// let wrong = |bytes: &[u8]| diagnose(bytes, Flags::default()).expect("enough memory");
+/// assert_eq!(wrong(b"\0asm\x01\0\0\0"), None);
+/// assert_eq!(wrong(b"no module"), Some(Fault::Header));
+/// // No section has the id 14.
+/// assert_eq!(wrong(b"\0asm\x01\0\0\0\x0E\0"), Some(Fault::Section(8)));
+/// // A memory of at least two pages and at most one.
+/// let fault = wrong(b"\0asm\x01\0\0\0\x05\x04\x01\x01\x02\x01").expect("a fault");
+/// assert_eq!(fault, Fault::Rule(Rule::Limits));
+/// assert_eq!(fault.to_string(), "the limits of a table or a memory aren't allowed");
+/// ```
+pub fn diagnose(input: &[u8], flags: Flags) -> Result<Option<Fault>, Error> {
+    let answer = Call::diagnose(flags).answer(input, ROOM_OF_A_FAULT)?;
+    Ok(Fault::of(&answer))
 }
 
 /// The functions with a body that [`gc`] keeps, by rising index, with the bytes that each costs.

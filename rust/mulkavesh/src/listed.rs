@@ -15,7 +15,7 @@ pub struct Listed {
 }
 
 /// The number at the front of the bytes, of 32 bits, little-endian, and the bytes behind it.
-fn number(bytes: &[u8]) -> (u32, &[u8]) {
+pub(crate) fn number(bytes: &[u8]) -> (u32, &[u8]) {
     let (front, rest) = bytes.split_at(4);
     let front = front.try_into().expect("four bytes");
     (u32::from_le_bytes(front), rest)

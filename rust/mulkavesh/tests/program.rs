@@ -4,7 +4,7 @@
 
 mod support;
 
-use mulkavesh::{gc, report, Error, Flags};
+use mulkavesh::{diagnose, gc, report, Error, Fault, Flags};
 use std::env;
 use std::io::Write;
 use std::path::{Path, PathBuf};
@@ -103,11 +103,20 @@ fn compare(found: Result<Vec<u8>, Error>, output: Output, what: &str) {
     }
 }
 
-/// Compares both calls under these flags.
-fn compare_both(program: &Path, input: &[u8], flags: Flags, what: &str) {
+/// Nothing is wrong exactly where the program accepts the input.
+fn compare_faults(fault: Result<Option<Fault>, Error>, output: &Output, what: &str) {
+    let accepted = output.stderr != b"walrus-gc: The input WebAssembly is invalid\n";
+    let fault = fault.expect("enough memory");
+    assert_eq!(fault.is_none(), accepted, "{what}: {fault:?}");
+}
+
+/// Compares the calls under these flags.
+fn compare_all(program: &Path, input: &[u8], flags: Flags, what: &str) {
     let mut words = words(flags);
     let what = format!("{what} {words:?}");
-    compare(gc(input, flags), run(program, &words, input), &what);
+    let output = run(program, &words, input);
+    compare_faults(diagnose(input, flags), &output, &what);
+    compare(gc(input, flags), output, &what);
     words.push("--report");
     let lines = report(input, flags).map(String::into_bytes);
     compare(lines, run(program, &words, input), &what);
@@ -123,12 +132,12 @@ fn modules_come_out_as_the_program_writes_them() {
     for sample in &samples {
         for bits in 0..8 {
             let what = sample.path.display().to_string();
-            compare_both(&program, &sample.bytes, flags(bits), &what);
+            compare_all(&program, &sample.bytes, flags(bits), &what);
         }
     }
     let count = samples.len();
     support::say(&format!(
-        "compared: {count} modules under 8 sets of flags, gc and report, with the program"
+        "compared: {count} modules under 8 sets of flags, gc, report and diagnose, with the program"
     ));
 }
 
@@ -157,7 +166,7 @@ fn mutants_are_refused_as_the_program_refuses_them() {
         for which in 0..MUTANTS_OF_A_MODULE {
             let bytes = mutant(&sample.bytes, which);
             let what = format!("mutant {which} of {}", sample.path.display());
-            compare_both(&program, &bytes, Flags::default(), &what);
+            compare_all(&program, &bytes, Flags::default(), &what);
             match gc(&bytes, Flags::default()) {
                 Ok(_) => taken += 1,
                 Err(_) => refused += 1,

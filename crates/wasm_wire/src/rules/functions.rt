@@ -2,6 +2,7 @@
 
 ghost use Rattle.std.specs.Prelude.{ℕ, map, slice_get};
 ghost use Rattle.wasm_entries.specs.Record.{comp, sub};
+ghost use Rattle.wasm_wire.specs.Broken.{FunctionTypesHold};
 ghost use Rattle.wasm_wire.specs.Gathering.{context};
 ghost use Rattle.wasm_wire.specs.Rules.{IsFunctionComp, IsFunction, AreFunctionTypes, IsEmptyComp, IsEmpty, IsEmptyType, StartHolds, Checks};
 
@@ -75,17 +76,25 @@ fn check_empty(types: &[&RawSub], index: u32) -> Result<(), WireError>
 }
 
 /// Whether the types of the functions are function types.
-pub fn check_functions(declared: &Declared<'_>) -> Result<(), WireError>
+fn check_functions(declared: &Declared<'_>) -> Result<(), WireError>
     ensures { Checks result (AreFunctionTypes (context declared.now).types (context declared.now).functions) }
 {
     check_kinds(&declared.types, &declared.functions)
 }
 
 /// Whether the types of the tags are function types.
-pub fn check_tags(declared: &Declared<'_>) -> Result<(), WireError>
+fn check_tags(declared: &Declared<'_>) -> Result<(), WireError>
     ensures { Checks result (AreFunctionTypes (context declared.now).types (context declared.now).tags) }
 {
     check_kinds(&declared.types, &declared.tags)
+}
+
+/// Whether functions and tags have function types.
+pub fn check_function_types(declared: &Declared<'_>) -> Result<(), WireError>
+    ensures { Checks result (FunctionTypesHold (context declared.now)) }
+{
+    check_functions(declared)?;
+    check_tags(declared)
 }
 
 /// Whether the start function, one of these, has neither parameters nor results.

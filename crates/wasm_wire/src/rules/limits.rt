@@ -3,9 +3,12 @@
 ghost use Rattle.std.specs.Prelude.{◌≡◌};
 ghost use Rattle.wasm_entries.specs.declared.record.RawLimits.{RawLimits};
 ghost use Rattle.wasm_entries.specs.declared.record.RawTableType.{RawTableType};
+ghost use Rattle.wasm_wire.specs.Broken.{LimitsHold};
+ghost use Rattle.wasm_wire.specs.Gathering.{context};
 ghost use Rattle.wasm_wire.specs.Rules.{IsAtMost, MaximumIsAtMost, HasMaximum, IsExponent, MemoryHolds, TableLimitsHold, Checks, most_pages};
 
-use super::each::Rule;
+use super::declared::Declared;
+use super::each::{Rule, check_all};
 use wasm_entries::{RawLimits, RawTableType};
 use wasm_forms::WireError;
 
@@ -92,7 +95,7 @@ fn check_memory(limits: &RawLimits) -> Result<(), WireError>
 
 /// Limits that are allowed.
 #[derive(Clone, Copy)]
-pub struct Limits;
+struct Limits;
 
 impl Rule<RawLimits> for Limits {
     ghost Seen = { RawLimits };
@@ -116,4 +119,12 @@ impl Rule<RawTableType> for Limits {
     fn check(&self, item: &RawTableType) -> Result<(), WireError> {
         check_order_of(item.limits.minimum, item.limits.maximum)
     }
+}
+
+/// Whether the limits of all tables and memories are allowed.
+pub fn check_limits(declared: &Declared<'_>) -> Result<(), WireError>
+    ensures { Checks result (LimitsHold (context declared.now)) }
+{
+    check_all(&Limits, &declared.tables)?;
+    check_all(&Limits, &declared.memories)
 }

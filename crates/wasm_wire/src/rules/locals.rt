@@ -1,15 +1,15 @@
 //! The declared locals of a body (Binary Format > Modules > Code Section).
 
-ghost use Rattle.std.specs.Prelude.{ℕ, ◌<◌, ◌≡◌, ◌^◌};
+ghost use Rattle.std.specs.Prelude.{ℕ, ◌<◌, ◌≡◌, ◌^◌, All};
 ghost use Rattle.wasm_forms.specs.Reading.{Gives};
 ghost use Rattle.wasm_forms.specs.Grammar.{at};
-ghost use Rattle.wasm_frames.specs.Record.{Body, body_record};
+ghost use Rattle.wasm_frames.specs.Record.{Body, body_record, sections};
 ghost use Rattle.wasm_wire.specs.Locals.{declaration, add_locals, totals_at, all_totals_at};
 ghost use Rattle.wasm_wire.specs.Rules.{LocalsHold, Checks};
 
-use super::each::Rule;
+use super::each::{Rule, check_all};
 use wasm_forms::{WireError, read_u32, read_value_type};
-use wasm_frames::RawBody;
+use wasm_frames::{Raw, RawBody};
 
 /// How many locals a declaration declares, with the bytes after it.
 #[tactic(auto, unfolding(crate::specs::Locals::declaration))]
@@ -75,7 +75,7 @@ fn check_locals(body: &RawBody<'_>) -> Result<(), WireError>
 
 /// Bodies that declare at most 50,000 locals, where their declarations can be read.
 #[derive(Clone, Copy)]
-pub struct Locals;
+struct Locals;
 
 impl<'a> Rule<RawBody<'a>> for Locals {
     ghost Seen = { Body };
@@ -87,4 +87,11 @@ impl<'a> Rule<RawBody<'a>> for Locals {
     fn check(&self, item: &RawBody<'a>) -> Result<(), WireError> {
         check_locals(item)
     }
+}
+
+/// Whether all bodies declare at most 50,000 locals, where their declarations can be read.
+pub fn check_all_locals(raw: &Raw<'_>) -> Result<(), WireError>
+    ensures { Checks result (All LocalsHold (sections raw.now).bodies) }
+{
+    check_all(&Locals, &raw.bodies)
 }

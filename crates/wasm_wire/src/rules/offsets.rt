@@ -2,14 +2,19 @@
 
 ghost use Rattle.std.specs.Prelude.{◌≡◌, map, slice_get, Bool};
 ghost use Rattle.wasm_entries.specs.Record.{Element, Segment, element_entry, data_entry, element_mode, data_mode};
+ghost use Rattle.wasm_frames.specs.Record.{sections};
+ghost use Rattle.wasm_wire.specs.Broken.{OffsetsHold};
+ghost use Rattle.wasm_wire.specs.Gathering.{context};
 ghost use Rattle.wasm_wire.specs.Rules.{IsAddress, GlobalIsAddress, SingleHolds, OffsetHolds, TableOffsetHolds, MemoryOffsetHolds, ElementOffsetHolds, DataOffsetHolds, Checks};
 
-use super::each::Rule;
+use super::declared::Declared;
+use super::each::{Rule, check_all};
 use wasm_entries::{
     RawConst, RawData, RawDataMode, RawElement, RawElementMode, RawGlobalType, RawLimits,
     RawTableType,
 };
 use wasm_forms::{RawVal, WireError};
+use wasm_frames::Raw;
 
 /// Whether addresses of this width have this type.
 fn check_address(wide: bool, value: RawVal) -> Result<(), WireError>
@@ -77,10 +82,10 @@ fn check_offset(globals: &[RawGlobalType], wide: bool, offset: &[RawConst]) -> R
 
 /// Offsets in these tables and memories, by these globals.
 #[derive(Clone, Copy)]
-pub struct Offsets<'d> {
-    pub tables: &'d [RawTableType],
-    pub memories: &'d [RawLimits],
-    pub globals: &'d [RawGlobalType],
+struct Offsets<'d> {
+    tables: &'d [RawTableType],
+    memories: &'d [RawLimits],
+    globals: &'d [RawGlobalType],
 }
 
 impl<'d> Rule<RawElement> for Offsets<'d> {
@@ -119,4 +124,17 @@ impl<'d, 'a> Rule<RawData<'a>> for Offsets<'d> {
             RawDataMode::Passive => Ok(()),
         }
     }
+}
+
+/// Whether the offsets of all segments are addresses.
+pub fn check_offsets(declared: &Declared<'_>, raw: &Raw<'_>) -> Result<(), WireError>
+    ensures { Checks result (OffsetsHold (context declared.now) (sections raw.now)) }
+{
+    let offsets = Offsets {
+        tables: &declared.tables,
+        memories: &declared.memories,
+        globals: &declared.globals,
+    };
+    check_all(&offsets, &raw.elements)?;
+    check_all(&offsets, &raw.data_)
 }

@@ -33,7 +33,7 @@ returns-in_err-add_function-clause-taken g c =
     let p = err_from_is_err_and c.from_residual-in_err-add_function.result c.from_residual-in_err-add_function.ensures.1 in
     rw (p.1, p.2) (one_refused (context_under c.args.under.now c.args.types.now) (types_in c.args.types.now) (tags_under c.args.under.now) c.args.of_types.now c.args.bodies.now c.requires.as_many
     c.loop-place.place _ _ (slots_of c.loop-place.types) (slots_of c.add_function.new.types) (locals c.loop-place.all) (locals c.add_function.new.all) c.add_function.new.all (slots_of c.args.types.now) (slots_of c.add_function.new.types)
-    (functions c.loop-place.funcs) (functions c.add_function.new.funcs) (functions c.args.funcs.now) (functions c.add_function.new.funcs) _ c.loop-place-test.true
+    (functions c.loop-place.funcs) (functions c.add_function.new.funcs) (functions c.args.funcs.now) (functions c.add_function.new.funcs) c.loop-place.starts.items _ c.loop-place-test.true done
     (refused_before (ids_at c.args.under.now.indices.now) c.args.under.now.features.now (tags_under c.args.under.now) (slots_of c.args.types.now) (slots_of c.loop-place.types) (slots_of c.add_function.new.types) c.requires.there stays
     (get_or c.args.of_types.now c.loop-place.place _, body_record (get_or c.args.bodies.now c.loop-place.place _)) (c.requires.declared c.loop-place.place _ c.loop-place-test.true)
     (locals c.loop-place.all) (locals c.add_function.new.all) (functions c.loop-place.funcs) (functions c.add_function.new.funcs) _ c.in_err-add_function.ensures.taken))

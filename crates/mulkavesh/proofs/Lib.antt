@@ -1,0 +1,9 @@
+mod Answered
+mod Complete
+mod Itself
+mod Lines
+mod Ordered
+mod Pieces
+mod Refusals
+mod Sound
+mod Told

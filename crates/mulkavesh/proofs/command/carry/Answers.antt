@@ -1,0 +1,18 @@
+use Rattle.std.proofs.Common.{ℕ, List, subst}
+use Rattle.std.specs.Prelude.{Ok}
+use Rattle.std.specs.Io.KnownBytes.{Appends}
+use Rattle.walrus_tools.specs.Handed.{WroteFront}
+use Rattle.mulkavesh.specs.Made.{AnswersOrder}
+use Rattle.mulkavesh.proofs.command.carry.Goals as goal
+
+pub returns-in-Ok-write_all-clause-headline : goal.returns-in-Ok-write_all-clause-headline
+returns-in-Ok-write_all-clause-headline g c =
+    let answers = subst (λ (bytes : List ℕ). AnswersOrder c.args.order.now bytes (Ok c.in-Ok-make.answer)) c.deref.ensures.value c.in-Ok-make.ensures in
+    let appended = subst (λ (output : List ℕ). Appends (g.W.Sink.held c.args.output.now) (g.W.Sink.held c.write_all.new.sink) output) c.deref-2.ensures.value c.in-Ok-write_all.ensures.ok in
+    ((c.in-Ok.bytes.items, (record { consumed = c.in-Ok.ensures.all; ended = c.in-Ok.ensures.end }, answers)), appended)
+
+pub returns-in-Err-write_all-clause-headline : goal.returns-in-Err-write_all-clause-headline
+returns-in-Err-write_all-clause-headline g c =
+    let answers = subst (λ (bytes : List ℕ). AnswersOrder c.args.order.now bytes (Ok c.in-Ok-make.answer)) c.deref.ensures.value c.in-Ok-make.ensures in
+    let begun = subst (λ (output : List ℕ). WroteFront (g.W.Sink.held c.args.output.now) (g.W.Sink.held c.write_all.new.sink) output) c.deref-2.ensures.value c.in-Err-write_all.ensures.begun in
+    (c.in-Ok.bytes.items, (c.in-Ok-make.answer, ((record { consumed = c.in-Ok.ensures.all; ended = c.in-Ok.ensures.end }, answers), begun)))

@@ -1,0 +1,97 @@
+-- What one order comes to, for all that was read and all that was written, and what is told of it.
+use Rattle.std.specs.Prelude.{ℕ, Bool, true, false, List, ◌++◌, Option, Result, Ok, Err, codes, ◌≡◌, ⊤}
+use Rattle.std.specs.Io.KnownBytes.{Appends, Keeps}
+use Rattle.walrus_tools.specs.Handed.{CountsReads, CountsWrites, Error, InvalidWasm, Memory, Module, NotFound, NotReplaceable, Read, ReadsWhole, Tells, ToolError, Write, WroteFront, error_text}
+use Rattle.mulkavesh.specs.declared.made.Made.{Made}
+use Rattle.mulkavesh.specs.declared.order.Work.{Work}
+use Rattle.mulkavesh.specs.declared.order.Work.TheVariants as work
+use Rattle.mulkavesh.specs.Message.{line}
+
+-- ---- from the source to the sink
+
+module _ (Answers : List ℕ → Result Made Error → Type 0) (from_old from_new to_old to_new : Option (List ℕ)) where
+  -- all of the source was read, and this is what is made of it
+  abbrev pub ReadsAndMakes : List ℕ → Result Made Error → Type 0
+  ReadsAndMakes bytes result = ReadsWhole from_old from_new bytes × Answers bytes result
+
+  -- a beginning of what is made was written
+  abbrev pub WroteSome : Type 0
+  WroteSome = (bytes : List ℕ) × ((made : Made) × (ReadsAndMakes bytes (Ok made) × WroteFront to_old to_new made.output.items))
+
+  -- why an order is refused: memory ran out, or that is what is made of all that was read
+  abbrev pub RefusesRead : Error → Type 0
+  RefusesRead (Memory e) = ⊤
+  RefusesRead e = (bytes : List ℕ) × ReadsAndMakes bytes (Err e)
+
+  -- what is made of all of the source is written, or a beginning of it where the sink failed; refused before, nothing is written
+  abbrev pub Carries : Result Made ToolError → Type 0
+  Carries (Ok made) = ((bytes : List ℕ) × ReadsAndMakes bytes (Ok made)) × Appends to_old to_new made.output.items
+  Carries (Err Write) = WroteSome
+  Carries (Err Read) = Keeps to_old to_new
+  Carries (Err (Module e)) = Keeps to_old to_new × RefusesRead e
+
+-- ---- what is told
+
+-- what is said of a module that isn't accepted
+abbrev pub refused_text : List ℕ
+refused_text = codes "the input WebAssembly is invalid"
+
+-- what isn't there
+abbrev pub absent_text : Work → List ℕ
+absent_text work.Strip = codes "there is no custom section of this name"
+absent_text work.Snip = codes "no function is exported under this name"
+absent_text _ = codes "there is no such function"
+
+-- what a refusal says
+abbrev pub refusal_text : Work → Error → List ℕ
+refusal_text w (InvalidWasm kind) = refused_text
+refusal_text w NotFound = absent_text w
+refusal_text w NotReplaceable = codes "this function is imported, or exported before under another name"
+refusal_text w e = error_text e
+
+-- the words of a source or a sink: its name, why its last call failed, and whether its reader went away
+pub record Words : Type 0 where
+  pub name : List ℕ
+  pub trouble : List ℕ
+  pub is_left : Bool
+
+-- nothing is said
+abbrev pub IsSilent : (old new : Option (List ℕ)) → (failures_old failures_new : ℕ) → Type 0
+IsSilent old new failures_old failures_new = Keeps old new × (failures_new ≡ failures_old)
+
+-- the sink failed: nothing is said where its reader went away, and else the line says why
+abbrev pub TellsUnlessLeft : (is_left : Bool) → (text : List ℕ) → (old new : Option (List ℕ)) → (failures_old failures_new : ℕ) → Type 0
+TellsUnlessLeft true text old new failures_old failures_new = IsSilent old new failures_old failures_new
+TellsUnlessLeft false text old new failures_old failures_new = Tells old new failures_old failures_new text
+
+abbrev pub TellsUnwritten : Words → (old new : Option (List ℕ)) → (failures_old failures_new : ℕ) → Type 0
+TellsUnwritten to = TellsUnlessLeft to.is_left (line to.name to.trouble)
+
+-- what came of an order, as the program tells it: the status, and on the error stream a note, or the refusal in a line
+module _ (w : Work) (from to : Words) (status : ℕ) (old new : Option (List ℕ)) (failures_old failures_new : ℕ) where
+  abbrev pub TellsLine : List ℕ → List ℕ → Type 0
+  TellsLine name text = (status ≡ 1) × Tells old new failures_old failures_new (line name text)
+
+  -- a module that isn't accepted is a refusal
+  abbrev pub TellsMade : (is_refused : Bool) → (note : List ℕ) → Type 0
+  TellsMade true note = TellsLine from.name refused_text
+  TellsMade false note = (status ≡ 0) × Tells old new failures_old failures_new note
+
+  abbrev pub IsTold : Result Made ToolError → Type 0
+  IsTold (Ok made) = TellsMade made.is_refused made.note.items
+  IsTold (Err Read) = TellsLine from.name from.trouble
+  IsTold (Err Write) = (status ≡ 1) × TellsUnwritten to old new failures_old failures_new
+  IsTold (Err (Module e)) = TellsLine from.name (refusal_text w e)
+
+-- The order was carried out or refused; its two devices counted the failure of which it answers and no other; and its answer was told.
+pub record RunsAndTells (Answers : List ℕ → Result Made Error → Type 0) (w : Work) (from_old from_new to_old to_new : Option (List ℕ)) (reads_old reads_new writes_old writes_new : ℕ) (from to : Words) (status : ℕ) (old new : Option (List ℕ)) (failures_old failures_new : ℕ) : Type 0 where
+  pub answer : Result Made ToolError
+  pub ran : Carries Answers from_old from_new to_old to_new answer
+  pub reads : CountsReads reads_old reads_new answer
+  pub writes : CountsWrites writes_old writes_new answer
+  pub told : IsTold w from to status old new failures_old failures_new answer
+
+-- a text was written and the status is 0; or the sink failed, which it counted, and a beginning of the text was written
+pub data Says (text : List ℕ) (to_old to_new : Option (List ℕ)) (to : Words) (status : ℕ) (old new : Option (List ℕ)) (failures_old failures_new : ℕ) : Type 0 where
+  said : status ≡ 0 → Appends to_old to_new text → IsSilent old new failures_old failures_new → Says text to_old to_new to status old new failures_old failures_new
+  failed : status ≡ 1 → WroteFront to_old to_new text → TellsUnwritten to old new failures_old failures_new → Says text to_old to_new to status old new failures_old failures_new

@@ -1,0 +1,7 @@
+pub mod Command
+pub mod Entries
+pub mod Made
+pub mod Message
+pub mod Order
+pub mod Steps
+pub mod Words

@@ -1,0 +1,128 @@
+//! One order from its source to its sink, and what is told of it.
+
+ghost use Rattle.std.specs.Prelude.{◌≡◌, OnOk, true};
+ghost use Rattle.mulkavesh.specs.Command.{Carries, RunsAndTells, Says, TellsUnwritten, absent_text, refusal_text};
+ghost use Rattle.mulkavesh.specs.Made.{AnswersOrder};
+ghost use Rattle.walrus_tools.specs.Handed.{CountsReads, CountsWrites};
+
+use crate::explains::Explains;
+use crate::made::{Made, make};
+use crate::message::refuse;
+use crate::order::{Order, Work};
+use crate::verdicts::REFUSED;
+use std::alloc::Global;
+use walrus_tools::{Error, ReadAllError, Sink, Source, ToolError, read_all, write_all};
+
+// Reads all of the source, and writes what the order makes of it to the sink.
+fn carry<R: Source, W: Sink>(
+    alloc: Global,
+    order: &Order,
+    input: &mut R,
+    output: &mut W,
+) -> Result<Made, ToolError>
+    ensures headline { Carries (AnswersOrder order.now) (R.left input.old) (R.left input.new)
+        (W.held output.old) (W.held output.new) result }
+    ensures flushed { OnOk result (W.is_flushed output.new ≡ true) }
+    ensures reads { CountsReads (R.read_failures input.old) (R.read_failures input.new) result }
+    ensures writes { CountsWrites (W.write_failures output.old) (W.write_failures output.new) result }
+{
+    let bytes = match read_all(alloc, input) {
+        Ok(bytes) => bytes,
+        Err(ReadAllError::Device) => return Err(ToolError::Read),
+        Err(ReadAllError::Memory(error)) => return Err(ToolError::Module(Error::Memory(error))),
+    };
+    let answer = match make(alloc, order, &bytes) {
+        Ok(answer) => answer,
+        Err(error) => return Err(ToolError::Module(error)),
+    };
+    drop(bytes);
+    match write_all(output, &answer.output) {
+        Ok(()) => Ok(answer),
+        Err(_) => Err(ToolError::Write),
+    }
+}
+
+// Why an exported function isn't replaced.
+const KEPT: &str = "this function is imported, or exported before under another name";
+
+// What a refusal says, in the words of the subcommand.
+fn text_of(work: Work, error: &Error) -> &str
+    ensures { result.now ≡ refusal_text work error.now }
+{
+    match error {
+        Error::InvalidWasm(_) => REFUSED,
+        Error::NotFound => absent(work),
+        Error::NotReplaceable => KEPT,
+        other => other.text(),
+    }
+}
+
+// What isn't there.
+fn absent(work: Work) -> &'static str
+    ensures { result.now ≡ absent_text work }
+{
+    match work {
+        Work::Strip => "there is no custom section of this name",
+        Work::Snip => "no function is exported under this name",
+        _ => "there is no such function",
+    }
+}
+
+/// Writes a text to the sink, and answers the status: 0, or 1 where that failed, which is told unless its reader went away.
+pub(crate) fn say<W: Sink + Explains, E: Sink>(output: &mut W, errors: &mut E, text: &str) -> u8
+    ensures { Says text.now (W.held output.old) (W.held output.new)
+        (record { name = W.name output.new; trouble = W.trouble output.new; is_left = W.is_left output.new })
+        result (E.held errors.old) (E.held errors.new) (E.write_failures errors.old)
+        (E.write_failures errors.new) }
+{
+    match write_all(output, text.as_bytes()) {
+        Ok(()) => 0,
+        Err(_) => unwritten(output, errors),
+    }
+}
+
+// Tells that the sink failed, unless its reader went away.
+fn unwritten<W: Explains, E: Sink>(output: &W, errors: &mut E) -> u8
+    ensures status { result ≡ 1 }
+    ensures told { TellsUnwritten
+        (record { name = W.name output.now; trouble = W.trouble output.now; is_left = W.is_left output.now })
+        (E.held errors.old) (E.held errors.new) (E.write_failures errors.old)
+        (E.write_failures errors.new) }
+{
+    if output.is_left() {
+        return 1;
+    }
+    refuse(errors, output.name(), output.trouble())
+}
+
+/// Runs one order: reads all of the source, writes what is made of it to the sink, and tells of a refusal in one line. The answer is the status: 0
+/// where all was written, 1 where it was refused, or where the module that was checked isn't accepted. Where the reader of the sink went away,
+/// nothing is told.
+pub(crate) fn command<R: Source + Explains, W: Sink + Explains, E: Sink>(
+    alloc: Global,
+    order: &Order,
+    input: &mut R,
+    output: &mut W,
+    errors: &mut E,
+) -> u8
+    ensures runs { RunsAndTells (AnswersOrder order.now) order.now.work
+        (R.left input.old) (R.left input.new) (W.held output.old) (W.held output.new)
+        (R.read_failures input.old) (R.read_failures input.new) (W.write_failures output.old)
+        (W.write_failures output.new)
+        (record { name = R.name input.new; trouble = R.trouble input.new; is_left = R.is_left input.new })
+        (record { name = W.name output.new; trouble = W.trouble output.new; is_left = W.is_left output.new })
+        result (E.held errors.old) (E.held errors.new) (E.write_failures errors.old)
+        (E.write_failures errors.new) }
+    ensures flushed { result ≡ 0 → W.is_flushed output.new ≡ true }
+{
+    match carry(alloc, order, input, output) {
+        Ok(answer) if answer.is_refused => refuse(errors, input.name(), REFUSED),
+        Ok(answer) => {
+            let _told = write_all(errors, &answer.note);
+            0
+        }
+        Err(ToolError::Read) => refuse(errors, input.name(), input.trouble()),
+        Err(ToolError::Write) => unwritten(output, errors),
+        Err(ToolError::Module(error)) => refuse(errors, input.name(), text_of(order.work, &error)),
+    }
+}

@@ -1,0 +1,32 @@
+//! The line in which a refusal is told.
+
+ghost use Rattle.std.specs.Prelude.{◌≡◌, OnErr, OnOk};
+ghost use Rattle.std.specs.Io.KnownBytes.{Appends};
+ghost use Rattle.mulkavesh.specs.Message.{line};
+ghost use Rattle.walrus_tools.specs.Handed.{Counts, Tells, WroteFront};
+
+use walrus_tools::{DeviceFailed, Sink, write_all};
+
+// Writes the program's name, of what is told, what is told, and a line end.
+fn write_line<E: Sink>(errors: &mut E, of: &str, text: &str) -> Result<(), DeviceFailed>
+    ensures ok { OnOk result (Appends (E.held errors.old) (E.held errors.new) (line of.now text.now)) }
+    ensures begun { OnErr result
+        (WroteFront (E.held errors.old) (E.held errors.new) (line of.now text.now)) }
+    ensures counts { Counts (E.write_failures errors.old) (E.write_failures errors.new) result }
+{
+    write_all(errors, b"mulkavesh: ")?;
+    write_all(errors, of.as_bytes())?;
+    write_all(errors, b": ")?;
+    write_all(errors, text.as_bytes())?;
+    write_all(errors, b"\n")
+}
+
+/// Tells of a refusal in one line, and answers the status of a refused run. Where the line can't be written, the status is the same.
+pub fn refuse<E: Sink>(errors: &mut E, of: &str, text: &str) -> u8
+    ensures status { result ≡ 1 }
+    ensures told { Tells (E.held errors.old) (E.held errors.new) (E.write_failures errors.old)
+        (E.write_failures errors.new) (line of.now text.now) }
+{
+    let _told = write_line(errors, of, text);
+    1
+}

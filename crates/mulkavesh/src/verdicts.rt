@@ -1,0 +1,69 @@
+//! Whether a module is accepted, and what is wrong with one that isn't.
+
+ghost use Rattle.std.specs.Prelude.{◌≡◌, IfOk};
+ghost use Rattle.mulkavesh.specs.Made.{Checks, verdict_text};
+ghost use Rattle.walrus_tools.specs.Wanted.{config_wanted};
+
+use crate::json::add_string;
+use crate::made::Made;
+use crate::order::Order;
+use std::alloc::{AllocError, Global};
+use walrus_tools::{Error, Fault, diagnose, fault_words};
+
+/// What is said of bytes that aren't accepted.
+pub(crate) const REFUSED: &str = "the input WebAssembly is invalid";
+
+/// Whether the module is accepted, and else what is wrong with it, as a text.
+pub(crate) fn checked(alloc: Global, order: &Order, bytes: &[u8]) -> Result<Made, Error>
+    ensures { Checks (config_wanted order.now.wanted) bytes.now order.now.is_json result }
+{
+    let found = diagnose(alloc, bytes, order.wanted)?;
+    let output = if order.is_json {
+        json(alloc, found)?
+    } else {
+        text(alloc, found)?
+    };
+    Ok(Made {
+        output,
+        note: Vec::new(alloc),
+        is_refused: found.is_some(),
+    })
+}
+
+// A line for people.
+fn text(alloc: Global, found: Option<Fault>) -> Result<Vec<u8>, AllocError>
+    ensures { IfOk result (λ text. text.items ≡ verdict_text found) }
+{
+    let mut text = match found {
+        None => String::from_str(alloc, "accepted")?,
+        Some(fault) => fault_words(alloc, fault)?,
+    };
+    text.push_str("\n")?;
+    Ok(text.into_bytes())
+}
+
+// An object for programs.
+fn json(alloc: Global, found: Option<Fault>) -> Result<Vec<u8>, AllocError> {
+    let mut text = Vec::new(alloc);
+    let Some(fault) = found else {
+        text.extend_from_slice(b"{\"accepted\":true}\n")?;
+        return Ok(text);
+    };
+    text.extend_from_slice(b"{\"accepted\":false,\"reason\":")?;
+    let words = fault_words(alloc, fault)?;
+    add_string(&mut text, words.as_bytes())?;
+    let place = place_of(alloc, fault)?;
+    text.extend_from_slice(place.as_bytes())?;
+    text.extend_from_slice(b"}\n")?;
+    Ok(text)
+}
+
+// The members that say where it is.
+fn place_of(alloc: Global, fault: Fault) -> Result<String, AllocError> {
+    match fault {
+        Fault::Header => String::from_str(alloc, ",\"kind\":\"header\""),
+        Fault::Section(place) => format!(in alloc; ",\"kind\":\"section\",\"place\":{place}"),
+        Fault::Rule(_) => String::from_str(alloc, ",\"kind\":\"rule\""),
+        Fault::Body(index) => format!(in alloc; ",\"kind\":\"body\",\"index\":{index}"),
+    }
+}

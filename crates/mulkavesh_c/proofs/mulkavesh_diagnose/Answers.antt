@@ -1,0 +1,11 @@
+use Rattle.std.proofs.Common.{sym, ◌∙◌}
+use Rattle.walrus_tools.specs.Diagnosed.{AnswersFault}
+use Rattle.walrus_tools.specs.Wanted.{config_wanted}
+use Rattle.walrus_tools.specs.declared.wanted.Wanted.{Wanted}
+use Rattle.mulkavesh_c.specs.Given.{Answer}
+use Rattle.mulkavesh_c.proofs.GivenLemmas.{gives_wanted}
+use Rattle.mulkavesh_c.proofs.mulkavesh_diagnose.Goals as goal
+
+pub returns : goal.returns
+returns c =
+    gives_wanted (λ (w : Wanted) (r : Answer). AnswersFault (config_wanted w) c.args.input.now r) c.args.flags c.in-Some.wanted (sym c.in-Some.is ∙ c.wanted_by.ensures) c.fault-made.result _ _ _ _ c.fault-made.ensures c.put.ensures

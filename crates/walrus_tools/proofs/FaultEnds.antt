@@ -1,0 +1,18 @@
+-- What is wrong with bytes, by what reading them found.
+use Rattle.std.proofs.Common.{◌≡◌, ℕ, List, refl}
+use Rattle.std.specs.Prelude.{Option, Some, None}
+use Rattle.walrus_model.specs.Config.{Config}
+use Rattle.walrus_theorem.specs.Features.{features_of}
+use Rattle.walrus_theorem.proofs.ReadAccepted.{accepts_read_lem}
+use Rattle.walrus_reading.specs.Faults.{FindsFault}
+use Rattle.walrus_reading.specs.declared.faults.Fault.{Fault}
+use Rattle.walrus_tools.specs.Diagnosed.{Finds}
+
+pub found_so : (c : Config) (bytes : List ℕ) (found : Option Fault) → FindsFault (features_of c) bytes found → Finds c bytes found
+found_so c bytes None h = (accepts_read_lem c bytes).1 (record { sections = h.sections; framed = h.framed; rules = h.rules; bodies = h.bodies; read = h.read })
+found_so c bytes (Some fault) h = (
+  h.0,
+  (λ a.
+      let r = (accepts_read_lem c bytes).0 a in
+      h.1 (record { sections = r.sections; framed = r.framed; rules = r.rules; bodies = r.bodies; read = r.read })),
+)

@@ -1,0 +1,585 @@
+#!/usr/bin/env python3
+"""What tests/program.sh tries: program.py PROGRAM WALRUS_GC, with the library of the environment's MULKAVESH_LIB.
+
+A function below whose name begins with `try_` is one part. It calls `same` for each comparison, which counts it and prints a line where it fails.
+"""
+import itertools
+import json
+import os
+import pathlib
+import re
+import shutil
+import stat
+import subprocess
+import sys
+import tempfile
+import threading
+
+TOP = pathlib.Path(__file__).resolve().parent.parent
+sys.path.insert(0, str(TOP / "python"))
+import mulkavesh  # noqa: E402
+
+PROGRAM, WALRUS_GC = sys.argv[1:]
+OTHER_USER = 65534
+FLAGS = ("--no-names", "--no-producers", "--no-legacy")
+MANY = 1_000_000
+
+counts = {"compared": 0, "finds": 0}
+
+
+def same(what, found, wanted):
+    counts["compared"] += 1
+    if found != wanted:
+        counts["finds"] += 1
+        print(f"FIND {what}: {shown(found)}, not {shown(wanted)}")
+
+
+def shown(value):
+    text = repr(value)
+    return text if len(text) < 300 else text[:200] + ".." + text[-60:]
+
+
+def run(*words, data=b"", program=PROGRAM, user=None, **more):
+    """The status, what was written, and what was said."""
+    before = ["setpriv", f"--reuid={user}", f"--regid={user}", "--clear-groups"] if user else []
+    done = subprocess.run([*before, program, *words], input=data, capture_output=True, check=False, **more)
+    return done.returncode, done.stdout, done.stderr.decode()
+
+
+# ---- modules
+
+def number(value):
+    low = bytearray()
+    while value > 127:
+        low.append(value & 127 | 128)
+        value >>= 7
+    return bytes([*low, value])
+
+
+def name(text):
+    data = text if isinstance(text, bytes) else text.encode()
+    return number(len(data)) + data
+
+
+def row(entries):
+    return number(len(entries)) + b"".join(entries)
+
+
+def section(code, content):
+    return bytes([code]) + number(len(content)) + content
+
+
+def custom(title, content):
+    return section(0, name(title) + content)
+
+
+def module_of(*sections):
+    return b"\0asm\1\0\0\0" + b"".join(sections)
+
+
+def functions(count, exports=(), names=(), more=()):
+    """A module with so many functions that do nothing, exports of (name, function) and names of functions."""
+    parts = [section(1, row([b"\x60\0\0"])), section(3, row([b"\0"] * count))]
+    parts.append(section(7, row([name(text) + b"\0" + number(at) for text, at in exports])))
+    parts.append(section(10, row([b"\2\0\x0b"] * count)))
+    listed = row([number(at) + name(text) for at, text in names])
+    parts.append(custom("name", b"\1" + number(len(listed)) + listed))
+    return module_of(*parts, *more)
+
+
+def read_number(data, at):
+    value, shift = 0, 0
+    while True:
+        byte = data[at]
+        value, shift, at = value | (byte & 127) << shift, shift + 7, at + 1
+        if byte < 128:
+            return value, at
+
+
+def sections(data):
+    """The code, the content and the whole length of each section."""
+    at = 8
+    while at < len(data):
+        size, begin = read_number(data, at + 1)
+        yield data[at], data[begin : begin + size], begin + size - at
+        at = begin + size
+
+
+def read_name(data, at):
+    size, at = read_number(data, at)
+    return data[at : at + size], at + size
+
+
+def customs(data):
+    """The name and the whole length of each custom section."""
+    return [(read_name(content, 0)[0], length) for code, content, length in sections(data) if code == 0]
+
+
+def exported(data):
+    """The name and the index of each function that is exported."""
+    for code, content, _ in sections(data):
+        if code == 7:
+            count, at = read_number(content, 0)
+            for _ in range(count):
+                text, at = read_name(content, at)
+                index, behind = read_number(content, at + 1)
+                if content[at] == 0:
+                    yield text, index
+                at = behind
+
+
+def named(data):
+    """The name and the index of each function that the name section names, as far as that stands whole."""
+    for code, content, _ in sections(data):
+        title, at = read_name(content, 0) if code == 0 else (b"", 0)
+        while title == b"name" and at < len(content):
+            kind = content[at]
+            size, at = read_number(content, at + 1)
+            if kind == 1:
+                count, row_at = read_number(content, at)
+                for _ in range(count):
+                    index, row_at = read_number(content, row_at)
+                    text, row_at = read_name(content, row_at)
+                    yield text, index
+            at += size
+
+
+TWO = functions(2, [("run", 1)], [(0, "gone"), (1, "main")], [custom(".debug_info", b"12345"), custom("notes", b"abc")])
+BROKEN = TWO[:-1]
+LEGACY = module_of(section(1, row([b"\x60\0\0"])), section(3, row([b"\0"])), section(7, row([name("f") + b"\0\0"])), section(10, row([b"\6\0\6\x40\x19\x0b\x0b"])))
+
+
+def samples():
+    folders = [TOP / "tests" / "samples", TOP.parent / "shared" / "samples"]
+    paths = [path for folder in folders if folder.is_dir() for path in sorted(folder.glob("*.wasm"))]
+    return [("two", TWO), ("broken", BROKEN), ("empty", b""), *((path.name, path.read_bytes()) for path in paths)]
+
+
+# ---- beside the other program and the library
+
+def try_gc_and_report(work):
+    for title, data in samples():
+        for flags in itertools.chain.from_iterable(itertools.combinations(FLAGS, count) for count in (0, 1, 3)):
+            wanted = run(*flags, data=data, program=WALRUS_GC)
+            same(f"gc {flags} of {title}", run("gc", "--quiet", *flags, data=data)[:2], wanted[:2])
+        wanted = run("--report", data=data, program=WALRUS_GC)
+        same(f"report of {title}", run("report", data=data)[:2], wanted[:2])
+        if wanted[0] == 0:
+            found = json.loads(run("report", "--json", data=data)[1])
+            lines = [f"{kind} kept {it['kept']} dropped {it['dropped']}\n" for kind, it in found.items()]
+            same(f"report --json of {title}", "".join(lines).encode(), wanted[1])
+
+
+def answer(call, *words, **more):
+    """The status and the bytes that the program has to answer where the library answers so."""
+    try:
+        made = call(*words, **more)
+        return 0, made if isinstance(made, bytes) else made.encode()
+    except mulkavesh.MulkaveshError:
+        return 1, b""
+
+
+def shown_name(text):
+    return "" if text is None else " " + re.sub(r"[\x00-\x1f\x7f]", "?", text)
+
+
+def try_list(work):
+    for title, data in samples():
+        try:
+            listed = mulkavesh.list_functions(data)
+        except mulkavesh.MulkaveshError:
+            same(f"list of {title}", run("list", data=data)[:2], (1, b""))
+            continue
+        lines = "".join(f"{it.size} {it.index}{shown_name(it.name)}\n" for it in listed)
+        same(f"list of {title}", run("list", data=data), (0, lines.encode(), ""))
+        found = [(it["index"], it["size"], it["name"]) for it in json.loads(run("list", "--json", data=data)[1])]
+        same(f"list --json of {title}", found, [(it.index, it.size, it.name) for it in listed])
+
+
+def try_strip(work):
+    for title, data in samples():
+        names = [text.decode() for text, _ in customs(data)] if title not in ("broken", "empty") else []
+        for text in [*dict.fromkeys(names), "no such section", ""]:
+            same(f"strip {text} of {title}", run("strip", text, data=data)[:2], answer(mulkavesh.strip, data, text))
+        wanted = answer(mulkavesh.strip, data, "notes", names=False, producers=False, legacy=False)
+        same(f"strip with all words of {title}", run("strip", *FLAGS, "notes", data=data)[:2], wanted)
+
+
+def try_snip_and_stub(work):
+    for title, data in samples():
+        names = [text.decode() for text, _ in exported(data)] if title not in ("broken", "empty") else []
+        for text in [*names[:40], "no such export", "memory"]:
+            same(f"snip {text} of {title}", run("snip", "--", text, data=data)[:2], answer(mulkavesh.snip, data, text))
+        for text in ("env", "wasi_snapshot_preview1", "no such module"):
+            same(f"stub {text} of {title}", run("stub", text, data=data)[:2], answer(mulkavesh.stub, data, text))
+
+
+def try_why(work):
+    for title, data in samples():
+        for index in (0, 1, 2, 5, 100, 4294967295):
+            same(f"why {index} of {title}", run("why", str(index), data=data)[:2], answer(mulkavesh.why, data, index))
+        same(f"why 4294967296 of {title}", run("why", "4294967296", data=data)[:2], (1, b""))
+        if title in ("broken", "empty"):
+            continue
+        meant = {text: index for text, index in [*reversed(list(exported(data))), *reversed(list(named(data)))] if not text.isdigit()}
+        kept = {it.index for it in mulkavesh.list_functions(data)[:40]}.union(index for _, index in list(exported(data))[:40])
+        for text, index in [it for it in meant.items() if it[1] in kept]:
+            wanted = answer(mulkavesh.why, data, index)
+            same(f"why {text} of {title}", run("why", "--", text.decode(), data=data)[:2], wanted)
+            found = json.loads(run("why", "--json", str(index), data=data)[1])
+            lines = "".join(f"{it['kind']} {it['index']}\n" for it in found["chain"])
+            same(f"why --json {index} of {title}", (found["reached"], lines.encode()), (b"isn't reached" not in wanted[1], wanted[1]))
+    same("why of what isn't reached", json.loads(run("why", "--json", "gone", data=TWO)[1]), {"reached": False, "chain": []})
+
+
+def try_names(work):
+    """Of a name that several have the first is meant; a name that is a number is an index; names of all kinds come through."""
+    data = functions(4, [("b", 3), ("a", 2), ("3", 2)], [(1, "same"), (2, "same"), (3, "a\"\\\n\x1b[1mé")])
+    same("why of two names", run("why", "same", data=data)[1], b"function 1 isn't reached\n")
+    same("why of an export", run("why", "a", data=data)[1], b"function 2\n")
+    same("why of a number", run("why", "3", data=data)[1], b"function 3\n")
+    data = functions(2, [("a\"\\\n\x1b[1mé", 1)], [(1, "a\"\\\n\x1b[1mé")])
+    same("list of a name", run("list", data=data)[1], "2 1 a\"\\??[1mé\n".encode())
+    same("list --json of a name", json.loads(run("list", "--json", data=data)[1]), [{"index": 1, "size": 2, "name": "a\"\\\n\x1b[1mé"}])
+    same("why of a name", run("why", "a\"\\\n\x1b[1mé", data=data)[1], b"function 1\n")
+    data = functions(1, [("a", 0)])
+    same("list without names", json.loads(run("list", "--json", data=data)[1]), [{"index": 0, "size": 2, "name": None}])
+    same("list of nothing", run("list", data=functions(1))[:2], (0, b""))
+    same("list --json of nothing", json.loads(run("list", "--json", data=functions(1))[1]), [])
+
+
+FAULTS = TOP / "tests" / "faults.txt"
+KINDS = (None, "header", "section", "rule", "body")
+
+
+def faults():
+    """The faults that were worked out by hand: whether legacy exceptions are taken, the kind, the number, the bytes and the words, without hexadecimal numbers."""
+    for line in FAULTS.read_text().splitlines():
+        if line and not line.startswith("#"):
+            numbers, data, words = (part.strip() for part in line.split("|"))
+            flags, kind, number = map(int, numbers.split())
+            yield not flags & 4, KINDS[kind], number, bytes.fromhex(data), re.sub(r" \(0x[0-9A-F]+\)", "", words)
+
+
+def try_check(work):
+    same("check", run("check", data=TWO), (0, b"accepted\n", ""))
+    same("check of legacy exceptions", run("check", data=LEGACY)[:2], (0, b"accepted\n"))
+    refused = "mulkavesh: standard input: the input WebAssembly is invalid\n"
+    same("check --no-legacy", run("check", "--no-legacy", data=LEGACY)[::2], (1, refused))
+    for legacy, kind, number, data, words in faults():
+        flags = [] if legacy else ["--no-legacy"]
+        told = (1, f"{words}\n".encode(), refused) if kind else (0, b"accepted\n", "")
+        same(f"check of {data.hex()}", run("check", *flags, data=data), told)
+        status, text, said = run("check", "--json", *flags, data=data)
+        where = {"section": {"place": number}, "body": {"index": number}}.get(kind, {})
+        wanted = {"accepted": False, "reason": words, "kind": kind, **where} if kind else {"accepted": True}
+        same(f"check --json of {data.hex()}", (status, json.loads(text), said), (told[0], wanted, told[2]))
+    out = work / "verdict"
+    out.write_bytes(b"as it was")
+    same("check -o of what is refused", run("check", "-o", out, data=BROKEN)[0], 1)
+    same("OUT of a check that was refused", out.read_bytes(), run("check", data=BROKEN)[1])
+
+
+def try_note(work):
+    for title, data in samples():
+        status, made, said = run("gc", data=data)
+        if status:
+            continue
+        parts = []
+        for line in run("report", data=data)[1].decode().splitlines():
+            kind, _, kept, _, dropped = line.split()
+            if dropped != "0":
+                parts.append(f"{int(dropped):,} of {int(kept) + int(dropped):,} {kind}")
+        debug = sum(length for text, length in customs(data) if text.startswith(b".debug"))
+        parts += [f"{debug:,} bytes of debug information"] if debug else []
+        wanted = f"mulkavesh: {len(data):,} bytes become {len(made):,}; dropped: {', '.join(parts) or 'nothing'}\n"
+        same(f"what gc says of {title}", said, wanted)
+        same(f"what gc --quiet says of {title}", run("gc", "--quiet", data=data)[2], "")
+
+
+# ---- files
+
+def is_clean(what, folder):
+    same(f"files that are left by {what}", sorted(it.name for it in folder.rglob(".mulkavesh*")), [])
+
+
+def try_files(work):
+    wanted = run("gc", "--quiet", data=TWO)[1]
+    source, out = work / "in.wasm", work / "out.wasm"
+    source.write_bytes(TWO)
+    for words in ([source, "-o", out], ["-o", out, source], ["-o", out, "--", source]):
+        same(f"gc {words}", (run("gc", "--quiet", *words), out.read_bytes()), ((0, b"", ""), wanted))
+        out.unlink()
+    same("gc IN", run("gc", "--quiet", source), (0, wanted, ""))
+    same("gc - -o -", run("gc", "--quiet", "-", "-o", "-", data=TWO), (0, wanted, ""))
+    same("gc -o OUT", (run("gc", "--quiet", "-o", out, data=TWO), out.read_bytes()), ((0, b"", ""), wanted))
+    same("the rights of a new file", stat.S_IMODE(out.stat().st_mode), 0o666 & ~current_umask())
+    same("gc -o OUT in its folder", run("gc", "--quiet", "in.wasm", "-o", "here", cwd=work), (0, b"", ""))
+    same("OUT in its folder", (work / "here").read_bytes(), wanted)
+    out.write_bytes(TWO * 3)
+    out.chmod(0o640)
+    same("gc over a longer OUT", (run("gc", "--quiet", source, "-o", out), out.read_bytes()), ((0, b"", ""), wanted))
+    same("the rights of an old file", stat.S_IMODE(out.stat().st_mode), 0o640)
+    same("IN as OUT", (run("gc", "--quiet", source, "-o", source), source.read_bytes()), ((0, b"", ""), wanted))
+    link = work / "link"
+    link.symlink_to("out.wasm")
+    same("OUT as a link", (run("gc", "--quiet", "-o", link, data=TWO), out.read_bytes()), ((0, b"", ""), wanted))
+    same("a link stays", link.is_symlink(), True)
+    long = work / ("n" * 255)
+    same("OUT with a long name", (run("gc", "--quiet", "-o", long, data=TWO), long.read_bytes()), ((0, b"", ""), wanted))
+    same("an empty list", (run("list", "-o", out, data=functions(1)), out.read_bytes()), ((0, b"", ""), b""))
+    is_clean("what was done", work)
+
+
+def current_umask():
+    mask = os.umask(0)
+    os.umask(mask)
+    return mask
+
+
+def try_failures(work):
+    """Each is a line and the status 1; OUT is as it was."""
+    out, folder = work / "out", work / "folder"
+    out.write_bytes(b"as it was")
+    folder.mkdir()
+    (work / "nowhere").symlink_to(work / "nothing")
+    (work / "circle").symlink_to(work / "circle")
+    nothing, no_folder = "there is no such file or folder", "a part of its path is no folder"
+    for words, of, why in (
+        (["gc", work / "none", "-o", out], work / "none", nothing),
+        (["gc", folder, "-o", out], folder, "it is a folder"),
+        (["gc", out / "in", "-o", out], out / "in", no_folder),
+        (["gc", work / ("n" * 300), "-o", out], work / ("n" * 300), "its name is too long"),
+        (["gc", work / "circle", "-o", out], work / "circle", "its links lead in a circle"),
+        (["gc", "", "-o", out], "", nothing),
+        (["gc", "-o", folder], folder, "it is a folder"),
+        (["gc", "-o", work / "none" / "out"], work / "none" / "out", nothing),
+        (["gc", "-o", out / "out"], out / "out", no_folder),
+        (["gc", "-o", f"{work}/new/"], f"{work}/new/", no_folder),
+        (["gc", "-o", work / ("n" * 300)], work / ("n" * 300), "its name is too long"),
+        (["gc", "-o", work / "nowhere"], work / "nowhere", nothing),
+        (["gc", "-o", ""], "", nothing),
+        (["strip", "none", "-o", out], "standard input", "there is no custom section of this name"),
+        (["snip", "none", "-o", out], "standard input", "no function is exported under this name"),
+        (["why", "none", "-o", out], "standard input", "there is no such function"),
+        (["why", "2", "-o", out], "standard input", "there is no such function"),
+    ):
+        same(f"{words}", run(*words, data=TWO), (1, b"", f"mulkavesh: {of}: {why}\n"))
+        same(f"OUT of {words}", out.read_bytes(), b"as it was")
+    for work_word in ("gc", "report", "list", "check"):
+        same(f"{work_word} of what is refused", run(work_word, "-o", out, data=BROKEN), (1, b"", "mulkavesh: standard input: the input WebAssembly is invalid\n"))
+    data = functions(1, [("a", 0), ("b", 0)])
+    same("snip of a second name", run("snip", "b", data=data)[2], "mulkavesh: standard input: this function is imported, or exported before under another name\n")
+    is_clean("what was refused", work)
+
+
+def try_rights(work):
+    if os.getuid() != 0:
+        print("not tried: another user, since this one isn't root")
+        return
+    os.chmod(work, 0o755)
+    program = work / "program"
+    shutil.copy(PROGRAM, program)
+    mine, theirs, shut = work / "mine", work / "theirs", work / "shut"
+    for folder, owner in ((mine, 0), (theirs, OTHER_USER), (shut, OTHER_USER)):
+        folder.mkdir()
+        (folder / "out").write_bytes(b"as it was")
+        (folder / "in").write_bytes(TWO)
+        for path in (folder, folder / "out", folder / "in"):
+            os.chown(path, owner, owner)
+    (theirs / "out").chmod(0o444)
+    (shut / "in").chmod(0)
+    for what, words, of in (
+        ("a folder of another user", ["gc", "-o", mine / "new"], mine / "new"),
+        ("a file of another user", ["gc", "-o", mine / "out"], mine / "out"),
+        ("a file that isn't to be written", ["gc", "-o", theirs / "out"], theirs / "out"),
+        ("a file that isn't to be read", ["gc", shut / "in", "-o", shut / "out"], shut / "in"),
+    ):
+        found = run(*words, data=TWO, program=program, user=OTHER_USER)
+        same(what, found, (1, b"", f"mulkavesh: {of}: there is no right to do that\n"))
+    (mine / "out").chmod(0o666)
+    found = run("gc", "-o", mine / "out", data=TWO, program=program, user=OTHER_USER)
+    same("a file that may be written in a folder that may not", found, (1, b"", f"mulkavesh: {mine / 'out'}: there is no right to do that\n"))
+    for folder in (mine, theirs, shut):
+        same(f"OUT in {folder.name}", (folder / "out").read_bytes(), b"as it was")
+        same(f"what is in {folder.name}", sorted(it.name for it in folder.iterdir()), ["in", "out"])
+    (theirs / "out").chmod(0o600)
+    same("root over a file of another user", run("gc", "--quiet", "-o", theirs / "out", data=TWO)[0], 0)
+    same("whose it is then", ((theirs / "out").stat().st_uid, stat.S_IMODE((theirs / "out").stat().st_mode)), (OTHER_USER, 0o600))
+
+
+def try_full_disk(work):
+    disk = work / "disk"
+    disk.mkdir()
+    if subprocess.run(["mount", "-t", "tmpfs", "-o", "size=64k", "none", disk], capture_output=True, check=False).returncode:
+        print("not tried: a full disk, since none can be mounted")
+        return
+    try:
+        out, data = disk / "out", functions(20000, [(f"f{at}", at) for at in range(20000)])
+        line = f"mulkavesh: {out}: no space is left\n"
+        same("a new file on a full disk", run("gc", "--quiet", "-o", out, data=data), (1, b"", line))
+        same("what is on it", list(disk.iterdir()), [])
+        out.write_bytes(b"as it was")
+        same("an old file on a full disk", run("gc", "--quiet", "-o", out, data=data), (1, b"", line))
+        same("what is on it then", [(it.name, it.read_bytes()) for it in disk.iterdir()], [("out", b"as it was")])
+    finally:
+        subprocess.run(["umount", disk], check=True)
+
+
+# ---- devices, pipes and streams
+
+def try_devices(work):
+    wanted = run("gc", "--quiet", data=TWO)[1]
+    full = "no space is left\n"
+    same("OUT as /dev/full", run("gc", "--quiet", "-o", "/dev/full", data=TWO), (1, b"", f"mulkavesh: /dev/full: {full}"))
+    with open("/dev/full", "wb") as device:
+        done = subprocess.run([PROGRAM, "gc"], input=TWO, stdout=device, stderr=subprocess.PIPE, check=False)
+        same("standard output as /dev/full", (done.returncode, done.stderr.decode()), (1, f"mulkavesh: standard output: {full}"))
+        done = subprocess.run([PROGRAM, "--help"], stdout=device, stderr=subprocess.PIPE, check=False)
+        same("--help to /dev/full", (done.returncode, done.stderr.decode()), (1, f"mulkavesh: standard output: {full}"))
+        done = subprocess.run([PROGRAM, "gc"], input=BROKEN, stdout=subprocess.PIPE, stderr=device, check=False)
+        same("standard error as /dev/full", (done.returncode, done.stdout), (1, b""))
+    same("OUT as /dev/null", run("gc", "--quiet", "-o", "/dev/null", data=TWO), (0, b"", ""))
+    same("/dev/null is a device", stat.S_ISCHR(os.stat("/dev/null").st_mode), True)
+    same("OUT as /dev/stdout", run("gc", "--quiet", "-o", "/dev/stdout", data=TWO), (0, wanted, ""))
+    same("IN as /dev/stdin", run("gc", "--quiet", "/dev/stdin", data=TWO), (0, wanted, ""))
+    pipe = work / "pipe"
+    os.mkfifo(pipe)
+    read = []
+    reader = threading.Thread(target=lambda: read.append(pipe.read_bytes()))
+    reader.start()
+    same("OUT as a named pipe", run("gc", "--quiet", "-o", pipe, data=TWO), (0, b"", ""))
+    reader.join(10)
+    same("what comes through", read, [wanted])
+    same("a named pipe stays", stat.S_ISFIFO(pipe.stat().st_mode), True)
+    writer = threading.Thread(target=lambda: pipe.write_bytes(TWO))
+    writer.start()
+    same("IN as a named pipe", run("gc", "--quiet", pipe), (0, wanted, ""))
+    writer.join(10)
+
+
+def shell(text, **more):
+    done = subprocess.run(["bash", "-c", text], capture_output=True, check=False, env={**os.environ, "P": PROGRAM, **more})
+    return done.returncode, done.stdout, done.stderr.decode()
+
+
+def try_closed_streams(work):
+    """Where a standard stream is closed, nothing else takes its place."""
+    wanted = run("gc", "--quiet", data=TWO)[1]
+    source, out = work / "in", work / "out"
+    source.write_bytes(TWO)
+    words = {"IN": str(source), "OUT": str(out)}
+    for closed in ("2>&-", ">&-", "<&-", "<&- >&- 2>&-"):
+        same(f"gc {closed}", shell(f'"$P" gc "$IN" -o "$OUT" {closed}', **words)[0], 0)
+        same(f"OUT of gc {closed}", out.read_bytes(), wanted)
+    same("gc from a pipe 2>&-", shell('cat "$IN" | "$P" gc -o "$OUT" 2>&-', **words)[0], 0)
+    same("OUT of gc from a pipe 2>&-", out.read_bytes(), wanted)
+    same("gc <&-", shell('"$P" gc <&-', **words)[::2], (1, "mulkavesh: standard input: the system refused\n"))
+    same("gc >&-", shell('"$P" gc "$IN" >&-', **words)[::2], (1, "mulkavesh: standard output: the system refused\n"))
+
+
+def try_readers_that_go(work):
+    big = functions(20000, [(f"f{at}", at) for at in range(20000)], more=[custom("notes", b"abc")])
+    (work / "big").write_bytes(big)
+    for words in ("gc --quiet", "list", "list --json", "strip notes"):
+        found = shell(f'"$P" {words} "$IN" | head -c 1 | wc -c; echo "${{PIPESTATUS[0]}}"', IN=str(work / "big"))
+        same(f"{words} into head", found, (0, b"1\n1\n", ""))
+    many = work / "many"
+    many.write_bytes(functions(MANY, [(f"f{at}", at) for at in range(MANY)]))
+    found = shell('"$P" list "$IN" | head -n 1; echo "${PIPESTATUS[0]}"', IN=str(many))
+    same("a list of a million lines into head", found, (0, b"2 0\n1\n", ""))
+    found = shell('"$P" list "$IN" | wc -l', IN=str(many))
+    same("a list of a million lines", found, (0, b"%d\n" % MANY, ""))
+
+
+# ---- words, help, completions, manual
+
+def try_words(work):
+    """Words that say nothing: the status 2, a line, and nothing is read."""
+    source = work / "in"
+    source.write_bytes(TWO)
+    line = "mulkavesh: these words say nothing; mulkavesh --help tells the words\n"
+    for words in (
+        "", "nothing", "GC", "gc in out", "gc -o", "gc -o a -o b", "gc --json", "report --quiet", "list --quiet", "check -x", "gc -", "gc --",
+        "strip", "strip -o out", "snip", "stub", "why", "why --json", "snip a --no-names", "stub a --json", "why a --no-legacy", "strip a b c",
+        "why a b c", "gc --help in", "gc in --help", "--help gc", "--version gc", "--quiet gc", "gc --no-name", "gc --no-names=1", "-h", "gc -- a b",
+    ):
+        known = words in ("gc -", "gc --")
+        with open(source, "rb") as stream:
+            done = subprocess.run([PROGRAM, *words.split()], stdin=stream, capture_output=True, check=False)
+            read = os.lseek(stream.fileno(), 0, os.SEEK_CUR)
+            found = (done.returncode, read > 0, done.stderr.decode() if not known else "")
+            same(f"the words {words!r}", found, (0, True, "") if known else (2, False, line))
+    done = subprocess.run([PROGRAM, b"gc", b"\xff"], capture_output=True, check=False)
+    same("a word that isn't UTF-8", (done.returncode, done.stderr.decode()), (2, line))
+    wanted = run("gc", "--quiet", "--no-names", data=TWO)
+    for words in ("gc --no-names --quiet --no-names", "gc - --quiet --no-names", "gc --quiet -o - --no-names --"):
+        same(f"the words {words!r}", run(*words.split(), data=TWO), wanted)
+    (work / "--quiet").write_bytes(TWO)
+    same("a file that is called as a flag", run("check", "--", "--quiet", cwd=work), (0, b"accepted\n", ""))
+    same("OUT that is called as a flag", run("check", "--json", "-o", "--json", data=TWO, cwd=work), (0, b"", ""))
+    same("its text", (work / "--json").read_bytes(), b"{\"accepted\":true}\n")
+
+
+def try_help(work):
+    version = run("--version")
+    same("--version", (version[0], version[2], re.fullmatch(rb"mulkavesh \d+\.\d+\.\d+\n", version[1]) is not None), (0, "", True))
+    words = ["gc", "report", "list", "check", "strip", "snip", "stub", "why"]
+    whole = run("--help")
+    same("--help", (whole[0], whole[2]), (0, ""))
+    flags = {}
+    for word in words:
+        same(f"--help names {word}", f"\n  {word} " in whole[1].decode(), True)
+        status, text, said = run(word, "--help")
+        same(f"{word} --help", (status, said, text.startswith(f"usage: mulkavesh {word} ".encode())), (0, "", True))
+        flags[word] = set(re.findall(r"--[a-z-]+", text.decode()))
+        for flag in ("--no-names", "--no-producers", "--no-legacy", "--quiet", "--json"):
+            operand = ["x"] if word in words[4:] else []
+            known = run(word, flag, *operand, data=b"")[0] != 2
+            same(f"{word} --help names {flag}", flag in flags[word], known)
+    lines = [line for it in (whole, *(run(word, "--help") for word in words)) for line in it[1].decode().splitlines()]
+    same("the longest line of --help", max(map(len, lines)) <= 150, True)
+    try_completions(words, flags)
+    try_manual(words, set().union(*flags.values()))
+
+
+def completed(*words):
+    text = 'source "$FILE"; COMP_WORDS=("$@"); COMP_CWORD=$(($# - 1)); _mulkavesh; printf "%s\\n" "${COMPREPLY[@]}"'
+    done = subprocess.run(["bash", "-c", text, "bash", *words], capture_output=True, check=False, cwd=TOP / "tests",
+                          env={**os.environ, "FILE": str(TOP / "completions" / "mulkavesh.bash")})
+    same(f"what the completion of {words} says", (done.returncode, done.stderr), (0, b""))
+    return set(done.stdout.decode().split())
+
+
+def try_completions(words, flags):
+    same("bash -n of the completions", subprocess.run(["bash", "-n", TOP / "completions" / "mulkavesh.bash"], check=False).returncode, 0)
+    same("the first word", completed("mulkavesh", ""), {*words, "--help", "--version"})
+    same("a word that is begun", completed("mulkavesh", "s"), {"strip", "snip", "stub"})
+    for word in words:
+        same(f"the flags of {word}", completed("mulkavesh", word, "-"), {*flags[word], "--help", "-o"})
+    same("a file", "samples" in completed("mulkavesh", "gc", "sam"), True)
+    same("a file behind -o", "samples" in completed("mulkavesh", "gc", "-o", "sam"), True)
+
+
+def try_manual(words, flags):
+    page = TOP / "man" / "mulkavesh.1"
+    if not shutil.which("groff"):
+        print("not tried: the manual page, since there is no groff")
+        return
+    done = subprocess.run(["groff", "-man", "-Tascii", "-ww", page], capture_output=True, check=False)
+    same("what groff says of the manual page", (done.returncode, done.stderr), (0, b""))
+    text = page.read_text().replace("\\-", "-")
+    for word in [*words, *flags, "--help", "--version"]:
+        same(f"the manual page names {word}", word in text, True)
+
+
+def main():
+    for title, part in list(globals().items()):
+        if title.startswith("try_") and title not in ("try_completions", "try_manual"):
+            with tempfile.TemporaryDirectory() as folder:
+                part(pathlib.Path(folder))
+    print(f"tests/program.sh: {counts['compared']} comparisons, {counts['finds']} finds")
+    sys.exit(counts["finds"] > 0)
+
+
+main()
