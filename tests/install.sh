@@ -1,15 +1,22 @@
 #!/usr/bin/env bash
 # Puts in what the scripts of this folder compare with, as Debian's packages: wabt (wat2wasm, wasm-objdump, wasm-validate), binaryen (wasm-opt) and
-# nodejs (node); and what c.sh, rust.sh and python.sh compile and run: g++ (cc, c++, nm), cargo and python3. What is there stays. Where a package can't be put in, it says which commands are missing, and ends with status 1: what is compared
-# with them isn't compared then. `.ci/run` calls it, with a limit on its time. tests/install.sh [--look]: with --look nothing is put in.
+# nodejs (node); and what c.sh, rust.sh, python.sh and web.sh compile and run: g++ (cc, c++, nm), cargo, python3 and a Chromium, of which any will do. What is
+# there stays. Where a package can't be put in, it says which commands are missing, and ends with status 1: what is compared with them isn't compared then.
+# `.ci/run` calls it, with a limit on its time. tests/install.sh [--look]: with --look nothing is put in.
 set -u
+here=$(dirname "$0")
 declare -A package=([wat2wasm]=wabt [wasm-objdump]=wabt [wasm-validate]=wabt [wasm-opt]=binaryen [node]=nodejs
-  [cc]=g++ [c++]=g++ [nm]=binutils [cargo]=cargo [python3]=python3)
+  [cc]=g++ [c++]=g++ [nm]=binutils [cargo]=cargo [python3]=python3 [chromium]=chromium-headless-shell)
+
+# Whether a command is there, or what stands for it.
+there() {
+  if [ "$1" = chromium ]; then "$here/web/chromium.sh"; else command -v "$1"; fi > /dev/null
+}
 
 # The commands that aren't there, in the order of their names.
 missing() {
   for command in "${!package[@]}"; do
-    command -v "$command" > /dev/null || echo "$command"
+    there "$command" || echo "$command"
   done | sort
 }
 
@@ -30,7 +37,8 @@ put_in() {
 mapfile -t lacking < <(missing)
 if [ "${#lacking[@]}" -gt 0 ] && [ "${1-}" != --look ]; then
   mapfile -t wanted < <(packages "${lacking[@]}")
-  put_in "${wanted[@]}" || true
+  # Where one of them isn't known, none is put in: then each by itself.
+  put_in "${wanted[@]}" || for one in "${wanted[@]}"; do put_in "$one" || true; done
   mapfile -t lacking < <(missing)
 fi
 [ "${#lacking[@]}" = 0 ] || { echo "tests/install.sh: there is no ${lacking[*]}" >&2; exit 1; }

@@ -1,10 +1,12 @@
 #!/usr/bin/env bash
 # Calls the library from JavaScript: tests/web.sh [FOLDER [PROGRAM]], the folder that web/build.sh left and the proved program where none are given, or
 # those of web/build.sh --unproved and of tests/unproved.sh. The callers stand in tests/web.
-#   worked.mjs   each call on modules whose bytes were worked out by hand, an error of each kind, each way to load, memory that grows and that runs out
+#   worked.mjs   each call on modules whose bytes were worked out by hand (and faults.txt), an error of each kind, each way to load, memory that grows and runs out
 #   beside.mjs   the modules of tests/samples, ../shared/samples (where it is there), made ones of tests/made (where wabt is there) and 2,000 mutants of them,
-#                beside the program under its words: the same bytes and statuses
-# Prints the counts and a line for each find. Where there is no node, nothing is run, and the status is 2. Two minutes of one processor.
+#                beside the program under its words: the same bytes and statuses, and a fault where it refuses
+#   browser.py   the page in a headless Chromium (where one is there; chromium.py drives it): drops, the counts, lists, chains and download of these modules,
+#                beside the program and the library; keys alone, refusals, 20 MB, the policy, wide and narrow. MULKAVESH_SCREENS names a folder for screenshots
+# Prints the counts and a line for each find. Where there is no node, nothing is run, and the status is 2. A minute of one processor.
 set -eu
 top=$(cd "$(dirname "$0")/.." && pwd)
 command -v node > /dev/null || { echo "tests/web.sh: there is no node, so nothing is run" >&2; exit 2; }
@@ -39,6 +41,7 @@ PY
 
 modules=("$top/tests/samples")
 [ ! -d "$top/../shared/samples" ] || modules+=("$top/../shared/samples")
+real=("${modules[@]}")
 if command -v wat2wasm > /dev/null; then
   features=(--enable-multi-memory --enable-memory64 --enable-exceptions --enable-threads --enable-extended-const)
   mkdir "$work/made" && modules+=("$work/made")
@@ -49,5 +52,10 @@ fi
 mkdir "$work/mutants" && make_mutants "${modules[@]}"
 node "$top/tests/web/worked.mjs" "$folder" || status=1
 node "$top/tests/web/beside.mjs" "$folder" "$program" "$work/mutants" "${modules[@]}" || status=1
+if chromium=$("$top/tests/web/chromium.sh"); then
+  python3 "$top/tests/web/browser.py" "$chromium" "$folder" "$program" "${real[@]}" || status=1
+else
+  echo "not run: the page, since there is no Chromium"
+fi
 [ "$status" = 0 ] && echo "tests/web.sh: no finds" || echo "tests/web.sh: there are finds"
 exit "$status"
