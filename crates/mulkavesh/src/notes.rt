@@ -11,21 +11,41 @@ pub(crate) fn note_of(
     report: &[u8],
 ) -> Result<Vec<u8>, AllocError> {
     let mut note = Vec::new(alloc);
-    note.extend_from_slice(b"mulkavesh: ")?;
-    add_grouped(alloc, &mut note, bytes.len() as u64)?;
-    note.extend_from_slice(b" bytes become ")?;
-    add_grouped(alloc, &mut note, output.len() as u64)?;
-    note.extend_from_slice(b"; dropped: ")?;
-    let begin = note.len();
-    for line in report.split(|byte| *byte == b'\n') {
-        add_line(alloc, &mut note, line, begin)?;
-    }
-    add_debug(alloc, &mut note, debug_bytes(bytes), begin)?;
-    if note.len() == begin {
-        note.extend_from_slice(b"nothing")?;
-    }
-    note.push(b'\n')?;
+    add_sizes(alloc, &mut note, bytes.len(), output.len())?;
+    add_dropped(alloc, &mut note, report, debug_bytes(bytes))?;
     Ok(note)
+}
+
+// Puts behind the text how many bytes become how many.
+fn add_sizes(
+    alloc: Global,
+    to: &mut Vec<u8>,
+    before: usize,
+    after: usize,
+) -> Result<(), AllocError> {
+    to.extend_from_slice(b"mulkavesh: ")?;
+    add_grouped(alloc, to, before as u64)?;
+    to.extend_from_slice(b" bytes become ")?;
+    add_grouped(alloc, to, after as u64)
+}
+
+// Puts behind the text what a report says was dropped, and so many bytes of debug information.
+fn add_dropped(
+    alloc: Global,
+    to: &mut Vec<u8>,
+    report: &[u8],
+    debug: u64,
+) -> Result<(), AllocError> {
+    to.extend_from_slice(b"; dropped: ")?;
+    let begin = to.len();
+    for line in report.split(|byte| *byte == b'\n') {
+        add_line(alloc, to, line, begin)?;
+    }
+    add_debug(alloc, to, debug, begin)?;
+    if to.len() == begin {
+        to.extend_from_slice(b"nothing")?;
+    }
+    Ok(to.push(b'\n')?)
 }
 
 // Puts a comma behind what stands there already.
