@@ -8,6 +8,7 @@
 #                beside the program and the library; keys alone, refusals, 20 MB, the policy, wide and narrow. MULKAVESH_SCREENS names a folder for screenshots
 # Prints the counts and a line for each find. Where there is no node, nothing is run, and the status is 2. A minute of one processor.
 set -eu
+exec < /dev/null
 top=$(cd "$(dirname "$0")/.." && pwd)
 command -v node > /dev/null || { echo "tests/web.sh: there is no node, so nothing is run" >&2; exit 2; }
 folder=${1:-$top/web/dist}
