@@ -119,12 +119,27 @@ def are_built(crates, since):
     return all(it.exists() and it.stat().st_mtime >= since for it in made)
 
 
-def archive(crate, log):
-    """Proves a static library over the libraries that are built, as they are, and compiles it."""
+def loaded_rtlib():
+    """The module of the kit that knows how `rt` builds."""
     sys.path.insert(0, str(pathlib.Path(os.path.realpath(shutil.which("rt"))).parent))
     sys.dont_write_bytecode = True
     import rtlib
 
+    return rtlib
+
+
+def take_over(crates):
+    """Says of libraries that `rt ci` left, all of them, that they are built of these sources, as `rt lib` says of what it built."""
+    rtlib = loaded_rtlib()
+    rtlib.Crate.stamp = functools.cache(rtlib.Crate.stamp)
+    for crate in rtlib.crates_below(str(TOP)):
+        if crate.name in crates:
+            pathlib.Path(crate.folder, "out", "rlib", "stamp").write_text(crate.stamp(), encoding="utf-8")
+
+
+def archive(crate, log):
+    """Proves a static library over the libraries that are built, as they are, and compiles it."""
+    rtlib = loaded_rtlib()
     with contextlib.redirect_stdout(log):
         words = rtlib.Crate(str(CRATES / crate), str(TOP), {}).words(["--jobs", "1"], keeps=False)
     to = f"out/lib{crate}.a"
@@ -155,6 +170,9 @@ def make(crate, kind, crates, log):
     if kind == "static" and are_built(crates - {crate}, newest_source(crates)):
         archive(crate, log)
         link(crate, log)
+        return True
+    if kind == "library" and are_built(crates, newest_source(crates)):
+        take_over(crates)
         return True
     progress = Progress({it: all_below(it) for it in NAMED if it in crates})
     say(f"{len(crates)} crate{'s' * (len(crates) > 1)} to be proved where not proved yet; from nothing that takes about"

@@ -2,15 +2,14 @@
 use Rattle.std.proofs.Common.{◌≡◌, ℕ, Bool, true, false, List, sym, subst}
 use Rattle.std.specs.Prelude.{Result, Ok, Err}
 use Rattle.walrus_tools.specs.Found.{AnswersFound}
-use Rattle.walrus_tools.specs.Diagnosed.{Diagnoses}
-use Rattle.walrus_tools.specs.Handed.{Config, Error, Memory}
+use Rattle.walrus_tools.specs.Handed.{Config, Error}
 use Rattle.walrus_tools.specs.Reasons.{AnswersChain}
 use Rattle.std.specs.Global.{Vec}
 use Rattle.walrus_tools.specs.Wanted.{config_wanted}
 use Rattle.mulkavesh.specs.declared.made.Made.{Made}
 use Rattle.mulkavesh.specs.declared.order.Order.{Order}
 use Rattle.mulkavesh.specs.declared.order.Work.{Work}
-use Rattle.mulkavesh.specs.Made.{Answer, AnswersOrder, AnswersWork, Checks, FindsMeant, ForPeople, IsIndex, Writes, name, operand_bytes, vec_bytes}
+use Rattle.mulkavesh.specs.Made.{Answer, AnswersOrder, AnswersWork, FindsMeant, ForPeople, IsIndex, Writes, name, operand_bytes}
 
 -- what is so is so for people
 pub for_people : (is_json : Bool) (P : Type 0) → P → ForPeople is_json P
@@ -36,10 +35,3 @@ by_work o bytes w r is answers = subst (λ (v : Work). AnswersWork v (config_wan
 
 pub written : (Answers : Answer → Type 0) (output : Vec ℕ) (m : Made) → m.output ≡ output → m.is_refused ≡ false → Answers (Ok output) → Writes Answers (Ok m)
 written Answers output m same accepted answers = (subst (λ (v : Vec ℕ). Answers (Ok v)) (sym same) answers, accepted)
-
--- ---- whether a module is accepted
-
--- only memory refuses
-pub no_verdict : (c : Config) (bytes : List ℕ) (is_json : Bool) (e : Error) → Diagnoses c bytes (Err e) → Checks c bytes is_json (Err e)
-no_verdict c bytes is_json (Memory m) h = tt
-no_verdict c bytes is_json _ h = absurd h

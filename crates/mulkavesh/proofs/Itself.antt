@@ -1,6 +1,6 @@
 -- What the words ask of the program itself.
 use Rattle.std.proofs.Common.{◌≡◌, ℕ, true, false, List, [], ◌∷◌, refl, sym, ap, ◌∙◌, codes}
-use Rattle.std.specs.Prelude.{Some, None, bytes_eq}
+use Rattle.std.specs.Prelude.{None, bytes_eq}
 use Rattle.std.proofs.lemmas.Slice.Eq.{bytes_eq-Decides}
 use Rattle.mulkavesh.specs.declared.order.Asked.{Asked}
 use Rattle.mulkavesh.specs.declared.order.Asked.TheVariants.{Help, HelpOf, Run, Version}
@@ -30,12 +30,6 @@ none_asked words no_help no_version no_work Help (help is) = absurd (not_alone w
 none_asked words no_help no_version no_work Version (version is) = absurd (not_alone words _ no_version is)
 none_asked words no_help no_version no_work (HelpOf w) (help_of _ is) = absurd (no_work w is)
 none_asked words no_help no_version no_work (Run o) (order _ says) = (o, refl)
-
-pub itself_says : (words : List Word) (asked : Asked) → AsksItself words (Some asked) → Says words asked
-itself_says words Help asks = asks
-itself_says words Version asks = asks
-itself_says words (HelpOf w) asks = asks
-itself_says words (Run o) asks = absurd asks
 
 pub no_order : (words : List Word) → AsksItself words None → IsOrdered words None → IsTold words None
 no_order words no_other none asked says =

@@ -6,4 +6,3 @@ mod Ordered
 mod Pieces
 mod Refusals
 mod Sound
-mod Told

@@ -1,5 +1,5 @@
 -- What one order comes to, for all that was read and all that was written, and what is told of it.
-use Rattle.std.specs.Prelude.{ℕ, Bool, true, false, List, ◌++◌, Option, Result, Ok, Err, codes, ◌≡◌, ⊤}
+use Rattle.std.specs.Prelude.{ℕ, Bool, true, false, List, Option, Result, Ok, Err, OnOk, codes, ◌≡◌, ⊤}
 use Rattle.std.specs.Io.KnownBytes.{Appends, Keeps}
 use Rattle.walrus_tools.specs.Handed.{CountsReads, CountsWrites, Error, InvalidWasm, Memory, Module, NotFound, NotReplaceable, Read, ReadsWhole, Tells, ToolError, Write, WroteFront, error_text}
 use Rattle.mulkavesh.specs.declared.made.Made.{Made}
@@ -83,12 +83,14 @@ module _ (w : Work) (from to : Words) (status : ℕ) (old new : Option (List ℕ
   IsTold (Err Write) = (status ≡ 1) × TellsUnwritten to old new failures_old failures_new
   IsTold (Err (Module e)) = TellsLine from.name (refusal_text w e)
 
--- The order was carried out or refused; its two devices counted the failure of which it answers and no other; and its answer was told.
-pub record RunsAndTells (Answers : List ℕ → Result Made Error → Type 0) (w : Work) (from_old from_new to_old to_new : Option (List ℕ)) (reads_old reads_new writes_old writes_new : ℕ) (from to : Words) (status : ℕ) (old new : Option (List ℕ)) (failures_old failures_new : ℕ) : Type 0 where
+-- The order was carried out or refused; its two devices counted the failure of which it answers and no other; what was written is flushed, be it that
+-- a module isn't accepted; and its answer was told.
+pub record RunsAndTells (Answers : List ℕ → Result Made Error → Type 0) (w : Work) (from_old from_new to_old to_new : Option (List ℕ)) (is_flushed : Bool) (reads_old reads_new writes_old writes_new : ℕ) (from to : Words) (status : ℕ) (old new : Option (List ℕ)) (failures_old failures_new : ℕ) : Type 0 where
   pub answer : Result Made ToolError
   pub ran : Carries Answers from_old from_new to_old to_new answer
   pub reads : CountsReads reads_old reads_new answer
   pub writes : CountsWrites writes_old writes_new answer
+  pub flushed : OnOk answer (is_flushed ≡ true)
   pub told : IsTold w from to status old new failures_old failures_new answer
 
 -- a text was written and the status is 0; or the sink failed, which it counted, and a beginning of the text was written

@@ -107,8 +107,8 @@ pub(crate) fn command<R: Source + Explains, W: Sink + Explains, E: Sink>(
 ) -> u8
     ensures runs { RunsAndTells (AnswersOrder order.now) order.now.work
         (R.left input.old) (R.left input.new) (W.held output.old) (W.held output.new)
-        (R.read_failures input.old) (R.read_failures input.new) (W.write_failures output.old)
-        (W.write_failures output.new)
+        (W.is_flushed output.new) (R.read_failures input.old) (R.read_failures input.new)
+        (W.write_failures output.old) (W.write_failures output.new)
         (record { name = R.name input.new; trouble = R.trouble input.new; is_left = R.is_left input.new })
         (record { name = W.name output.new; trouble = W.trouble output.new; is_left = W.is_left output.new })
         result (E.held errors.old) (E.held errors.new) (E.write_failures errors.old)

@@ -1,16 +1,15 @@
 -- Where a place stands in a list of places that differ, and one turn of a loop that gives indices along it.
-use Rattle.std.proofs.Common.{inl, inr, ◌≡◌, ℕ, zero, suc, ◌+◌, ◌<◌, Bool, true, false, List, [], ◌∷◌, ◌++◌, length, map, take, length-append, refl, sym, ap, ◌∙◌, subst, Some, None}
-use Rattle.std.specs.Prelude.{◌≢◌, ◌⊎◌, ◌==◌, nat_eq, Option, option_map, slice_get, slice_index_or, if◌then◌else◌}
+use Rattle.std.proofs.Common.{inl, inr, ◌≡◌, ℕ, suc, ◌+◌, ◌<◌, Bool, true, false, List, [], ◌∷◌, ◌++◌, length, map, take, length-append, refl, sym, ap, ◌∙◌, subst, Some, None}
+use Rattle.std.specs.Prelude.{◌≢◌, ◌⊎◌, ◌==◌, nat_eq, Option, option_map, slice_index_or, if◌then◌else◌}
 use Rattle.std.specs.List.{IsDistinct}
 use Rattle.std.proofs.lemmas.Bool.{ne_eqb}
 use Rattle.std.proofs.lemmas.Bool.Decides.{eqb_tells}
-use Rattle.std.proofs.lemmas.Option.{get_or_from_slice_get, slice_get_within}
 use Rattle.walrus_base.specs.Id.{place}
 use Rattle.walrus_base.specs.declared.id.Id.{Id}
 use Rattle.walrus_base.specs.Shape.{place_in}
 use Rattle.walrus_code.specs.Indices.{AddsIndex, NumbersAlong, index_in}
 use Rattle.walrus_code.specs.declared.numbering.Numbering.{Numbering}
-use Rattle.walrus_base.proofs.Turns.{map_more, one_more, split_at}
+use Rattle.walrus_base.proofs.Turns.{map_more, split_at}
 use Rattle.walrus_base.proofs.DistinctLemmas.{at_seam}
 use Rattle.walrus_base.proofs.Standing.{self_eq}
 
@@ -61,25 +60,3 @@ pub along_turn : {K : Type 0} (now new : Numbering K) (order : List (Id K)) (i :
 along_turn now new order i d low differ h g =
     subst (λ (ps : List ℕ). NumbersAlong new ps) (sym (map_more place order i d low))
     (along_next now new (map place (take i order)) (place (slice_index_or order i d)) h (new_at order i d low differ) g)
-
--- ---- the same along places, of which the next was looked up
-
-cut_at : (order : List ℕ) (i p : ℕ) → slice_get order i ≡ Some p → (rest : List ℕ) × (order ≡ take i order ++ p ∷ rest)
-cut_at [] i p got = absurd (cc)
-cut_at (x ∷ xs) zero p got = let same : x ≡ p = cc in (xs, ap (λ (y : ℕ). y ∷ xs) same)
-cut_at (x ∷ xs) (suc i) p got =
-    let q : (rest : List ℕ) × (xs ≡ take i xs ++ p ∷ rest) = cut_at xs i p got in
-    (q.0, ap (λ (l : List ℕ). x ∷ l) q.1)
-
--- it isn't among those so far
-pub new_place : (order : List ℕ) (i p : ℕ) → slice_get order i ≡ Some p → IsDistinct nat_eq order → place_in (take i order) p ≡ None
-new_place order i p got differ =
-    let parts = cut_at order i p got in
-    fresh (take i order) p parts.0 (subst (λ (ps : List ℕ). IsDistinct nat_eq ps) parts.1 differ)
-
-pub place_turn : {K : Type 0} (now new : Numbering K) (order : List ℕ) (i p : ℕ) → slice_get order i ≡ Some p → IsDistinct nat_eq order
-    → NumbersAlong now (take i order) → AddsIndex now new p → NumbersAlong new (take (i + 1) order)
-place_turn now new order i p got differ h g =
-    let more : take (i + 1) order ≡ take i order ++ p ∷ [] =
-    one_more order i p (slice_get_within order i p got) ∙ ap (λ (y : ℕ). take i order ++ y ∷ []) (get_or_from_slice_get order i p p got) in
-    subst (λ (ps : List ℕ). NumbersAlong new ps) (sym more) (along_next now new (take i order) p h (new_place order i p got differ) g)

@@ -14,9 +14,7 @@ use Rattle.wasm_wire.specs.declared.rules.broken.BrokenRule.{BrokenRule}
 use Rattle.wasm_wire.proofs.NamedRules.{kept_each}
 use Rattle.walrus_bodies.specs.declared.features.Features.{Features}
 use Rattle.walrus_model.specs.Reads.{ReadsBodyWith}
-use Rattle.walrus_model.specs.Sections.{Said}
 use Rattle.walrus_reading.specs.Faults.{FindsFault}
-use Rattle.walrus_reading.specs.Parsed.{AreModule}
 use Rattle.walrus_reading.specs.Unread.{IsFirstUnread, brought_functions}
 use Rattle.walrus_reading.specs.declared.faults.Fault.TheVariants.{Body, Header, Rule, Section}
 use Rattle.walrus_reading.proofs.FirstUnread.{not_all}

@@ -1,5 +1,5 @@
 -- What is wrong with bytes, by what reading them found.
-use Rattle.std.proofs.Common.{◌≡◌, ℕ, List, refl}
+use Rattle.std.proofs.Common.{ℕ, List}
 use Rattle.std.specs.Prelude.{Option, Some, None}
 use Rattle.walrus_model.specs.Config.{Config}
 use Rattle.walrus_theorem.specs.Features.{features_of}

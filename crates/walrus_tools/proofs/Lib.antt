@@ -45,3 +45,4 @@ mod StubTurn
 mod TrapBody
 mod TrapSound
 mod WantedLemmas
+pub use Rattle.walrus.proofs.DeviceLemmas

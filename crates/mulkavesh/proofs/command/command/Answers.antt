@@ -16,6 +16,7 @@ returns-in-Ok-clause-runs g c =
       ran = c.in-Ok.ensures.headline;
       reads = c.in-Ok.ensures.reads;
       writes = c.in-Ok.ensures.writes;
+      flushed = c.in-Ok.ensures.flushed;
       told = tells_refused c.args.order.now.work from to c.refuse.result (g.E.Sink.held c.args.errors.now) (g.E.Sink.held c.refuse.new.errors) (g.E.Sink.write_failures c.args.errors.now) (g.E.Sink.write_failures c.refuse.new.errors) c.in-Ok.answer.is_refused c.in-Ok.answer.note.items c.if-carry.true (c.refuse.ensures.status, told);
     }
 
@@ -30,6 +31,7 @@ returns-in-Err-Read-clause-runs g c =
       ran = c.in-Err-Read.ensures.headline;
       reads = c.in-Err-Read.ensures.reads;
       writes = c.in-Err-Read.ensures.writes;
+      flushed = c.in-Err-Read.ensures.flushed;
       told = tells_read c.args.order.now.work from to c.refuse-in-Err-Read.result (g.E.Sink.held c.args.errors.now) (g.E.Sink.held c.refuse-in-Err-Read.new.errors) (g.E.Sink.write_failures c.args.errors.now) (g.E.Sink.write_failures c.refuse-in-Err-Read.new.errors) c.in-Err-Read.field-0 c.in-Err-Read.field-0-is (c.refuse-in-Err-Read.ensures.status, told);
     }
 
@@ -44,5 +46,6 @@ returns-in-Err-Module-clause-runs g c =
       ran = c.in-Err-Module.ensures.headline;
       reads = c.in-Err-Module.ensures.reads;
       writes = c.in-Err-Module.ensures.writes;
+      flushed = c.in-Err-Module.ensures.flushed;
       told = tells_module c.args.order.now.work from to c.refuse-in-Err-Module.result (g.E.Sink.held c.args.errors.now) (g.E.Sink.held c.refuse-in-Err-Module.new.errors) (g.E.Sink.write_failures c.args.errors.now) (g.E.Sink.write_failures c.refuse-in-Err-Module.new.errors) c.in-Err-Module.field-0 c.in-Err-Module.error c.in-Err-Module.field-0-is (c.refuse-in-Err-Module.ensures.status, told);
     }

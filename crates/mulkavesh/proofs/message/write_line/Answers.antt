@@ -1,6 +1,6 @@
 use Rattle.std.proofs.Common.{◌++◌, codes}
 use Rattle.std.proofs.KnownBytes.{Appends-trans}
-use Rattle.mulkavesh.proofs.Told.{on_err, on_ok_map, on_err_map, front_of_first, front_of_second}
+use Rattle.walrus_tools.proofs.DeviceLemmas.{on_err, on_ok_map, on_err_map, front_of_first, front_of_second}
 use Rattle.mulkavesh.proofs.message.write_line.Goals as goal
 
 pub returns-in_err-write_all-clause-begun : goal.returns-in_err-write_all-clause-begun

@@ -1,5 +1,5 @@
-use Rattle.std.proofs.Common.{rules, ◌≡◌, subst}
-use Rattle.std.specs.Prelude.{Option, Some, None}
+use Rattle.std.proofs.Common.{rules, subst}
+use Rattle.std.specs.Prelude.{Option, Some}
 use Rattle.wasm_frames.specs.Frames.{Frames}
 use Rattle.wasm_frames.specs.Record.{sections}
 use Rattle.wasm_frames.specs.Until.{IsFramed}

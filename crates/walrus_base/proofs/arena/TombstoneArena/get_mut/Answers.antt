@@ -4,7 +4,6 @@ use Rattle.walrus_base.specs.Id.{place}
 use Rattle.walrus_base.proofs.Found.{live_there}
 use Rattle.walrus_base.proofs.arena.TombstoneArena.get_mut.Goals as goal
 
--- src/arena.rt:102:5
 pub returns : goal.returns
 returns g c =
     let arena = c.args.self.now in (
