@@ -1,5 +1,5 @@
 -- The list of the functions that stay: what is refused of one is refused of all.
-use Rattle.std.proofs.Common.{◌≡◌, ℕ, ◌+◌, ◌-◌, ◌<◌, List, ◌++◌, flat_map, length, map, get_or, take, ap, ◌∙◌, subst}
+use Rattle.std.proofs.Common.{◌≡◌, ℕ, ◌+◌, ◌-◌, ◌<◌, List, ◌++◌, flat_map, length, map, get_or, take, sym, ap, ◌∙◌, subst}
 use Rattle.std.specs.declared.ops.Range.{Range}
 use Rattle.walrus_base.specs.declared.id.Id.{Id}
 use Rattle.walrus_base.specs.declared.keys.FunctionKey.{FunctionKey}
@@ -7,8 +7,8 @@ use Rattle.walrus_model.specs.Abstract.{Name}
 use Rattle.walrus_items.specs.Transform.{range_of}
 use Rattle.walrus_items.specs.declared.error.Error.{Error}
 use Rattle.walrus_items.specs.declared.error.Error.TheVariants as error
-use Rattle.walrus_contents.proofs.NamedLemmas.{among}
-use Rattle.walrus_tools.specs.Sized.{HasLong, IsLongEntry, RefusesIf, entry_bytes, entry_of}
+use Rattle.walrus_contents.proofs.NamedLemmas.{among, row_more}
+use Rattle.walrus_tools.specs.Sized.{HasLong, IsLong, IsLongEntry, NoneLong, RefusesIf, entry_bytes, entry_of}
 use Rattle.walrus_tools.proofs.LineLemmas.{line_more}
 
 -- memory ran out, or the same is so for another reason
@@ -35,3 +35,8 @@ module _ (names : ℕ → List Name) (ranges : List (Id FunctionKey × Range ℕ
   one_long e h =
       because (IsLongEntry this.0 size (names this.0)) (HasLong names (map range_of ranges))
       (λ long. (this, among range_of ranges i d lt, subst (λ (n : ℕ). IsLongEntry this.0 n (names this.0)) is_size long)) e h
+
+  -- none of those before is too long, and neither is the next
+  pub none_more : NoneLong names (map range_of (take i ranges)) → (IsLongEntry this.0 size (names this.0) → ⊥) → NoneLong names (map range_of (take (i + 1) ranges))
+  none_more before next =
+      row_more range_of (λ (f : ℕ × (ℕ × ℕ)). IsLong names f → ⊥) ranges i d lt before (λ long. next (subst (λ (n : ℕ). IsLongEntry this.0 n (names this.0)) (sym is_size) long))

@@ -1,5 +1,5 @@
 -- What is wrong with bytes that aren't accepted, and how that is told in eight bytes.
-use Rattle.std.specs.Prelude.{ℕ, ◌^◌, ◌≤◌, List, ◌++◌, Option, Some, None, Result, Ok, Err, codes, decimal, ◌≡◌, ⊤}
+use Rattle.std.specs.Prelude.{ℕ, ◌<◌, ◌^◌, ◌≤◌, List, ◌++◌, Option, Some, None, Result, Ok, Err, codes, decimal, ◌≡◌, ⊤}
 use Rattle.std.specs.Global.{Vec}
 use Rattle.walrus_items.specs.declared.error.Error.{Error}
 use Rattle.walrus_items.specs.declared.error.Error.TheVariants.{Memory, TooLarge}
@@ -51,9 +51,9 @@ numbers_of (Some (Body index)) = (4, index)
 abbrev pub fault_bytes : Option Fault → List ℕ
 fault_bytes found = number_bytes (numbers_of found).0 ++ number_bytes (numbers_of found).1
 
--- what was found, in eight bytes; too large where its number passes 32 bits
+-- what was found, in eight bytes; too large exactly where its number passes 32 bits
 abbrev pub AnswersFault : Config → (bytes : List ℕ) → Result (Vec ℕ) Error → Type 0
-AnswersFault c bytes (Ok told) = (found : Option Fault) × Finds c bytes found × (told.items ≡ fault_bytes found)
+AnswersFault c bytes (Ok told) = (found : Option Fault) × Finds c bytes found × ((numbers_of found).1 < 2 ^ 32) × (told.items ≡ fault_bytes found)
 AnswersFault c bytes (Err (Memory e)) = ⊤
 AnswersFault c bytes (Err TooLarge) = (found : Option Fault) × Finds c bytes found × (2 ^ 32 ≤ (numbers_of found).1)
 AnswersFault c bytes (Err _) = ⊥

@@ -61,6 +61,10 @@ RefusesIf Cause _ = ⊥
 abbrev pub HasLong : (names : ℕ → List Name) → List (ℕ × (ℕ × ℕ)) → Type 0
 HasLong names ranges = (f : ℕ × (ℕ × ℕ)) × Contains ranges f × IsLong names f
 
+-- none of these entries is too long
+abbrev pub NoneLong : (names : ℕ → List Name) → List (ℕ × (ℕ × ℕ)) → Type 0
+NoneLong names ranges = (f : ℕ × (ℕ × ℕ)) → Contains ranges f → IsLong names f → ⊥
+
 -- the name of the function at a place, or none
 abbrev pub names_in : List (Option FunctionValue) → ℕ → List Name
 names_in slots f = name_at (λ (v : FunctionValue). v.name) (item_at slots f)
@@ -71,12 +75,13 @@ function_names m f = m.named (AnItem (function_item f))
 
 -- ---- from bytes to the list
 
--- each function with a body that is left, by rising index, with what its body has there and its name
+-- each function with a body that is left, by rising index, with what its body has there and its name, none of them too long to be listed
 pub record IsListed (c : Config) (bytes list : List ℕ) : Type 0 where
   pub module_left : Abstract
   pub transform : Transform
   pub measured : IsMeasured c bytes module_left transform
   pub is : list ≡ flat_map (entry_of (function_names module_left)) transform.function_ranges
+  pub fits : NoneLong (function_names module_left) transform.function_ranges
 
 -- a function that is left has a number or a name too long to be listed
 pub record IsLongListed (c : Config) (bytes : List ℕ) : Type 0 where

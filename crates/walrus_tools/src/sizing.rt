@@ -1,12 +1,12 @@
 //! What a developer asks of a module that is too large: which functions stay, under which names, and what each costs.
 
-ghost use Rattle.std.specs.Prelude.{◌≡◌, ◌++◌, ◌-◌, ◌^◌, ◌≤◌, IfErr, IfOk, OnOk, flat_map, length, map};
+ghost use Rattle.std.specs.Prelude.{◌≡◌, ◌++◌, ◌-◌, ◌<◌, ◌^◌, ◌≤◌, IfErr, IfOk, OnOk, flat_map, length, map};
 ghost use Rattle.walrus_base.specs.Arena.{item_at};
 ghost use Rattle.walrus_base.specs.Id.{place};
 ghost use Rattle.walrus_contents.specs.View.{name_at};
 ghost use Rattle.walrus_items.specs.Functions.{functions};
 ghost use Rattle.walrus_items.specs.Transform.{range_of};
-ghost use Rattle.walrus_tools.specs.Sized.{AnswersListed, HasLong, IsLongEntry, IsLongName, RefusesIf, entry_bytes, entry_of, name_bytes, names_in, no_name, number_bytes};
+ghost use Rattle.walrus_tools.specs.Sized.{AnswersListed, HasLong, IsLongEntry, IsLongName, NoneLong, RefusesIf, entry_bytes, entry_of, name_bytes, names_in, no_name, number_bytes};
 ghost use Rattle.walrus_tools.specs.Wanted.{config_wanted};
 
 use crate::wanted::Wanted;
@@ -30,6 +30,7 @@ pub(crate) fn add_number(to: &mut Vec<u8>, number: u32) -> result::Result<(), Al
 // A number of 32 bits.
 pub(crate) fn narrow(number: usize) -> Result<u32>
     ensures value { IfOk result (λ n. n ≡ number) }
+    ensures fits { OnOk result (number < 2 ^ 32) }
     ensures refused { IfErr result (RefusesIf (2 ^ 32 ≤ number)) }
 {
     match u32::try_from(number) {
@@ -42,6 +43,7 @@ pub(crate) fn narrow(number: usize) -> Result<u32>
 fn add_text(to: &mut Vec<u8>, text: &str) -> Result<()>
     ensures value { OnOk result (to.new.items ≡ to.old.items
         ++ (number_bytes (length text.now) ++ text.now)) }
+    ensures fits { OnOk result (length text.now < no_name) }
     ensures refused { IfErr result (RefusesIf (no_name ≤ length text.now)) }
 {
     let size = narrow(text.len())?;
@@ -56,6 +58,7 @@ fn add_text(to: &mut Vec<u8>, text: &str) -> Result<()>
 fn add_name(to: &mut Vec<u8>, all: &ModuleFunctions, id: FunctionId) -> Result<()>
     ensures value { OnOk result (to.new.items ≡ to.old.items
         ++ name_bytes (names_in (functions all.now) (place id))) }
+    ensures fits { OnOk result (IsLongName (names_in (functions all.now) (place id)) → ⊥) }
     ensures refused { IfErr result (RefusesIf (IsLongName (names_in (functions all.now) (place id)))) }
 {
     if all.contains(id) {
@@ -70,6 +73,8 @@ fn add_name(to: &mut Vec<u8>, all: &ModuleFunctions, id: FunctionId) -> Result<(
 fn add_entry(to: &mut Vec<u8>, all: &ModuleFunctions, id: FunctionId, size: usize) -> Result<()>
     ensures value { OnOk result (to.new.items ≡ to.old.items
         ++ entry_bytes (place id) size (names_in (functions all.now) (place id))) }
+    ensures fits { OnOk result (IsLongEntry (place id) size
+        (names_in (functions all.now) (place id)) → ⊥) }
     ensures refused { IfErr result (RefusesIf
         (IsLongEntry (place id) size (names_in (functions all.now) (place id)))) }
 {
@@ -88,6 +93,7 @@ fn entries(
 ) -> Result<Vec<u8>>
     ensures value { IfOk result (λ list. list.items
         ≡ flat_map (entry_of (names_in (functions all.now))) (map range_of ranges.now)) }
+    ensures fits { OnOk result (NoneLong (names_in (functions all.now)) (map range_of ranges.now)) }
     ensures refused { IfErr result (RefusesIf
         (HasLong (names_in (functions all.now)) (map range_of ranges.now))) }
 {

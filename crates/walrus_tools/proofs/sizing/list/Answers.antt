@@ -50,4 +50,4 @@ returns c =
     raw.raws raw.are c.in_ok-module.ensures.configured kept ran.collected ran.others.2 left stay wrote.left (settings kept) (ran.others.3 ∙ c.in_ok-module.ensures.configured) c.in_ok-output.output c.in_ok-output.transform
     wrote.well_made wrote.transform in
     subst (λ (f : Flags). AnswersListed (config_of f) c.args.bytes.now c.entries.result) same
-    (list_answers _ c.args.bytes.now _ _ m (names_in (functions left.funcs)) refl c.entries.result _ (ap (map range_of) c.deref.ensures.value) c.entries.ensures.value c.entries.ensures.refused)
+    (list_answers _ c.args.bytes.now _ _ m (names_in (functions left.funcs)) refl c.entries.result _ (ap (map range_of) c.deref.ensures.value) c.entries.ensures.value c.entries.ensures.fits c.entries.ensures.refused)
