@@ -3,7 +3,8 @@
 
 Crates are proved side by side by `rt all check`, as many as there are processors and 2 GB of memory each for (where that is for one or
 two, `rt` chooses itself), and the crate itself is built by `rt run` or `rt lib` behind them. tests/build-times.txt, the seconds that each
-crate takes, serves to guess the time left. What was proved when a run is interrupted is kept, and the next one goes on from there.
+crate takes, serves to guess the time left. What was proved when a run is interrupted is kept, and the next one goes on from there. A library that
+`rt ci` left, with all below it, is taken as it is where no source is newer.
 """
 import contextlib
 import functools
