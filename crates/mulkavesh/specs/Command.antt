@@ -83,8 +83,8 @@ module _ (w : Work) (from to : Words) (status : ℕ) (old new : Option (List ℕ
   IsTold (Err Write) = (status ≡ 1) × TellsUnwritten to old new failures_old failures_new
   IsTold (Err (Module e)) = TellsLine from.name (refusal_text w e)
 
--- The order was carried out or refused; its two devices counted the failure of which it answers and no other; what was written is flushed, be it that
--- a module isn't accepted; and its answer was told.
+-- The order was carried out or refused; its two devices counted the failure of which it answers and no other; what was written whole is flushed, also
+-- where it says that a module isn't accepted; and its answer was told.
 pub record RunsAndTells (Answers : List ℕ → Result Made Error → Type 0) (w : Work) (from_old from_new to_old to_new : Option (List ℕ)) (is_flushed : Bool) (reads_old reads_new writes_old writes_new : ℕ) (from to : Words) (status : ℕ) (old new : Option (List ℕ)) (failures_old failures_new : ℕ) : Type 0 where
   pub answer : Result Made ToolError
   pub ran : Carries Answers from_old from_new to_old to_new answer
