@@ -3,8 +3,7 @@
 
 Crates are proved side by side by `rt all check`, as many as there are processors and 2 GB of memory each for (where that is for one or
 two, `rt` chooses itself), and the crate itself is built by `rt run` or `rt lib` behind them. tests/build-times.txt, the seconds that each
-crate takes, serves to guess the time left. What was proved when a run is interrupted is kept, and the next one goes on from there. A library that
-`rt ci` left, with all below it, is taken as it is where no source is newer.
+crate takes, serves to guess the time left. What was proved when a run is interrupted is kept, and the next one goes on from there.
 """
 import contextlib
 import functools
@@ -120,27 +119,12 @@ def are_built(crates, since):
     return all(it.exists() and it.stat().st_mtime >= since for it in made)
 
 
-def loaded_rtlib():
-    """The module of the kit that knows how `rt` builds."""
+def archive(crate, log):
+    """Proves a static library over the libraries that are built, as they are, and compiles it."""
     sys.path.insert(0, str(pathlib.Path(os.path.realpath(shutil.which("rt"))).parent))
     sys.dont_write_bytecode = True
     import rtlib
 
-    return rtlib
-
-
-def take_over(crates):
-    """Says of libraries that `rt ci` left, all of them, that they are built of these sources, as `rt lib` says of what it built."""
-    rtlib = loaded_rtlib()
-    rtlib.Crate.stamp = functools.cache(rtlib.Crate.stamp)
-    for crate in rtlib.crates_below(str(TOP)):
-        if crate.name in crates:
-            pathlib.Path(crate.folder, "out", "rlib", "stamp").write_text(crate.stamp(), encoding="utf-8")
-
-
-def archive(crate, log):
-    """Proves a static library over the libraries that are built, as they are, and compiles it."""
-    rtlib = loaded_rtlib()
     with contextlib.redirect_stdout(log):
         words = rtlib.Crate(str(CRATES / crate), str(TOP), {}).words(["--jobs", "1"], keeps=False)
     to = f"out/lib{crate}.a"
@@ -171,9 +155,6 @@ def make(crate, kind, crates, log):
     if kind == "static" and are_built(crates - {crate}, newest_source(crates)):
         archive(crate, log)
         link(crate, log)
-        return True
-    if kind == "library" and are_built(crates, newest_source(crates)):
-        take_over(crates)
         return True
     progress = Progress({it: all_below(it) for it in NAMED if it in crates})
     say(f"{len(crates)} crate{'s' * (len(crates) > 1)} to be proved where not proved yet; from nothing that takes about"
