@@ -7,9 +7,9 @@
 # bench/every.sh [MEGABYTES..], 1 10 100 where none are given; PROGRAM names another program than the proved one. No part of the gate.
 set -eu
 here=$(cd "$(dirname "$0")" && pwd)
-[ "${1-}" = --told ] || exec "$here/../tests/still.sh" 15 "bench/every.sh: measuring" "$here/every.sh" --told "$@"
+[ "${1-}" = --told ] || exec "$here/../tools/heartbeat.sh" 15 "bench/every.sh: measuring" "$here/every.sh" --told "$@"
 shift
-[ -n "${PROGRAM-}" ] || "$here/../tests/build.sh" walrus_gc
+[ -n "${PROGRAM-}" ] || "$here/../tools/build.sh" walrus_gc
 [ $# -gt 0 ] || set -- 1 10 100
 export PROGRAM=${PROGRAM:-$here/../crates/walrus_gc/out/walrus_gc}
 PYTHONPATH=$here PYTHONDONTWRITEBYTECODE=1 exec python3 - "$here/make.py" "$@" << 'PY'

@@ -7,10 +7,10 @@
 # none are given. bench/peers.sh FILE.., PROGRAM names another program than the proved one. No part of the gate.
 set -eu
 here=$(cd "$(dirname "$0")" && pwd)
-[ "${1-}" = --told ] || exec "$here/../tests/still.sh" 15 "bench/peers.sh: measuring" "$here/peers.sh" --told "$@"
+[ "${1-}" = --told ] || exec "$here/../tools/heartbeat.sh" 15 "bench/peers.sh: measuring" "$here/peers.sh" --told "$@"
 shift
 [ $# -gt 0 ] || { echo "bench/peers.sh FILE.." >&2; exit 2; }
-[ -n "${PROGRAM-}" ] || "$here/../tests/build.sh" walrus_gc
+[ -n "${PROGRAM-}" ] || "$here/../tools/build.sh" walrus_gc
 program=${PROGRAM:-$here/../crates/walrus_gc/out/walrus_gc}
 export BINARYEN_CORES=1
 PYTHONPATH=$here PYTHONDONTWRITEBYTECODE=1 exec python3 - "$program" "${PARITY-}" "${ROUNDS:-5}" "$@" << 'PY'

@@ -4,10 +4,10 @@
 # modules than small, mixed and huge (bench/make.py). No part of the gate.
 set -eu
 here=$(cd "$(dirname "$0")" && pwd)
-[ "${1-}" = --told ] || exec "$here/../tests/still.sh" 15 "bench/run.sh: measuring" "$here/run.sh" --told "$@"
+[ "${1-}" = --told ] || exec "$here/../tools/heartbeat.sh" 15 "bench/run.sh: measuring" "$here/run.sh" --told "$@"
 shift
 program=$here/../crates/walrus_gc/out/walrus_gc
-"$here/../tests/build.sh" walrus_gc
+"$here/../tools/build.sh" walrus_gc
 files=$(mktemp -d)
 trap 'rm -rf "$files"' EXIT
 [ $# -gt 0 ] || set -- 1 10 100

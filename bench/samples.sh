@@ -6,10 +6,10 @@
 # The programs take turns, and each time is the least of nine. bench/samples.sh [PROGRAM], the proved one where none is given. No part of the gate.
 set -eu
 here=$(cd "$(dirname "$0")" && pwd)
-[ "${1-}" = --told ] || exec "$here/../tests/still.sh" 15 "bench/samples.sh: measuring" "$here/samples.sh" --told "$@"
+[ "${1-}" = --told ] || exec "$here/../tools/heartbeat.sh" 15 "bench/samples.sh: measuring" "$here/samples.sh" --told "$@"
 shift
 program=${1:-$here/../crates/walrus_gc/out/walrus_gc}
-[ $# -gt 0 ] || "$here/../tests/build.sh" walrus_gc
+[ $# -gt 0 ] || "$here/../tools/build.sh" walrus_gc
 PYTHONPATH=$here PYTHONDONTWRITEBYTECODE=1 exec python3 - "$program" "${PARITY-}" "$here/../tests/samples" "$here/../../shared/samples" << 'PY'
 import os, pathlib, shutil, sys, tempfile
 from measuring import compared, in_turns

@@ -5,10 +5,10 @@
 # bench/wire.sh [MEGABYTES..], 1 10 100 where none are given. No part of the gate.
 set -eu
 here=$(cd "$(dirname "$0")" && pwd)
-[ "${1-}" = --told ] || exec "$here/../tests/still.sh" 15 "bench/wire.sh: measuring" "$here/wire.sh" --told "$@"
+[ "${1-}" = --told ] || exec "$here/../tools/heartbeat.sh" 15 "bench/wire.sh: measuring" "$here/wire.sh" --told "$@"
 shift
 program=$here/../crates/wasm_copy/out/wasm_copy
-"$here/../tests/build.sh" wasm_copy
+"$here/../tools/build.sh" wasm_copy
 files=$(mktemp -d)
 trap 'rm -rf "$files"' EXIT
 [ $# -gt 0 ] || set -- 1 10 100

@@ -1,6 +1,6 @@
 #!/usr/bin/env bash
-# Calls the C interface from C: tests/c.sh [FOLDER [PROGRAM]], the libraries that tests/build.sh mulkavesh_c left and the proved program where none are given, or
-# those of tests/unproved.sh. The callers stand in tests/c; each is compiled against both libraries, the static and the shared one.
+# Calls the C interface from C: tests/c.sh [FOLDER [PROGRAM]], the libraries that tools/build.sh mulkavesh_c left and the proved program where none are given, or
+# those of tools/unproved.sh. The callers stand in tests/c; each is compiled against both libraries, the static and the shared one.
 #   call.c     over the modules of tests/samples, the made ones of tests/made (where wabt is there), ../shared/samples and ../shared/rows (where they are there), and
 #              2,000 mutants of them, beside the program: the same bytes and statuses; over the bytes of faults.txt; each request for memory refused in turn (c.py
 #              says what else)
@@ -14,8 +14,8 @@ cc=${CC:-cc}
 command -v "$cc" > /dev/null || { echo "tests/c.sh: there is no C compiler, so nothing is run" >&2; exit 2; }
 folder=${1:-$top/crates/mulkavesh_c/out/lib}
 program=${2:-$top/crates/walrus_gc/out/walrus_gc}
-[ $# -gt 0 ] || "$top/tests/build.sh" mulkavesh_c
-[ $# -gt 1 ] || "$top/tests/build.sh" walrus_gc
+[ $# -gt 0 ] || "$top/tools/build.sh" mulkavesh_c
+[ $# -gt 1 ] || "$top/tools/build.sh" walrus_gc
 work=$(mktemp -d)
 trap 'kill $(jobs -p) 2> /dev/null && wait; rm -rf -- "$work"' EXIT
 status=0
@@ -30,10 +30,10 @@ compile() {
 # Whether the shared library shows the calls and nothing else.
 shows_calls() {
   nm -D --defined-only "$folder/libmulkavesh.so" | awk '{ print $3 }' | sort > "$work/shown"
-  "$top/tests/exports.py" --names mulkavesh_c | sort | diff - "$work/shown"
+  "$top/tools/exports.py" --names mulkavesh_c | sort | diff - "$work/shown"
 }
 
-"$top/tests/header.py" || status=1
+"$top/tools/header.py" || status=1
 "$cc" -std=c99 -pedantic-errors -Wall -Wextra -Werror -fsyntax-only -x c "$top/include/mulkavesh.h" || status=1
 if command -v c++ > /dev/null; then
   c++ -pedantic-errors -Wall -Wextra -Werror -fsyntax-only -x c++ "$top/include/mulkavesh.h" || status=1

@@ -6,7 +6,7 @@
 set -eu
 top=$(cd "$(dirname "$0")/.." && pwd)
 count=${1:-10000} seed=${2:-1} program=${3:-$top/crates/walrus_gc/out/walrus_gc}
-[ $# -gt 2 ] || "$top/tests/build.sh" walrus_gc
+[ $# -gt 2 ] || "$top/tools/build.sh" walrus_gc
 set -- "$top/tests/samples"
 for folder in "$top/../shared/samples" "$top/../shared/rows"; do
   [ ! -d "$folder" ] || set -- "$@" "$folder"

@@ -1,13 +1,13 @@
 #!/usr/bin/env bash
 # Makes a module of each text NAME.wat of tests/made with wabt's wat2wasm, runs the built program over it, and compares what comes out with
 # the module of NAME.kept.wat, which says what has to be kept, byte for byte; wabt's wasm-validate has to accept it too. Prints a line a
-# module and the count. Where wabt (Debian's package of that name, which tests/install.sh puts in) isn't there, nothing is run, and the status is 2.
+# module and the count. Where wabt (Debian's package of that name, which tools/install.sh puts in) isn't there, nothing is run, and the status is 2.
 # tests/made.sh [PROGRAM], the proved program where none is given.
 set -eu
 top=$(cd "$(dirname "$0")/.." && pwd)
 command -v wat2wasm > /dev/null || { echo "tests/made.sh: there is no wat2wasm, so nothing is run" >&2; exit 2; }
 program=${1:-$top/crates/walrus_gc/out/walrus_gc}
-[ $# -gt 0 ] || "$top/tests/build.sh" walrus_gc
+[ $# -gt 0 ] || "$top/tools/build.sh" walrus_gc
 features=(--enable-multi-memory --enable-memory64 --enable-exceptions --enable-threads --enable-extended-const)
 files=$(mktemp -d)
 trap 'rm -rf "$files"' EXIT

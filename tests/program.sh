@@ -1,6 +1,6 @@
 #!/usr/bin/env bash
-# Runs the program mulkavesh as a user does: tests/program.sh [PROGRAM [WALRUS_GC [FOLDER]]], the proved programs and library that tests/build.sh left where none
-# are given, or those of tests/unproved.sh. What program.py tries, over the modules of tests/samples, ../shared/samples (where it is there) and made ones:
+# Runs the program mulkavesh as a user does: tests/program.sh [PROGRAM [WALRUS_GC [FOLDER]]], the proved programs and library that tools/build.sh left where none
+# are given, or those of tools/unproved.sh. What program.py tries, over the modules of tests/samples, ../shared/samples (where it is there) and made ones:
 #   gc and report beside WALRUS_GC, under all words: the same bytes and statuses; list, strip, snip, stub and why beside the library in FOLDER, by python/mulkavesh.py
 #   files and streams, as IN and as OUT: links, rights, a named pipe, a device, IN as OUT; each failure, after which OUT is as it was and no file is beside it
 #   a disk that is full, where this user may mount one; another user, where this one is root; a pipe that nobody reads; a list of a million lines into `head`
@@ -17,9 +17,9 @@ python=${PYTHON:-python3}
 program=${1:-$top/crates/mulkavesh/out/mulkavesh}
 walrus_gc=${2:-$top/crates/walrus_gc/out/walrus_gc}
 folder=${3:-$top/crates/mulkavesh_c/out/lib}
-[ $# -gt 0 ] || "$top/tests/build.sh" mulkavesh
-[ $# -gt 1 ] || "$top/tests/build.sh" walrus_gc
-[ $# -gt 2 ] || "$top/tests/build.sh" mulkavesh_c
+[ $# -gt 0 ] || "$top/tools/build.sh" mulkavesh
+[ $# -gt 1 ] || "$top/tools/build.sh" walrus_gc
+[ $# -gt 2 ] || "$top/tools/build.sh" mulkavesh_c
 MULKAVESH_LIB=$(realpath -- "$folder")
 export MULKAVESH_LIB
 exec "$python" -B -W error "$top/tests/program.py" "$(realpath -- "$program")" "$(realpath -- "$walrus_gc")"

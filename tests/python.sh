@@ -1,6 +1,6 @@
 #!/usr/bin/env bash
-# Calls the library from Python: tests/python.sh [FOLDER [PROGRAM]], the shared library that tests/build.sh mulkavesh_c left and the proved program where
-# none are given, or those of tests/unproved.sh. It runs the tests of python/tests:
+# Calls the library from Python: tests/python.sh [FOLDER [PROGRAM]], the shared library that tools/build.sh mulkavesh_c left and the proved program where
+# none are given, or those of tools/unproved.sh. It runs the tests of python/tests:
 #   test_mulkavesh.py  each call and each refusal on worked modules and on the bytes of faults.txt, in threads too; how the library is found; what is declared,
 #                      beside the header; packing
 #   test_program.py    the modules of tests/samples and ../shared/samples (where it is there) beside the program, under all words: the same bytes, and a fault
@@ -16,8 +16,8 @@ python=${PYTHON:-python3}
 }
 folder=${1:-$top/crates/mulkavesh_c/out/lib}
 program=${2:-$top/crates/walrus_gc/out/walrus_gc}
-[ $# -gt 0 ] || "$top/tests/build.sh" mulkavesh_c
-[ $# -gt 1 ] || "$top/tests/build.sh" walrus_gc
+[ $# -gt 0 ] || "$top/tools/build.sh" mulkavesh_c
+[ $# -gt 1 ] || "$top/tools/build.sh" walrus_gc
 told=$(mktemp)
 trap 'rm -f -- "$told"' EXIT
 MULKAVESH_LIB=$(realpath -- "$folder")

@@ -8,8 +8,8 @@ set -eu
 top=$(cd "$(dirname "$0")/.." && pwd)
 program=${1:-$top/crates/walrus_gc/out/walrus_gc}
 scenes=${2:-$top/crates/walrus_refusals/out/walrus_refusals}
-[ $# -gt 0 ] || "$top/tests/build.sh" walrus_gc
-[ $# -gt 1 ] || "$top/tests/build.sh" walrus_refusals
+[ $# -gt 0 ] || "$top/tools/build.sh" walrus_gc
+[ $# -gt 1 ] || "$top/tools/build.sh" walrus_refusals
 room=$(mktemp -d)
 trap 'rm -rf "$room"' EXIT
 cc -O1 -shared -fPIC -o "$room/refused.so" "$top/tests/refused.c"

@@ -17,7 +17,7 @@ case ${1-} in --list | --twice) way=$1 && shift ;; esac
 folder=${1:-$top/../shared/rows}
 [ -d "$folder" ] || { echo "tests/rows.sh: there is no folder $folder, so nothing is run" >&2; exit 2; }
 program=${2:-$top/crates/walrus_gc/out/walrus_gc}
-[ $# -gt 1 ] || "$top/tests/build.sh" walrus_gc
+[ $# -gt 1 ] || "$top/tools/build.sh" walrus_gc
 exec python3 - "$program" "$folder" $way << 'PY'
 import pathlib, subprocess, sys
 

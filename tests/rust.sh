@@ -1,6 +1,6 @@
 #!/usr/bin/env bash
-# Calls the library from Rust: tests/rust.sh [FOLDER [PROGRAM]], the static library that tests/build.sh mulkavesh_c left and the proved program where none are
-# given, or those of tests/unproved.sh. The crates stand in rust; they need no others, so nothing is fetched, and nothing is left in the tree.
+# Calls the library from Rust: tests/rust.sh [FOLDER [PROGRAM]], the static library that tools/build.sh mulkavesh_c left and the proved program where none are
+# given, or those of tools/unproved.sh. The crates stand in rust; they need no others, so nothing is fetched, and nothing is left in the tree.
 #   header.py    the declarations of mulkavesh-sys are compared with the sources
 #   cargo test   each call on worked modules, in the tests and in the docs, `diagnose` on the bytes of faults.txt, and all on those of tests/samples and
 #                ../shared/samples (where it is there): `gc`, `report` and `diagnose` beside the program, over mutants of the small ones too, and the
@@ -12,8 +12,8 @@ top=$(cd "$(dirname "$0")/.." && pwd)
 cargo --version > /dev/null 2>&1 || { echo "tests/rust.sh: there is no cargo, so nothing is run" >&2; exit 2; }
 folder=${1:-$top/crates/mulkavesh_c/out/lib}
 program=${2:-$top/crates/walrus_gc/out/walrus_gc}
-[ $# -gt 0 ] || "$top/tests/build.sh" mulkavesh_c
-[ $# -gt 1 ] || "$top/tests/build.sh" walrus_gc
+[ $# -gt 0 ] || "$top/tools/build.sh" mulkavesh_c
+[ $# -gt 1 ] || "$top/tools/build.sh" walrus_gc
 work=$(mktemp -d)
 trap 'rm -rf -- "$work"' EXIT
 status=0
@@ -37,7 +37,7 @@ shrinks() {
   cmp "$work/files/module" "$work/wanted" && [ "$(cat "$work/files/other")" = "no module" ] && [ "$(find "$work/files" -type f | wc -l)" = 2 ]
 }
 
-"$top/tests/header.py" || status=1
+"$top/tools/header.py" || status=1
 cargo test --offline --locked --no-fail-fast --workspace --manifest-path "$top/rust/Cargo.toml" > "$work/told" 2>&1 || find_is "cargo test: status $?"
 [ "$status" = 0 ] || grep -Ev '^(test .* ok|running|$)' "$work/told" | tail -n 60
 grep -oE '(not )?compared: .*' "$work/told" | awk '!seen[$0]++ { print "tests/rust.sh: " $0 }'

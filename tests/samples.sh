@@ -10,8 +10,8 @@ if [ $# = 0 ]; then
   set -- "$top/tests/samples"
   [ ! -d "$top/../shared/samples" ] || set -- "$@" "$top/../shared/samples"
 fi
-"$top/tests/build.sh" wasm_copy
-"$top/tests/build.sh" walrus_gc
+"$top/tools/build.sh" wasm_copy
+"$top/tools/build.sh" walrus_gc
 program=$top/crates/wasm_copy/out/wasm_copy
 smaller=$top/crates/walrus_gc/out/walrus_gc
 files=$(mktemp -d)

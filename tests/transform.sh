@@ -1,7 +1,7 @@
 #!/usr/bin/env bash
 # Holds the code transform against what wabt's wasm-objdump finds in the same bytes, over real modules: transform.py says in what. The program
 # that tells it is made in a copy of the crates, with nothing proved (unproved.sh), since it is for this script alone. No part of the gate; where
-# wabt (Debian's package of that name, which tests/install.sh puts in) isn't there, nothing is run, and the status is 2.
+# wabt (Debian's package of that name, which tools/install.sh puts in) isn't there, nothing is run, and the status is 2.
 # tests/transform.sh [FOLDER..], where none is given tests/samples and, where it is there, ../shared/samples.
 set -eu
 top=$(cd "$(dirname "$0")/.." && pwd)
@@ -13,7 +13,7 @@ fi
 work=$(mktemp -d)
 trap 'rm -rf "$work"' EXIT
 mkdir "$work/top"
-tar -C "$top" --exclude=out -c crates crates.txt HANDLES tests/still.sh tests/unproved.sh | tar -C "$work/top" -x
+tar -C "$top" --exclude=out -c crates crates.txt HANDLES tools/heartbeat.sh tools/unproved.sh | tar -C "$work/top" -x
 mkdir -p "$work/top/crates/moved/src"
 echo "moved: walrus" >> "$work/top/crates.txt"
 printf '\0asm\1\0\0\0' > "$work/top/crates/moved/stdin"
@@ -58,7 +58,7 @@ fn main(rt: HostRuntime) -> ExitCode {
     }
 }
 RATTLE
-"$work/top/tests/unproved.sh" "$work/moved" moved
+"$work/top/tools/unproved.sh" "$work/moved" moved
 find "$@" -maxdepth 1 -name '*.wasm' -printf '%f\t%p\n' | sort -u -t "$(printf '\t')" -k 1,1 | cut -f 2 > "$work/modules"
 mapfile -t modules < "$work/modules"
 python3 "$top/tests/transform.py" "$work/moved" "${modules[@]}"

@@ -1,6 +1,6 @@
 #!/usr/bin/env bash
 # Calls the library from JavaScript: tests/web.sh [FOLDER [PROGRAM]], the folder that web/build.sh left and the proved program where none are given, or
-# those of web/build.sh --unproved and of tests/unproved.sh. The callers stand in tests/web.
+# those of web/build.sh --unproved and of tools/unproved.sh. The callers stand in tests/web.
 #   worked.mjs   each call on modules whose bytes were worked out by hand (and faults.txt), an error of each kind, each way to load, memory that grows and runs out
 #   beside.mjs   the modules of tests/samples, ../shared/samples (where it is there), made ones of tests/made (where wabt is there) and 2,000 mutants of them,
 #                beside the program under its words: the same bytes and statuses, and a fault where it refuses
@@ -14,7 +14,7 @@ command -v node > /dev/null || { echo "tests/web.sh: there is no node, so nothin
 folder=${1:-$top/web/dist}
 program=${2:-$top/crates/walrus_gc/out/walrus_gc}
 [ $# -gt 0 ] || "$top/web/build.sh"
-[ $# -gt 1 ] || "$top/tests/build.sh" walrus_gc
+[ $# -gt 1 ] || "$top/tools/build.sh" walrus_gc
 folder=$(realpath -- "$folder") program=$(realpath -- "$program")
 work=$(mktemp -d)
 trap 'rm -rf -- "$work"' EXIT

@@ -4,8 +4,8 @@
 #   mulkavesh.js      the calls of it, for Node and browsers; mulkavesh.d.ts has their types
 #   index.html        a page over it, with page.js, page.css, treemap.js and worker.js: any static host serves the folder
 #   package.json, LICENSE
-# It proves the crates first, as tests/build.sh mulkavesh_c, where that isn't done yet, and takes LLVM's module of what was proved. With --unproved that is of
-# tests/unproved.sh: nothing in it is proved, and it takes four minutes of one processor and 1.5 GB. web/README.md says what is trusted. Nothing is needed but
+# It proves the crates first, as tools/build.sh mulkavesh_c, where that isn't done yet, and takes LLVM's module of what was proved. With --unproved that is of
+# tools/unproved.sh: nothing in it is proved, and it takes four minutes of one processor and 1.5 GB. web/README.md says what is trusted. Nothing is needed but
 # the kit; where there is node, the library makes itself smaller at the end.
 set -eu
 here=$(cd "$(dirname "$0")" && pwd)
@@ -22,19 +22,19 @@ mkdir -p -- "$out" && out=$(realpath -- "$out")
 wasm=(--target=wasm32-unknown-unknown -mbulk-memory -mnontrapping-fptoint -msign-ext -mmutable-globals -ffunction-sections -fdata-sections)
 
 if [ ${#way[@]} = 0 ]; then
-  "$top/tests/unproved.sh" --module "$work/module.ll" mulkavesh_c &
+  "$top/tools/unproved.sh" --module "$work/module.ll" mulkavesh_c &
   wait $!
 else
-  "$top/tests/build.sh" mulkavesh_c
+  "$top/tools/build.sh" mulkavesh_c
   "$here/proved.py" "$work/module.bc"
   "$clang" -Wno-everything -Xclang -disable-llvm-passes -O1 -S -emit-llvm -x ir "$work/module.bc" -o "$work/module.ll"
 fi
 "$here/to_wasm.py" "${way[@]}" < "$work/module.ll" > "$work/wasm.ll"
 rm "$work/module.ll"
-"$top/tests/still.sh" 10 "web: compiling" "$clang" "${wasm[@]}" -O2 -Wno-everything -c -x ir "$work/wasm.ll" -o "$work/library.o" &
+"$top/tools/heartbeat.sh" 10 "web: compiling" "$clang" "${wasm[@]}" -O2 -Wno-everything -c -x ir "$work/wasm.ll" -o "$work/library.o" &
 wait $!
 "$clang" "${wasm[@]}" -O2 -ffreestanding -fno-builtin -Wall -Wextra -Werror -c "$here/shim.c" -o "$work/shim.o"
-mapfile -t shown < <("$top/tests/exports.py" --names mulkavesh_c | sed 's/^/--export=/')
+mapfile -t shown < <("$top/tools/exports.py" --names mulkavesh_c | sed 's/^/--export=/')
 "$kit/toolchain/bin/ld.lld" -flavor wasm --no-entry --stack-first -z stack-size=1048576 --export-memory --gc-sections --strip-all "${shown[@]}" \
   "$work/library.o" "$work/shim.o" -o "$work/mulkavesh.wasm"
 cp "$here"/{mulkavesh.js,mulkavesh.d.ts,package.json,index.html,page.js,page.css,treemap.js,worker.js} "$top/LICENSE" "$out"

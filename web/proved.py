@@ -1,7 +1,7 @@
 #!/usr/bin/env python3
-"""LLVM's module of the proved library: web/proved.py OUT.bc, behind tests/build.sh mulkavesh_c.
+"""LLVM's module of the proved library: web/proved.py OUT.bc, behind tools/build.sh mulkavesh_c.
 
-The crate is proved over the libraries that are built, as tests/build.py does, and what `rattle build` hands to clang is kept: in a copy of the kit's toolchain
+The crate is proved over the libraries that are built, as tools/build.py does, and what `rattle build` hands to clang is kept: in a copy of the kit's toolchain
 folder, of links, clang is a script that copies the module before it calls the kit's. The kit stays as it is.
 """
 import pathlib

@@ -1,5 +1,5 @@
 //! Tells the linker where the static library is: in the folder that MULKAVESH_LIB names, or else
-//! where `tests/build.sh mulkavesh_c` leaves it in this repository.
+//! where `tools/build.sh mulkavesh_c` leaves it in this repository.
 
 use std::env;
 use std::path::PathBuf;
@@ -32,7 +32,7 @@ fn main() {
     if !archive.is_file() {
         eprintln!("mulkavesh-sys: there is no {}", archive.display());
         eprintln!("mulkavesh-sys: let {VARIABLE} name, by its full path, the folder of {ARCHIVE},");
-        eprintln!("mulkavesh-sys: or run tests/build.sh mulkavesh_c in the repository");
+        eprintln!("mulkavesh-sys: or run tools/build.sh mulkavesh_c in the repository");
         exit(1);
     }
     println!("cargo:rustc-link-search=native={}", folder.display());

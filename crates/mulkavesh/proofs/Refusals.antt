@@ -3,7 +3,7 @@ use Rattle.std.proofs.Common.{◌≡◌, ℕ, Bool, true, false, List, sym, subs
 use Rattle.std.specs.Prelude.{Option, Err}
 use Rattle.walrus_tools.specs.Handed.{Error, Module, Read, ToolError}
 use Rattle.mulkavesh.specs.declared.order.Work.{Work}
-use Rattle.mulkavesh.specs.Command.{IsTold, TellsLine, TellsMade, Words, refusal_text, refused_text}
+use Rattle.mulkavesh.specs.Command.{TellsResult, TellsLine, TellsMade, Words, refusal_text, refused_text}
 
 module _ (w : Work) (from to : Words) (status : ℕ) (old new : Option (List ℕ)) (failures_old failures_new : ℕ) where
   abbrev pub Line : List ℕ → Type 0
@@ -13,8 +13,8 @@ module _ (w : Work) (from to : Words) (status : ℕ) (old new : Option (List ℕ
   tells_refused true note is told = told
   tells_refused false note is told = absurd (cc)
 
-  pub tells_read : (e : ToolError) → e ≡ Read → Line from.trouble → IsTold w from to status old new failures_old failures_new (Err e)
-  tells_read e is told = subst (λ (f : ToolError). IsTold w from to status old new failures_old failures_new (Err f)) (sym is) told
+  pub tells_read : (e : ToolError) → e ≡ Read → Line from.trouble → TellsResult w from to status old new failures_old failures_new (Err e)
+  tells_read e is told = subst (λ (f : ToolError). TellsResult w from to status old new failures_old failures_new (Err f)) (sym is) told
 
-  pub tells_module : (e : ToolError) (m : Error) → e ≡ Module m → Line (refusal_text w m) → IsTold w from to status old new failures_old failures_new (Err e)
-  tells_module e m is told = subst (λ (f : ToolError). IsTold w from to status old new failures_old failures_new (Err f)) (sym is) told
+  pub tells_module : (e : ToolError) (m : Error) → e ≡ Module m → Line (refusal_text w m) → TellsResult w from to status old new failures_old failures_new (Err e)
+  tells_module e m is told = subst (λ (f : ToolError). TellsResult w from to status old new failures_old failures_new (Err f)) (sym is) told

@@ -77,11 +77,11 @@ module _ (w : Work) (from to : Words) (status : ℕ) (old new : Option (List ℕ
   TellsMade true note = TellsLine from.name refused_text
   TellsMade false note = (status ≡ 0) × Tells old new failures_old failures_new note
 
-  abbrev pub IsTold : Result Made ToolError → Type 0
-  IsTold (Ok made) = TellsMade made.is_refused made.note.items
-  IsTold (Err Read) = TellsLine from.name from.trouble
-  IsTold (Err Write) = (status ≡ 1) × TellsUnwritten to old new failures_old failures_new
-  IsTold (Err (Module e)) = TellsLine from.name (refusal_text w e)
+  abbrev pub TellsResult : Result Made ToolError → Type 0
+  TellsResult (Ok made) = TellsMade made.is_refused made.note.items
+  TellsResult (Err Read) = TellsLine from.name from.trouble
+  TellsResult (Err Write) = (status ≡ 1) × TellsUnwritten to old new failures_old failures_new
+  TellsResult (Err (Module e)) = TellsLine from.name (refusal_text w e)
 
 -- The order was carried out or refused; its two devices counted the failure of which it answers and no other; what was written whole is flushed, also
 -- where it says that a module isn't accepted; and its answer was told.
@@ -91,9 +91,9 @@ pub record RunsAndTells (Answers : List ℕ → Result Made Error → Type 0) (w
   pub reads : CountsReads reads_old reads_new answer
   pub writes : CountsWrites writes_old writes_new answer
   pub flushed : OnOk answer (is_flushed ≡ true)
-  pub told : IsTold w from to status old new failures_old failures_new answer
+  pub told : TellsResult w from to status old new failures_old failures_new answer
 
 -- a text was written and the status is 0; or the sink failed, which it counted, and a beginning of the text was written
-pub data Says (text : List ℕ) (to_old to_new : Option (List ℕ)) (to : Words) (status : ℕ) (old new : Option (List ℕ)) (failures_old failures_new : ℕ) : Type 0 where
-  said : status ≡ 0 → Appends to_old to_new text → IsSilent old new failures_old failures_new → Says text to_old to_new to status old new failures_old failures_new
-  failed : status ≡ 1 → WroteFront to_old to_new text → TellsUnwritten to old new failures_old failures_new → Says text to_old to_new to status old new failures_old failures_new
+pub data Prints (text : List ℕ) (to_old to_new : Option (List ℕ)) (to : Words) (status : ℕ) (old new : Option (List ℕ)) (failures_old failures_new : ℕ) : Type 0 where
+  said : status ≡ 0 → Appends to_old to_new text → IsSilent old new failures_old failures_new → Prints text to_old to_new to status old new failures_old failures_new
+  failed : status ≡ 1 → WroteFront to_old to_new text → TellsUnwritten to old new failures_old failures_new → Prints text to_old to_new to status old new failures_old failures_new

@@ -1,7 +1,7 @@
 //! One order from its source to its sink, and what is told of it.
 
 ghost use Rattle.std.specs.Prelude.{◌≡◌, OnOk, true};
-ghost use Rattle.mulkavesh.specs.Command.{Carries, RunsAndTells, Says, TellsUnwritten, absent_text, refusal_text};
+ghost use Rattle.mulkavesh.specs.Command.{Carries, RunsAndTells, Prints, TellsUnwritten, absent_text, refusal_text};
 ghost use Rattle.mulkavesh.specs.Made.{AnswersOrder};
 ghost use Rattle.walrus_tools.specs.Handed.{CountsReads, CountsWrites};
 
@@ -70,7 +70,7 @@ fn absent(work: Work) -> &'static str
 
 /// Writes a text to the sink, and answers the status: 0, or 1 where that failed, which is told unless its reader went away.
 pub(crate) fn say<W: Sink + Explains, E: Sink>(output: &mut W, errors: &mut E, text: &str) -> u8
-    ensures { Says text.now (W.held output.old) (W.held output.new)
+    ensures { Prints text.now (W.held output.old) (W.held output.new)
         (record { name = W.name output.new; trouble = W.trouble output.new; is_left = W.is_left output.new })
         result (E.held errors.old) (E.held errors.new) (E.write_failures errors.old)
         (E.write_failures errors.new) }

@@ -1,4 +1,9 @@
-//! The program `mulkavesh`: subcommands over the module in a file or on standard input, with the answer in a file or on standard output.
+//! The program `mulkavesh`: subcommands over the module in a file or on standard input.
+//! The answer goes to a file or to standard output.
+//!
+//! Read first: `src/command.rt` (one order from its source to its sink) and `src/made.rt` (what each subcommand makes of bytes).
+//! Main clause: `command` in `src/command.rt`, with `RunsAndTells` of `specs/Command.antt`.
+//! It says: the order was carried out or refused, the devices counted that failure and no other, and the answer was told.
 #![tactic(auto)]
 
 mod beside;

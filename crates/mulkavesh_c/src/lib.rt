@@ -1,5 +1,8 @@
-//! What C calls: each call goes from bytes to bytes for which the caller has room, and answers a status. include/mulkavesh.h declares
-//! them, and says what the caller owes.
+//! What C calls: each call goes from bytes to bytes for which the caller has room, and answers a status.
+//! include/mulkavesh.h declares them, and says what the caller owes.
+//!
+//! Read first: `src/lib.rt` (the calls) and `src/given.rt` (status, room and length).
+//! Main clause: `mulkavesh_gc`, with `Gives` of `specs/Given.antt`: what each status says of the answer, the room and the told length.
 #![tactic(auto)]
 
 mod asked;

@@ -1,4 +1,8 @@
 //! The module layer of WebAssembly: a module's bytes go in, a [`Module`] or a smaller module's bytes come out.
+//!
+//! Read first: `src/tool.rt` (the program's work, over any source and sink) and `specs/Headline.antt` (the main theorem).
+//! Main clause: `run` of `src/tool.rt` promises `Runs`: on Ok all of the source is read, and what its bytes come to is written.
+//! Refused, it says why, and nothing is written. Where the sink fails, a beginning of the output may be.
 #![tactic(auto)]
 
 pub mod below;

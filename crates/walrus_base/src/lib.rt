@@ -1,5 +1,8 @@
-//! What the items of a module are kept in: ids, arenas, sets of ids and marks. And its types: value types, types in their
-//! groups, constant expressions and locals.
+//! What the items of a module are kept in: ids, arenas, sets of ids and marks.
+//! And its types (Structure > Types): value types, types in their groups, constant expressions and locals.
+//!
+//! Read first: `src/arena.rt` (items by their ids) and `specs/Arena.antt` (an arena as a list of slots).
+//! Main clause: `alloc` of `src/arena.rt` promises `slots`: the item comes behind all slots, and its id is that place. Refused, the slots stay.
 #![tactic(auto)]
 
 mod arena;

@@ -1,6 +1,10 @@
-//! Function bodies (Binary Format > Modules > Code Section, Binary Format > Instructions), read and written as lists of operators, and as they
-//! stand: a plain body is kept as its bytes in the input with marks, which are read, walked and written without a list. No crate above
-//! looks inside a function.
+//! Function bodies (Binary Format > Modules > Code Section, Binary Format > Instructions), read and written as lists of operators.
+//! A plain body is kept as its bytes in the input with marks, and read, walked and written without a list.
+//! No crate above looks inside a function.
+//!
+//! Read first: `src/body.rt` (reading a body) and `specs/Body.antt` (which bytes are a body of these operators).
+//! Main clause: `read_body_over` of `src/body.rt` promises `ReadsBody`: the bytes are a body of these operators.
+//! Its declared locals are added to the module's. It answers `Malformed` only where the bytes are no body.
 #![tactic(auto)]
 
 mod block_types;

@@ -1,5 +1,9 @@
 //! Operators over ids (Structure > Instructions), made from operators over indices and put back into them
 //! (Structure > Modules > Indices).
+//!
+//! Read first: `src/to_ids.rt` (from indices to ids) and `specs/Names.antt` (operators put through a look-up of what they name).
+//! Main clause: `named_operators_lead_back` of `src/law.rt`, a law, promises `OperatorsLeadBack`: there and back, operators are the same again.
+//! It asks that the second look-up leads back what the first one finds.
 #![tactic(auto)]
 
 mod error;

@@ -1,5 +1,9 @@
 //! Constant expressions, there and back: over indices, as the entries of sections hold them, and over ids
-//! (Binary Format > Instructions > Expressions, Structure > Modules > Indices).
+//! ("Binary Format > Instructions > Expressions", "Structure > Modules > Indices").
+//!
+//! Read first: `src/read.rt` (from indices to ids) and `specs/Named.antt` (an expression that is put through a look-up).
+//! Main clause: `read_const` of `src/read.rt` promises `named_const`: each index is replaced by the place of its id.
+//! `Malformed` comes exactly where an index isn't declared.
 #![tactic(auto)]
 
 mod heap;

@@ -1,4 +1,8 @@
-//! What a module contains: its parts, what its items name, and whether all that is named is there.
+//! What a module contains: its parts, what its items name, and whether all that is named is there ("Structure > Modules").
+//!
+//! Read first: `src/parts.rt` (the parts of a module) and `specs/View.antt` (these parts as an abstract module).
+//! Main clause: `check_live` of `src/live.rt` promises `HasDead`, a word of `../walrus_model/specs/Dead.antt`.
+//! On Ok nothing that is named is missing. `DeadItem` comes only where something is missing, or a function is uninitialised.
 #![tactic(auto)]
 
 mod initialisers;

@@ -1,5 +1,9 @@
-//! Whole functions, read from and written to the binary format (Binary Format > Modules > Code Section): parameters, declared
-//! locals, operators, and the types of legacy exception handlers.
+//! Whole functions, read from and written to the binary format (Binary Format > Modules > Code Section).
+//! These are parameters, declared locals, operators, and the types of legacy exception handlers.
+//!
+//! Read first: `src/read.rt` (reading a function) and `specs/ReadFunction.antt` (what is answered then).
+//! Main clause: `read_body` of `src/read.rt` promises `ReadsFunction`: the bytes are a body of the function's operators.
+//! Its parameters and declared locals are added to the module's. It answers `Malformed` only where the bytes are no body.
 #![tactic(auto)]
 
 mod append;

@@ -1,5 +1,8 @@
-//! Building functions (Structure > Modules > Functions). And one name for types, constant expressions, operators and bodies of functions,
-//! over ids: what the items of a module are made of.
+//! Building functions, operator by operator ("Structure > Modules > Functions").
+//! It also gives one name to types, constant expressions, operators and bodies over ids, of which a module's items are made.
+//!
+//! Read first: `src/function.rt` (`FunctionBuilder`) and `specs/Sequence.antt` (what a contract sees of a sequence that is being built).
+//! Main clause: `local_func` of `src/function.rt` promises `built`: the function's body is the operators that were built, in order, and the last end.
 #![tactic(auto)]
 
 mod function;

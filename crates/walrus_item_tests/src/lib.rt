@@ -1,5 +1,9 @@
-//! Tests of the crates that modules are built from, above bytes, and of the collections: each call that takes memory, once, where it succeeds.
-//! And of what bodies name and nothing declares.
+//! Tests of the crates that modules are built from, above bytes, and of the collections.
+//! Each call that takes memory is made once, where it succeeds. Functions that bodies name and nothing declares are found.
+//!
+//! Read first: `src/held.rt` (what all collections do alike) and `src/ir.rt` (bodies).
+//! Main clause: `scanned` in `src/ir.rt`, with `AreInPlace` (walrus_bodies): each index below its count is the place of its item.
+//! Nothing else has a clause: the tests compare what calls answer with what was worked out by hand.
 #![tactic(auto)]
 
 #[cfg(test)]

@@ -1,5 +1,8 @@
-//! The items of a module, and the collections that hold them by their ids; and what every part of a module is built with: errors, roots, the
-//! places of written code, and custom sections.
+//! The items of a module, and the collections that hold them by their ids ("Structure > Modules").
+//! And what every part of a module is built with: errors, roots, the places of written code, and custom sections.
+//!
+//! Read first: `src/items.rt` (the calls that all collections have) and `specs/Held.antt` (what a collection holds, as plain values).
+//! Main clause: `get` of `src/items.rt` promises `held`: a live id gives the item that the collection holds at the place of that id.
 #![tactic(auto)]
 
 mod custom;

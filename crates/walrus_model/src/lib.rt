@@ -1,8 +1,10 @@
-//! What the verified WebAssembly module layer promises, in definitions, and the laws of these definitions.
+//! What the verified WebAssembly module layer promises, in definitions, and the laws of these definitions, as functions with empty bodies.
+//! The definitions stand in `specs/`: the abstract module, what refers to what, what gc keeps, renaming, and what comes out.
+//! `docs/DEFINITIONS.md` of the repository leads through them.
 //!
-//! The definitions stand in `specs/`: the abstract module, which items refer to which, what gc keeps, renaming, what
-//! comes out, and what bytes read as. `docs/DEFINITIONS.md` of the repository leads through them. Each public function
-//! here has an empty body: it carries a law of the definitions as its contract.
+//! Read first: `specs/Abstract.antt` (what a module is) and `specs/Out.antt` (what comes out for a module).
+//! Main clause: `reached_is_least` of `src/laws.rt` promises `IsLeast`: what is reached holds the roots and is closed under references.
+//! It lies within every set that does both.
 #![tactic(auto)]
 
 mod family;

@@ -1,4 +1,8 @@
-//! A module in memory: how it is read, and how it is written.
+//! A module in memory, with its configuration and its custom sections: how it is read, checked, edited and written ("Binary Format > Modules").
+//!
+//! Read first: `src/emit.rt` (writing a module) and `specs/View.antt` (a module in memory as an abstract module).
+//! Main clause: `emit_wasm` of `src/emit.rt` promises `IsWellWritten` of a well-made module: the bytes read as what it is written as.
+//! And that keeps the rules. Else memory ran out, a limit is passed, or a section of its own refused.
 #![tactic(auto)]
 
 mod asked;

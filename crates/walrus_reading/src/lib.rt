@@ -1,4 +1,8 @@
-//! The contents of a module that bytes are: from bytes to records, and from records to items, which get their names.
+//! The contents of a module that bytes are ("Binary Format > Modules"): from bytes to records, and from records to items, which get their names.
+//!
+//! Read first: `src/module.rt` (reading all of it) and `specs/Parsed.antt` (what parsing gives, and when it refuses).
+//! Main clause: `read` of `src/module.rt` promises `IsParsed`: the bytes read as a module that keeps the rules.
+//! What is answered is that module in memory.
 #![tactic(auto)]
 
 mod bodies;

@@ -1,5 +1,9 @@
-//! Scenes over the calls of `walrus`, to be played while one request for memory fails: each call that lacks memory has to leave the module as it
-//! was, and made again it has to give what it gives with ample memory. Without a failed request each scene has to give that as well.
+//! Scenes over the calls of `walrus`, to be played while one request for memory fails.
+//! Each call that lacks memory has to leave the module as it was, and made again it gives what ample memory gives.
+//! Without a failed request each scene has to give that as well.
+//!
+//! Read first: `src/scenes.rt` (the scenes and their bytes) and `src/play.rt` (how a scene is played).
+//! It has no clause of its own: its scenes compare modules before and behind a call, and the bytes that come out.
 #![tactic(auto)]
 
 mod adds;

@@ -1,5 +1,8 @@
-//! Scenes over the calls of `walrus`, each of which tells what its calls answer, under a line that says what it shows. The stored run has what they
-//! have to answer.
+//! Scenes over the calls of `walrus`, each of which tells what its calls answer, under a line that says what it shows.
+//! The stored run has what they have to answer.
+//!
+//! Read first: `src/scenes.rt` (the scenes and their steps) and `src/play.rt` (how a scene is played).
+//! It has no clause of its own: what its scenes tell is compared with the stored run.
 #![tactic(auto)]
 
 mod again;

@@ -1,5 +1,9 @@
-//! Tests of custom sections of a caller's own, and of names: of modules that are read with them, of those that a program gives, and of
-//! those that are made of indices. And of element segments that a program adds, also in the sets of their tables.
+//! Tests of custom sections of a caller's own, and of names.
+//! Names are read with a module, given by a program, or made of indices.
+//! And of element segments that a program adds, also in the sets of their tables.
+//!
+//! Read first: `src/noted.rt` (a section of a caller's own) and `src/sections.rt` (what such sections keep, and what is written).
+//! It has no clause of its own: its tests compare the bytes that are written, the names, and the refusals with wanted ones.
 #![tactic(auto)]
 
 #[cfg(test)]

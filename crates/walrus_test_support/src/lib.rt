@@ -1,5 +1,8 @@
-//! What tests are written with that run the program, or that edit modules: rows of what goes in and comes out, functions and
-//! references to add, what a module shows, and failing where emission answered otherwise.
+//! What tests are written with that run the program, or that edit modules.
+//! There are rows of what goes in and comes out, functions and references to add, and what a module shows.
+//!
+//! Read first: `src/rows.rt` (tables of inputs and outputs) and `src/listing.rt` (what a module shows, as text).
+//! It has no clause of its own: its functions compare bytes, and a module with what it showed before.
 #![tactic(auto)]
 
 mod listing;

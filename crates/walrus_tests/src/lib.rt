@@ -1,5 +1,9 @@
-//! Tests of the program: worked modules byte for byte, reports, its words, devices that fail; and of modules that a program edits: items that
-//! it adds with the imports that bring them, data segments, the start function, and what gc and emission answer where a module can't be written.
+//! Tests of the program: worked modules byte for byte, reports, its words, and devices that fail.
+//! And of modules that a program edits: added items with their imports, data segments, the start function.
+//! Where a module can't be written, they test what gc and emission answer.
+//!
+//! Read first: `src/rows.rt` (worked modules in and out) and `src/edited.rt` (modules that emission refuses).
+//! It has no clause of its own: its tests compare the bytes, reports, statuses and refusals with wanted ones.
 #![tactic(auto)]
 
 #[cfg(test)]

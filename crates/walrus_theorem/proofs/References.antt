@@ -27,7 +27,7 @@ use Rattle.walrus_base.proofs.Standing.{some_inj, got_where, got_in}
 use Rattle.walrus_theorem.proofs.TextShaped.{all_at}
 use Rattle.walrus_base.proofs.Lookups.{mapped_some, got_map, got_both, heads}
 use Rattle.walrus_groups.proofs.TypeLists.{got_either, got_right as behind}
-use Rattle.walrus_theorem.specs.Declared.{BodiesName, GlobalsName, Exports, ItemsList, Segments, IsUndeclaredIn, ReferencesAgree}
+use Rattle.walrus_theorem.specs.Declared.{BodiesName, GlobalsName, Exports, ItemsList, SegmentsList, IsUndeclaredIn, ReferencesAgree}
 use Rattle.walrus_theorem.proofs.Initialisers.{Brought, brought_globals}
 
 -- ---- ref.func as a constant
@@ -175,11 +175,11 @@ module _ (s : wire.Module) (bodies : List Said) where
       let same : ◌≡◌ {A = Item} (space_of w.0.kind, w.0.index) (Functions, f) = ap (λ (y : Export). y.item) w.2 ∙ is in
       h (w.0, w.1, function_kind w.0.kind (ap (λ (y : Item). y.0) same), ap (λ (y : Item). y.1) same)
 
-  listed_by : (f : ℕ) → ((i : ℕ) (e : Element) → M.elements i ≡ Some e → Lists e.items f → ⊥) → Segments s f → ⊥
+  listed_by : (f : ℕ) → ((i : ℕ) (e : Element) → M.elements i ≡ Some e → Lists e.items f → ⊥) → SegmentsList s f → ⊥
   listed_by f h (x, among, lists) =
       h among.0 (element_of x) (got_map element_of s.elements among.0 ∙ ap (option_map element_of) (got_where s.elements x among)) (lists_by f x.items lists)
 
-  listed_was : (f : ℕ) → (Segments s f → ⊥) → (i : ℕ) (e : Element) → M.elements i ≡ Some e → Lists e.items f → ⊥
+  listed_was : (f : ℕ) → (SegmentsList s f → ⊥) → (i : ℕ) (e : Element) → M.elements i ≡ Some e → Lists e.items f → ⊥
   listed_was f h i e at lists =
       let w = mapped_some element_of (slice_get s.elements i) e (sym (got_map element_of s.elements i) ∙ at) in
       let stands = got_in s.elements i w.0 w.1 in

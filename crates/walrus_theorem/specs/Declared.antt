@@ -24,14 +24,14 @@ abbrev pub ItemsList : entries.Items → ℕ → Type 0
 ItemsList (entries.Functions fs) f = Contains fs f
 ItemsList (entries.Expressions ty es) f = Contains es (ops.RefFunc f ∷ [])
 
-abbrev pub Segments : wire.Module → ℕ → Type 0
-Segments s f = (e : entries.Element) × Contains s.elements e × ItemsList e.items f
+abbrev pub SegmentsList : wire.Module → ℕ → Type 0
+SegmentsList s f = (e : entries.Element) × Contains s.elements e × ItemsList e.items f
 
 -- f is named so, is not exported, and no element segment lists it
 pub record IsUndeclaredIn (s : wire.Module) (bodies : List Said) (f : ℕ) : Type 0 where
   pub named : BodiesName bodies f ⊎ GlobalsName s f
   pub not_exported : Exports s f → ⊥
-  pub not_listed : Segments s f → ⊥
+  pub not_listed : SegmentsList s f → ⊥
 
 -- with a body for each function, undeclared in the module that these records say is what is undeclared in the records
 abbrev pub ReferencesAgree : Type 0

@@ -122,7 +122,7 @@ two_functions_bytes =
     ∷ 0x0A ∷ 0x07 ∷ 0x02 ∷ 0x02 ∷ 0x00 ∷ 0x0B ∷ 0x02 ∷ 0x00 ∷ 0x0B ∷ []
 
 -- these bytes, and those of the worked row, read as the two modules, under any configuration; and the second is spelled so
-pub record AreRead : Type 0 where
+pub record ExamplesAreRead : Type 0 where
   pub reads : (c : Config) → ReadsModule c two_functions_bytes two_functions
   pub written_reads : (c : Config) → ReadsModule c one_function_bytes small.one_function
   pub spelled : IsSpelledAs small.one_function one_function_bytes

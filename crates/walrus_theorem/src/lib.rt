@@ -1,9 +1,9 @@
-//! What the main theorem is said with at full breadth, and the laws that show that these words leave nothing open.
+//! The words of the main theorem at full breadth, and the laws that show that these words leave nothing open, as functions with empty bodies.
+//! The definitions stand in `specs/`: what bytes read as, the steps to what is written, its one spelling, causes of refusals, and the settled form.
+//! Where a definition says "there is", a law here says that there is one only.
 //!
-//! The definitions stand in `specs/`: what bytes read as over all sections, the steps from there to what is written, its
-//! one spelling, when it is too large, the causes of each refusal, the settled form, the report. Where a definition says
-//! "there is", a law here says that there is one only. Each public function has an empty body: it carries laws of the
-//! definitions as its contract.
+//! Read first: `specs/Headline.antt` (what bytes read as, and what a run comes to) and `src/steps.rt` (the laws of one run).
+//! Main clause: `one_run` of `src/steps.rt` promises `OneOutput`: under one configuration, bytes come to one output and no other.
 #![tactic(auto)]
 
 mod again;

@@ -3,7 +3,7 @@
 ghost use Rattle.std.specs.Prelude.{ℕ, List, ◌≡◌};
 ghost use Rattle.walrus_model.specs.Abstract.{Abstract};
 ghost use Rattle.walrus_theorem.specs.Alternatives.{HasAlternatives};
-ghost use Rattle.walrus_theorem.specs.Examples.{AreRead, AreRefused, one_function, one_function_bytes};
+ghost use Rattle.walrus_theorem.specs.Examples.{ExamplesAreRead, AreRefused, one_function, one_function_bytes};
 ghost use Rattle.walrus_theorem.specs.Needs.{IsWrittenOnce};
 ghost use Rattle.walrus_theorem.specs.OneRun.{ReadFits, ReadsOnce, SpelledFits};
 ghost use Rattle.walrus_theorem.specs.SpelledLaws.{SpelledReads, WrittenBodies, WrittenReads};
@@ -14,7 +14,7 @@ ghost use Rattle.walrus_theorem.specs.Spelling.{IsSpelledAs, SpelledOnce};
 /// of types, a section of debug information, and others. The bytes of a module of two functions, and of what comes out of
 /// it, read as these modules, and the latter is spelled so.
 pub fn worked_row()
-    ensures read { AreRead }
+    ensures read { ExamplesAreRead }
     ensures one { IsSpelledAs one_function one_function_bytes }
     ensures refused { AreRefused }
     ensures written { IsWrittenOnce }

@@ -46,7 +46,7 @@ use Rattle.walrus_tools.proofs.ListedWritten.{lists_again}
 use Rattle.walrus_tools.specs.Finding.{FindsListed, IsReady, IsThere}
 use Rattle.walrus.specs.Listed.{found_bytes}
 use Rattle.walrus_tools.specs.Listed.{AsksToKeep, HasFirst, HasNone, KeepsListed, Lists, ListsFunctions, listing}
-use Rattle.walrus_tools.specs.Listing.{AnswersListed, Finishes, IsFinished, MayListAgain}
+use Rattle.walrus_tools.specs.Listing.{AnswersKeepListed, Finishes, IsFinished, MayListAgain}
 use Rattle.walrus_tools.specs.Metadata.{section_of}
 
 -- ---- what sections mean
@@ -109,7 +109,7 @@ module _ {V : Type 0} {O : V → Type 0} (G : (v : V) → Ghosts (O v)) (c : Con
 
   by_result : (edited : Module (SectionEntry V O)) (listed : Option (List ℕ)) → KeepsListed name (view G read) (view G edited) listed
       → ((output : List ℕ) (h : IsFinished c (view G edited) output) → MayListAgain c name (view G edited) output h listed)
-      → (result : Result (Vec ℕ) Error) → Finishes c (view G edited) result → AnswersListed c bytes name result
+      → (result : Result (Vec ℕ) Error) → Finishes c (view G edited) result → AnswersKeepListed c bytes name result
   by_result edited listed asks again (Ok output) h = record { module_parsed = view G read; parsed = parsed; listed = listed; module_asking = view G edited; asks = asks; finished = h; again = again output.items h }
   by_result edited listed asks again (Err (error.Memory e)) h = tt
   by_result edited listed asks again (Err error.TooLarge) h = record { module_parsed = view G read; parsed = parsed; listed = listed; module_asking = view G edited; asks = asks; too_large = h }
@@ -146,7 +146,7 @@ module _ {V : Type 0} {O : V → Type 0} (G : (v : V) → Ghosts (O v)) (c : Con
         still = still;
       }
 
-      pub passed_answers : (result : Result (Vec ℕ) Error) → Finishes (config_of (settings passed)) (view G passed) result → AnswersListed c bytes name result
+      pub passed_answers : (result : Result (Vec ℕ) Error) → Finishes (config_of (settings passed)) (view G passed) result → AnswersKeepListed c bytes name result
       passed_answers result h =
           by_result passed None (subst (λ (cs : List Custom). HasNone name cs) (sym read_customs) (names_apart name raws lacks.1), same_view) (λ output finished. tt) result
           (subst (λ (d : Config). Finishes d (view G passed) result) is h)
@@ -199,7 +199,7 @@ module _ {V : Type 0} {O : V → Type 0} (G : (v : V) → Ghosts (O v)) (c : Con
       lists_back : (fs : List ℕ) → ListsFunctions (view G read) s.data_.items fs → Lists (IsThere theirs) s.data_.items fs
       lists_back fs lists = record { spelled = lists.spelled; there = λ f at. let both = lists.there f at in (both.0, was_some (function read.locals) (item_at theirs f) both.1) }
 
-      pub list_refused : (e : Error) → FindsListed theirs s.data_.items (Err e) → AnswersListed c bytes name (Err e)
+      pub list_refused : (e : Error) → FindsListed theirs s.data_.items (Err e) → AnswersKeepListed c bytes name (Err e)
       list_refused (error.Memory memory) h = tt
       list_refused error.NotFound h = record {
         module_parsed = view G read;
@@ -285,7 +285,7 @@ module _ {V : Type 0} {O : V → Type 0} (G : (v : V) → Ghosts (O v)) (c : Con
           still = still;
         }
 
-        pub edited_answers : (result : Result (Vec ℕ) Error) → Finishes (config_of (settings edited)) (view G edited) result → AnswersListed c bytes name result
+        pub edited_answers : (result : Result (Vec ℕ) Error) → Finishes (config_of (settings edited)) (view G edited) result → AnswersKeepListed c bytes name result
         edited_answers result h =
             by_result edited (Some fs) asks
             (λ output finished. lists_again c name (view G edited) edited_live fs (ap (λ (v : Abstract). v.section_roots) becomes)

@@ -80,10 +80,10 @@ pub record RefusesListed (c : Config) (bytes name : List ℕ) : Type 0 where
   pub lists_none : ListsNone name module_parsed
 
 -- the module that keeps what is listed, or a refusal with its cause
-abbrev pub AnswersListed : Config → (bytes name : List ℕ) → Result (Vec ℕ) Error → Type 0
-AnswersListed c bytes name (Ok output) = IsKeptListed c bytes name output.items
-AnswersListed c bytes name (Err (Memory e)) = ⊤
-AnswersListed c bytes name (Err (InvalidWasm kind)) = Accepts c bytes → ⊥
-AnswersListed c bytes name (Err NotFound) = RefusesListed c bytes name
-AnswersListed c bytes name (Err TooLarge) = IsLargeListed c bytes name
-AnswersListed c bytes name (Err _) = ⊥
+abbrev pub AnswersKeepListed : Config → (bytes name : List ℕ) → Result (Vec ℕ) Error → Type 0
+AnswersKeepListed c bytes name (Ok output) = IsKeptListed c bytes name output.items
+AnswersKeepListed c bytes name (Err (Memory e)) = ⊤
+AnswersKeepListed c bytes name (Err (InvalidWasm kind)) = Accepts c bytes → ⊥
+AnswersKeepListed c bytes name (Err NotFound) = RefusesListed c bytes name
+AnswersKeepListed c bytes name (Err TooLarge) = IsLargeListed c bytes name
+AnswersKeepListed c bytes name (Err _) = ⊥

@@ -1,5 +1,9 @@
-//! Callers of the library: what linkers, binding generators, instrumenters, stubbers and snippers do with it, and what the C interface
-//! stands on. Each goes from bytes to bytes, or to a text, and what it promises follows from what the library promises of its calls.
+//! Callers of the library: what linkers, binding generators, instrumenters, stubbers and snippers do with it.
+//! The C interface stands on them. Each goes from bytes to bytes, or to a text.
+//! What each promises follows from what the library promises of its calls.
+//!
+//! Read first: `src/lessening.rt` (the program's own work) and `src/snipping.rt` (a snipper's).
+//! Main clause: `gc` in `src/lessening.rt`, with `RunsOn` (walrus): what a run makes of known bytes, or why it refuses them.
 #![tactic(auto)]
 
 mod calls;

@@ -4,7 +4,7 @@
 ghost use Rattle.walrus_items.specs.Functions.{functions};
 ghost use Rattle.walrus_module.specs.Flags.{config_of, defaults};
 ghost use Rattle.walrus_tools.specs.Finding.{FindsFirst, FindsListed};
-ghost use Rattle.walrus_tools.specs.Listing.{AnswersListed};
+ghost use Rattle.walrus_tools.specs.Listing.{AnswersKeepListed};
 
 use crate::ending::finished;
 use std::alloc::Global;
@@ -50,7 +50,7 @@ fn listed(alloc: Global, funcs: &ModuleFunctions, bytes: &[u8]) -> Result<Vec<Fu
 /// `InvalidWasm` only where the bytes are no module that keeps the rules, `NotFound` only where that section's data is no list of indices of
 /// functions, `TooLarge` only where what is kept has a count or a size past 32 bits, and `Memory`.
 pub fn keep_listed(alloc: Global, bytes: &[u8], name: &str) -> Result<Vec<u8>>
-    ensures { AnswersListed (config_of defaults) bytes.now name.now result }
+    ensures { AnswersKeepListed (config_of defaults) bytes.now name.now result }
 {
     let mut module = Module::from_buffer(alloc, bytes)?;
     let Some(section) = module.customs.remove_raw(name) else {

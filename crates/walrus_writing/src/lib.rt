@@ -1,4 +1,9 @@
-//! What a module's parts are written as: the records of their sections under a plan of them, their names, and the bytes of these.
+//! What a module's parts are written as ("Binary Format > Modules").
+//! That is the records of their sections under a plan of them, their names, and the bytes of these.
+//!
+//! Read first: `src/write.rt` (writing all of it) and `specs/Emitted.antt` (what is written, and when it is refused).
+//! Main clause: `write_prepared` of `src/write.rt` promises `IsEmitted`: the bytes are the one spelling of the module that the parts are written as.
+//! Where it is well made and nothing is undeclared, they read as it.
 #![tactic(auto)]
 
 mod bodies;

@@ -1,8 +1,9 @@
-//! The program `wasm_copy`: a WebAssembly module on standard input, the same module on standard output, read record by record
-//! and written so. It tests and measures the layer that reads and writes modules, and stands on that layer alone.
+//! The program `wasm_copy`: a WebAssembly module from standard input to standard output, record by record.
+//! It tests and measures the layer that reads and writes modules, and stands on that layer alone.
+//! `--again` also compares the copy's records, `--read` writes nothing, and `--names` lists names and producers (see `src/listing.rt`).
 //!
-//! With `--again` it also reads the copy, and writes it only if that gives the same records. With `--read` it writes nothing, and
-//! with `--names` the names of the module's items and what it was made with, a line each (see `listing.rt`).
+//! Read first: `src/program.rt` (what the program does) and `specs/Copy.antt` (what a module is copied as).
+//! Main clause: `run` of `src/program.rt` promises `Does`: where it succeeds, all of the input was read, and what the task asks for was written.
 #![tactic(auto)]
 
 mod comparing;

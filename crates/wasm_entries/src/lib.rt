@@ -1,4 +1,8 @@
 //! The entries of a module's sections (Binary Format > Types, Binary Format > Modules): their records, read and written exactly.
+//!
+//! Read first: `src/record.rt` (the records) and `specs/TypeForms.antt` (the bytes of types, groups and limits, as forms).
+//! Main clause: `read_groups` of `src/group.rt` promises `group_form`: it gives just the groups that this form reads in front of the bytes.
+//! It answers `Malformed` only where the form reads none.
 #![tactic(auto, using(wasm_forms::proofs::Keeping::keeps_on))]
 
 mod composite;

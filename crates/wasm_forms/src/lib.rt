@@ -1,5 +1,9 @@
-//! The values of WebAssembly's binary format (Binary Format > Conventions, Values): numbers, blocks, names and vectors, read and
-//! written, and the language of forms in which the contracts of the crates above state the rest of the grammar.
+//! The values of WebAssembly's binary format (Binary Format > Conventions, Values): numbers, blocks, names and vectors, read and written.
+//! And the language of forms, in which the contracts of the crates above state the rest of the grammar.
+//!
+//! Read first: `specs/Grammar.antt` (forms, and which bytes are a text of one) and `src/vector.rt` (a reader that is held to a form).
+//! Main clause: `read_vector` of `src/vector.rt` promises `Reads`: a text of the form stands in front, with this value and this rest.
+//! It answers `Malformed` only where none stands there.
 #![tactic(auto)]
 
 mod block;

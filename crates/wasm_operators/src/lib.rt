@@ -1,4 +1,8 @@
 //! Operators as bytes spell them (Binary Format > Instructions): their table, read and written one by one.
+//!
+//! Read first: `specs/Table.antt` (all operators and the kinds of their arguments) and `specs/Forms.antt` (what they look like in bytes).
+//! Main clause: `read_operator` of `src/read.rt` promises `operator`: a text of this form stands in front, with this operator and this rest.
+//! It answers `Malformed` only where none stands there.
 #![tactic(auto)]
 
 mod argument;

@@ -1,5 +1,8 @@
-//! Tests of the crates that read and write bytes, up to `wasm_wire`: each call that takes memory, once, where it succeeds. And of `wasm_text`:
-//! each public function where it succeeds, and operators that aren't scanned.
+//! Tests of the crates that read and write bytes, up to `wasm_wire`: each call that takes memory, once, where it succeeds.
+//! And of `wasm_text`: each public function where it succeeds, and operators that aren't scanned.
+//!
+//! Read first: `src/wire_rows.rt` (worked modules in bytes) and `src/wire.rt` (modules of many sections, read, checked and written back).
+//! It has no clause of its own: its tests compare what is read or written with bytes known beforehand.
 #![tactic(auto)]
 
 #[cfg(test)]

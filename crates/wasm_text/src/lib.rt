@@ -1,5 +1,9 @@
-//! Operators as they stand in bytes, with marks where an argument names something or isn't in its one shortest spelling (Binary
-//! Format > Instructions).
+//! Operators as they stand in bytes (Binary Format > Instructions).
+//! Marks show where an argument names something or isn't in its one shortest spelling.
+//!
+//! Read first: `specs/Marks.antt` (marks, and bytes with other arguments in their place) and `src/append.rt` (appending bytes with new numbers).
+//! Main clause: `append_filled` of `src/append.rt` promises `Fills`: true says that each argument at a mark has a new number.
+//! The bytes with these then stand behind what was there. False says that an argument has none.
 #![tactic(auto)]
 
 mod append;

@@ -1,5 +1,9 @@
-//! The bytes of a WebAssembly module and its records, over all sections: the rules on the whole, beside reading and writing, and
-//! the payloads of names and producers.
+//! The bytes of a WebAssembly module and its records, over all sections: the rules on the whole (Validation > Modules), and writing a module.
+//! It hands on reading, the writer, and the payloads of names and producers, so that callers name one crate.
+//!
+//! Read first: `src/rules.rt` (checking) and `specs/Rules.antt` (the rules on a whole module).
+//! Main clause: `check` of `src/rules.rt` promises `Rules`: it passes only where they hold, and answers `Malformed` only where they don't.
+//! Otherwise memory ran out.
 #![tactic(auto)]
 
 mod places;

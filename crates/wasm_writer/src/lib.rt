@@ -1,4 +1,8 @@
-//! Measuring and writing the bytes of a WebAssembly module, over all sections.
+//! Measuring and writing the bytes of a WebAssembly module, over all sections (Binary Format > Modules).
+//!
+//! Read first: `src/writer.rt` (a call for each section) and `specs/Spelling.antt` (the one spelling of each section).
+//! Main clause: `written_frames` of `src/writer.rt`, a law, promises `WrittenFrames`: what is spelled reads back.
+//! The header, and behind it sections that can be written, are framed as the module that holds them.
 #![tactic(auto)]
 
 mod composite;

@@ -1,5 +1,5 @@
 //! Holds the library against the program `walrus-gc`: the same bytes, and the same refusals. The
-//! program is the one that MULKAVESH_PROGRAM names, or else the one that `tests/build.sh walrus_gc`
+//! program is the one that MULKAVESH_PROGRAM names, or else the one that `tools/build.sh walrus_gc`
 //! leaves in the repository; where there is none, nothing is compared.
 
 mod support;

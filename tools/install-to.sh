@@ -1,5 +1,5 @@
 #!/usr/bin/env bash
-# Installs a release under a folder: tests/install-to.sh DIR [TARBALL], where no TARBALL is given the one that tests/release.sh left in ./release. In a release
+# Installs a release under a folder: tools/install-to.sh DIR [TARBALL], where no TARBALL is given the one that tools/release.sh left in ./release. In a release
 # this script stands beside README: ./install-to.sh DIR installs that release. It needs no root where DIR can be written.
 #   DIR/bin, DIR/lib, DIR/include, DIR/share   the programs, the libraries and lib/pkgconfig/mulkavesh.pc, the header, the manual page and the completions
 #   DIR/share/mulkavesh                        all else: rust, python, web, README, GATE, LICENSE; and INSTALLED, the SHA-256 of each file that was put under DIR
@@ -21,7 +21,7 @@ if [ -z "$tarball" ] && [ -f "$here/SHA256SUMS" ]; then
 else
   if [ -z "$tarball" ]; then
     found=("$here"/../release/mulkavesh-*-x86_64-linux.tar.gz)
-    [ -f "${found[0]}" ] || fail "there is no release in $(dirname "$here")/release (tests/release.sh makes one), and no TARBALL is given"
+    [ -f "${found[0]}" ] || fail "there is no release in $(dirname "$here")/release (tools/release.sh makes one), and no TARBALL is given"
     [ ${#found[@]} = 1 ] || fail "there are ${#found[@]} releases in $(dirname "$here")/release, and no TARBALL is given"
     tarball=${found[0]}
   fi

@@ -1,8 +1,8 @@
 #!/usr/bin/env python3
 """The words of README.md that say by which toolchain the crates were proved:
 
-    tests/version.py          says whether it is that of `rt version`; else both lines, and status 1
-    tests/version.py --write  puts that of `rt version` there: by hand, when a gate has passed with it
+    tools/version.py          says whether it is that of `rt version`; else both lines, and status 1
+    tools/version.py --write  puts that of `rt version` there: by hand, when a gate has passed with it
 """
 import pathlib
 import re
@@ -18,7 +18,7 @@ def main():
     version = subprocess.run(["rt", "version"], capture_output=True, text=True, check=True).stdout.strip()
     said = LINE.search(text)
     if not said:
-        print("tests/version.py: README.md has no words `Proved with: ..`", file=sys.stderr)
+        print("tools/version.py: README.md has no words `Proved with: ..`", file=sys.stderr)
         return 2
     if sys.argv[1:] == ["--write"]:
         README.write_text(text[:said.start(1)] + version + text[said.end(1):], encoding="utf-8")

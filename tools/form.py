@@ -1,15 +1,14 @@
 #!/usr/bin/env python3
 """Checks the form of the repository, with no prover, in a few seconds. `.ci/run` begins with it.
 
-    tests/form.py           prints what is wrong, a line each, and ends with status 1 where there is any
+    tools/form.py           prints what is wrong, a line each, and ends with status 1 where there is any
 
 Refused are: a file of src that doesn't begin with `//!`, or has more than 800 lines; a line of a clause of more than 110 columns;
 a body of a function of more than 40 lines; a bare hexadecimal number in src or specs outside the files that name such numbers; a
-README.md of more than 112 lines, or with one of more than 100 columns; a crate that crates.txt lists for another one whose files don't
-name it; more ways down the crates than rt can sum up in a few minutes; more lines of lemmas above the
+README.md of more than 112 lines, or with one of more than 100 columns; documents of too many words or long sentences, and a link or a path
+in one that isn't there (prose.py); a crate that crates.txt lists for another one whose files don't name it; more ways down the crates than rt can sum up in a few minutes; more lines of lemmas above the
 crate that has their words; more wrong edits in the gate than its time allows; a wrong edit, of the gate or of tests/edits, whose old
-text doesn't stand exactly once in its file; a page docs/CALLS.md that isn't what tests/calls.py makes of the sources; a file of
-definitions that docs/DEFINITIONS.md doesn't name; a name that docs/DIFFERENCES.md calls absent and that is there; and a file that isn't in
+text doesn't stand exactly once in its file; a page docs/CALLS.md that isn't what tools/calls.py makes of the sources; a name that docs/DIFFERENCES.md calls absent and that is there; and a file that isn't in
 the layout of `rt fmt`.
 """
 import collections
@@ -20,6 +19,9 @@ import re
 import shutil
 import subprocess
 import sys
+
+sys.dont_write_bytecode = True
+from prose import wrong_in_documents
 
 TOP = pathlib.Path(__file__).resolve().parent.parent
 CRATES = TOP / "crates"
@@ -261,20 +263,10 @@ def wrong_in_edits():
 
 
 def wrong_in_pages():
-    """Pages that the sources have left behind. DEFINITIONS names a file by its path, or by its name behind such a one."""
-    told = subprocess.run([TOP / "tests" / "calls.py"], capture_output=True, check=False).stdout
+    """Pages that the sources have left behind."""
+    told = subprocess.run([TOP / "tools" / "calls.py"], capture_output=True, check=False).stdout
     if told != (TOP / "docs" / "CALLS.md").read_bytes():
-        yield "docs/CALLS.md isn't what tests/calls.py prints: tests/calls.py --write writes it anew"
-    named, heading = set(), None
-    for line in lines_of(TOP / "docs" / "DEFINITIONS.md"):
-        crate = heading
-        for folder, file in re.findall(r"`(?:(\w+)/specs)?/?(?:specs/)?(?:(\w+)\.antt)?`", line):
-            crate = folder or crate
-            named.add((crate, file))
-        heading = crate if line.startswith("#") else heading
-    for path in sorted(CRATES.glob("*/specs/*.antt")):
-        if path.name != "Lib.antt" and (path.parts[-3], path.stem) not in named:
-            yield f"docs/DEFINITIONS.md doesn't name {name_of(path)}"
+        yield "docs/CALLS.md isn't what tools/calls.py prints: tools/calls.py --write writes it anew"
 
 
 def absent_names():
@@ -330,11 +322,11 @@ def wrong_in_layout():
 def main():
     checks = (
         wrong_in_sources, wrong_in_clauses, wrong_in_bodies, wrong_in_numbers, wrong_in_readme, wrong_in_crates, wrong_in_ways, wrong_in_lemmas, wrong_in_gate,
-        wrong_in_edits, wrong_in_pages, wrong_in_differences, wrong_in_layout)
+        wrong_in_edits, wrong_in_pages, wrong_in_documents, wrong_in_differences, wrong_in_layout)
     wrong = [line for check in checks for line in check()]
     for line in wrong:
         print(line)
-    print(f"tests/form.py: {len(wrong)} things are wrong" if wrong else "tests/form.py: the form is right")
+    print(f"tools/form.py: {len(wrong)} things are wrong" if wrong else "tools/form.py: the form is right")
     sys.exit(1 if wrong else 0)
 
 

@@ -1,5 +1,5 @@
 #!/usr/bin/env python3
-"""Tries wrong edits several at a time: tests/edits.py ROOM CRATE, for edits.sh.
+"""Tries wrong edits several at a time: tools/edits.py ROOM CRATE, for edits.sh.
 
 ROOM is a copy of the repository in which the crates below CRATE are built, and crates/CRATE/must-fail has the edits. Those that change different
 functions stand in one copy of the crate, of which these functions alone are checked, with what they call. An edit is refused where the prover

@@ -1,10 +1,10 @@
 #!/usr/bin/env python3
-"""What tests/day.sh does, for a change in hand:
+"""What tools/day.sh does, for a change in hand:
 
-    tests/day.sh [--dry] [FILE|CRATE..]
+    tools/day.sh [--dry] [FILE|CRATE..]
 
 It checks the form of the repository, prints which crates the change proves again and for how long (from nothing, by
-tests/build-times.txt; what is kept makes it less), and checks them: the changed ones by `rt check`, lowest first, then what stands on
+tools/build-times.txt; what is kept makes it less), and checks them: the changed ones by `rt check`, lowest first, then what stands on
 them by `rt all check`, in each crate on which no other of them stands. It ends at the first that fails. With --dry it doesn't check
 them. The change is FILE|CRATE.., or else what git calls changed against HEAD, with the files that it doesn't know. No part of the gate.
 """
@@ -15,7 +15,7 @@ import tempfile
 
 from build import CRATES, NAMED, TOP, Progress, all_below, prove, table
 
-SECONDS = table(TOP / "tests" / "build-times.txt")
+SECONDS = table(TOP / "tools" / "build-times.txt")
 PROVED = ("src", "specs", "proofs")
 
 
@@ -52,7 +52,7 @@ def changed_crates(names):
         paths = [pathlib.Path(name).resolve() for name in names if name not in NAMED]
         for path in paths:
             if not path.exists() and not crates_of(path):
-                sys.exit(f"day: {path} is no crate of crates.txt, and no file\nusage: tests/day.sh [--dry] [FILE|CRATE..]")
+                sys.exit(f"day: {path} is no crate of crates.txt, and no file\nusage: tools/day.sh [--dry] [FILE|CRATE..]")
     return {name for name in names if name in NAMED}.union(*map(crates_of, paths))
 
 
@@ -95,7 +95,7 @@ def main():
     names = [word for word in sys.argv[1:] if word != "--dry"]
     changed = changed_crates(names)
     again = [crate for crate in NAMED if crate in changed or all_below(crate) & changed]
-    if subprocess.run([TOP / "tests" / "form.py"], check=False).returncode:
+    if subprocess.run([TOP / "tools" / "form.py"], check=False).returncode:
         sys.exit(1)
     tell(changed, again)
     if "--dry" in sys.argv[1:]:

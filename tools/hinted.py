@@ -1,5 +1,5 @@
 #!/usr/bin/env python3
-"""What `tests/unproved.sh --hinted` does to a module in LLVM's text, from standard input to standard output.
+"""What `tools/unproved.sh --hinted` does to a module in LLVM's text, from standard input to standard output.
 
 Each function gets the hint on inlining that stands at it in its source, as in the proved program, and the checks go: AddressSanitizer's, and
 the traps where a value isn't allowed. The words are the root files of all crates.

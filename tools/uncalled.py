@@ -1,8 +1,8 @@
 #!/usr/bin/env python3
 """Prints the public functions that no test and no program calls, so that nothing has shown that a call of them can succeed.
 
-    tests/uncalled.py           those that they don't even call through other functions
-    tests/uncalled.py --direct  those that their own sources don't name; what is called through others is among them
+    tools/uncalled.py           those that they don't even call through other functions
+    tools/uncalled.py --direct  those that their own sources don't name; what is called through others is among them
 
 Tests are the crates `*_tests` and those that have some of their own, programs those with a `main`. Functions are told apart by their names alone, so that one whose name
 another has too can be missing here. Laws, which do nothing, are left out. No part of the gate.
@@ -72,7 +72,7 @@ def main():
         if is_public and name not in called and not is_law(text) and (is_method or name in named or path.stem in modules):
             print(f"{crate.name}: {path.relative_to(crate)}: {name}")
             count += 1
-    print(f"tests/uncalled.py: {count} public functions aren't called")
+    print(f"tools/uncalled.py: {count} public functions aren't called")
 
 
 main()

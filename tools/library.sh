@@ -1,10 +1,10 @@
 #!/usr/bin/env bash
-# Makes the two libraries that programs in C link of the archive of mulkavesh_c: tests/library.sh ARCHIVE FOLDER. What it leaves in FOLDER:
+# Makes the two libraries that programs in C link of the archive of mulkavesh_c: tools/library.sh ARCHIVE FOLDER. What it leaves in FOLDER:
 #   libmulkavesh.a    the archive, and with it the kit's heap, by which it asks the C library for memory
 #   libmulkavesh.so   the same as a shared library, which shows the names mulkavesh_* and no others
-# tests/build.sh and tests/unproved.sh call it behind the archive that they made. It needs nothing but the kit.
+# tools/build.sh and tools/unproved.sh call it behind the archive that they made. It needs nothing but the kit.
 set -eu
-[ $# = 2 ] || { echo "usage: tests/library.sh ARCHIVE FOLDER" >&2; exit 2; }
+[ $# = 2 ] || { echo "usage: tools/library.sh ARCHIVE FOLDER" >&2; exit 2; }
 archive=$(realpath -- "$1")
 kit=$(dirname "$(dirname "$(readlink -f "$(command -v rt)")")")
 mkdir -p -- "$2" && folder=$(realpath -- "$2")

@@ -1,5 +1,5 @@
 #!/usr/bin/env bash
-# Makes a release of what is proved: tests/release.sh [--gate FILE] [OUT], as mulkavesh-VERSION-x86_64-linux.tar.gz in the folder OUT, ./release where none is
+# Makes a release of what is proved: tools/release.sh [--gate FILE] [OUT], as mulkavesh-VERSION-x86_64-linux.tar.gz in the folder OUT, ./release where none is
 # given. In it are:
 #   bin            walrus-gc and mulkavesh, as `rt run` links them, and each once more linked statically, under its name with .static
 #   lib, include   libmulkavesh.a and libmulkavesh.so, mulkavesh.pc for pkg-config, mulkavesh.h
@@ -8,12 +8,12 @@
 #   web            what web/build.sh makes
 #   LICENSE, README (which commit, which toolchain, what is proved), GATE (the gate's last lines), install-to.sh, and SHA256SUMS of each other file
 #
-# What isn't proved and built yet is so first (tests/build.sh), which from nothing takes long, and web/build.sh some minutes. Of the gate FILE holds what
+# What isn't proved and built yet is so first (tools/build.sh), which from nothing takes long, and web/build.sh some minutes. Of the gate FILE holds what
 # `.ci/run` or `rt ci` wrote on standard output at this commit; without --gate the release says that it was made without it. The tree has to be as it is
-# committed, and all that says a version has to say that of CHANGELOG.md. At the end released.sh tries the tarball.
+# committed, and all that says a version has to say that of CHANGELOG.md. At the end try_release.sh tries the tarball.
 #
-# tests/release.sh --unproved FOLDER [OUT] tries this script: it takes builds in which nothing is proved from FOLDER, makes there those that are missing
-# (tests/unproved.sh, web/build.sh --unproved: a quarter of an hour), and the tarball says so in its name, in its README and in GATE.
+# tools/release.sh --unproved FOLDER [OUT] tries this script: it takes builds in which nothing is proved from FOLDER, makes there those that are missing
+# (tools/unproved.sh, web/build.sh --unproved: a quarter of an hour), and the tarball says so in its name, in its README and in GATE.
 #
 # The static programs are linked by cc, over Debian's libc.a, of the object files of which `rt run` linked the others, CRATE.o beside them. So that no unproved
 # build is taken, a program has to be what rt's stamp names, for the sources as they are; programs and libraries have to be the same bytes when they are linked
@@ -26,7 +26,7 @@ set -eu
 umask 022
 top=$(cd "$(dirname "$0")/.." && pwd)
 fail() { echo "release: $1" >&2; exit 1; }
-usage() { echo "usage: tests/release.sh [--gate FILE | --unproved FOLDER] [OUT]" >&2; exit 2; }
+usage() { echo "usage: tools/release.sh [--gate FILE | --unproved FOLDER] [OUT]" >&2; exit 2; }
 gate='' builds='' out=''
 while [ $# -gt 0 ]; do
   case $1 in
@@ -88,9 +88,9 @@ make_web() {
 make_unproved() {
   mkdir -p -- "$builds"
   for crate in "${crates[@]}"; do
-    [ -f "$builds/$crate" ] && [ -f "$builds/$crate.o" ] || tests/unproved.sh --object "$builds/$crate" "$crate"
+    [ -f "$builds/$crate" ] && [ -f "$builds/$crate.o" ] || tools/unproved.sh --object "$builds/$crate" "$crate"
   done
-  [ -f "$builds/lib/libmulkavesh.so" ] || tests/unproved.sh "$builds/lib" mulkavesh_c
+  [ -f "$builds/lib/libmulkavesh.so" ] || tools/unproved.sh "$builds/lib" mulkavesh_c
   [ -f "$builds/web/mulkavesh.wasm" ] || make_web --unproved
 }
 
@@ -98,11 +98,11 @@ make_unproved() {
 web_is_made() {
   local made
   made=$(built web)/mulkavesh.wasm
-  [ -f "$made" ] && [ -z "$(find "$(built lib)/libmulkavesh.a" web tests/exports.py -path web/dist -prune -o -type f -newer "$made" -print)" ]
+  [ -f "$made" ] && [ -z "$(find "$(built lib)/libmulkavesh.a" web tools/exports.py -path web/dist -prune -o -type f -newer "$made" -print)" ]
 }
 
 make_proved() {
-  for crate in "${crates[@]}" mulkavesh_c; do tests/build.sh "$crate"; done
+  for crate in "${crates[@]}" mulkavesh_c; do tools/build.sh "$crate"; done
   web_is_made || make_web
 }
 
@@ -121,7 +121,7 @@ rtlib.Crate.stamp = functools.cache(rtlib.Crate.stamp)
 for name in names:
     program = f"{top}/crates/{name}/out/{name}"
     if rtlib.text_of(f"{program}.stamp") != rtlib.Crate(f"{top}/crates/{name}", top, {}).stamp() + rtlib.sum_of(program):
-        sys.exit(f"release: {program} isn't what its stamp names; once it is removed, tests/build.sh {name} builds it")
+        sys.exit(f"release: {program} isn't what its stamp names; once it is removed, tools/build.sh {name} builds it")
 PY
 }
 
@@ -192,9 +192,9 @@ tell_gate() {
     echo "Nothing in this release is proved, and no gate ran over it."
   elif [ -z "$gate" ]; then
     echo "This release was made without the gate's output. At the commit that README names, .ci/run > FILE runs the gate, and"
-    echo "tests/release.sh --gate FILE makes the release with its last lines."
+    echo "tools/release.sh --gate FILE makes the release with its last lines."
   else
-    echo "The last lines of the gate, as they were given to tests/release.sh: that it ran at the commit of README is the word of who made the release."
+    echo "The last lines of the gate, as they were given to tools/release.sh: that it ran at the commit of README is the word of who made the release."
     echo
     sed -n "$((verdict > 9 ? verdict - 9 : 1)),\$p" "$gate"
   fi
@@ -217,7 +217,7 @@ lay_out() {
   mkdir -p "$1"/{bin,lib/pkgconfig,include,share/man/man1,share/bash-completion/completions,web}
   link walrus_gc "$1/bin" walrus-gc
   link mulkavesh "$1/bin" mulkavesh
-  tests/library.sh "$(built lib/libmulkavesh.a)" "$1/lib"
+  tools/library.sh "$(built lib/libmulkavesh.a)" "$1/lib"
   for it in libmulkavesh.a libmulkavesh.so; do cmp -s "$1/lib/$it" "$(built lib)/$it" || fail "$(built lib)/$it isn't what is linked of the archive"; done
   tell_pkg_config > "$1/lib/pkgconfig/mulkavesh.pc"
   cp include/mulkavesh.h "$1/include"
@@ -225,7 +225,7 @@ lay_out() {
   for it in completions/*.bash; do cp "$it" "$1/share/bash-completion/completions/$(basename "$it" .bash)"; done
   put_tracked "$1" rust python ':!python/tests' ':!*/.gitignore' LICENSE
   cp -r "$(built web)/." "$1/web"
-  cp tests/install-to.sh "$1"
+  cp tools/install-to.sh "$1"
   tell_gate > "$1/GATE"
   tell_readme "$1" > "$1/README"
   (cd "$1" && find . -type f ! -path ./SHA256SUMS -printf '%P\0' | LC_ALL=C sort -z | xargs -0 sha256sum > "$work/sums" && mv "$work/sums" SHA256SUMS)
@@ -237,7 +237,7 @@ pack() {
 }
 
 for crate in "${crates[@]}" mulkavesh_c; do [ -d "crates/$crate" ] || fail "there is no crate $crate"; done
-for it in git cc readelf node python3; do command -v "$it" > /dev/null || fail "there is no $it; tests/install.sh puts in what these scripts take"; done
+for it in git cc readelf node python3; do command -v "$it" > /dev/null || fail "there is no $it; tools/install.sh puts in what these scripts take"; done
 version=$(said CHANGELOG.md '^## VERSION' || true)
 [ -n "$version" ] || fail "CHANGELOG.md has no version"
 agree || fail "the versions differ"
@@ -264,6 +264,6 @@ for turn in once twice; do
 done
 cmp "$work/once.tar.gz" "$work/twice.tar.gz" || fail "laid out twice, it isn't the same bytes"
 mkdir -p -- "$out"
-tests/released.sh "$work/once.tar.gz" || fail "what was made doesn't do what it has to; nothing is left in $out"
+tools/try_release.sh "$work/once.tar.gz" || fail "what was made doesn't do what it has to; nothing is left in $out"
 install -m 644 "$work/once.tar.gz" "$out/$tarball.new" && mv -f -- "$out/$tarball.new" "$out/$tarball"
 echo "release: $out/$tarball, $(stat -c %s "$out/$tarball") bytes, SHA-256 $(sha256sum "$out/$tarball" | cut -c 1-64)"

@@ -1,6 +1,6 @@
 #!/usr/bin/env bash
 # Runs a command as it is, with its standard input, output and status, and says on standard error that it is still at work, every so
-# many seconds until it ends: tests/still.sh SECONDS WORDS COMMAND..
+# many seconds until it ends: tools/heartbeat.sh SECONDS WORDS COMMAND..
 set -eu
 seconds=$1 words=$2
 shift 2

@@ -1,8 +1,8 @@
 #!/usr/bin/env python3
-"""What tests/build.sh does. `rt` knows by their content what has changed; this adds the lanes and the progress.
+"""What tools/build.sh does. `rt` knows by their content what has changed; this adds the lanes and the progress.
 
 Crates are proved side by side by `rt all check`, as many as there are processors and 2 GB of memory each for (where that is for one or
-two, `rt` chooses itself), and the crate itself is built by `rt run` or `rt lib` behind them. tests/build-times.txt, the seconds that each
+two, `rt` chooses itself), and the crate itself is built by `rt run` or `rt lib` behind them. tools/build-times.txt, the seconds that each
 crate takes, serves to guess the time left. What was proved when a run is interrupted is kept, and the next one goes on from there.
 """
 import contextlib
@@ -62,7 +62,7 @@ class Progress:
         self.below, self.left, self.begin, self.begun = below, set(below), time.monotonic(), {}
         kilobytes = int(table(pathlib.Path("/proc/meminfo"))["MemAvailable"][0])
         self.lanes = max(1, min(len(os.sched_getaffinity(0)), kilobytes // (2 << 20)))
-        self.seconds = table(TOP / "tests" / "build-times.txt")
+        self.seconds = table(TOP / "tools" / "build-times.txt")
         threading.Thread(target=self.tell, daemon=True).start()
 
     def at_work(self):
@@ -137,7 +137,7 @@ def link(crate, log):
     """Makes the libraries that programs link of the archive of a static library, if it is there."""
     out = CRATES / crate / "out"
     if (out / f"lib{crate}.a").exists():
-        subprocess.run([TOP / "tests" / "library.sh", out / f"lib{crate}.a", out / "lib"], stdout=log, stderr=log, check=False)
+        subprocess.run([TOP / "tools" / "library.sh", out / f"lib{crate}.a", out / "lib"], stdout=log, stderr=log, check=False)
 
 
 def made_of(crate):
@@ -169,7 +169,7 @@ def make(crate, kind, crates, log):
 
 def main():
     if len(sys.argv) != 2 or sys.argv[1] not in NAMED:
-        sys.exit("usage: tests/build.sh CRATE, a crate of crates.txt")
+        sys.exit("usage: tools/build.sh CRATE, a crate of crates.txt")
     crate = sys.argv[1]
     crates = {crate, *all_below(crate)}
     kind, made, stamp = made_of(crate)

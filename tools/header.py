@@ -150,7 +150,7 @@ def main():
     lines = [*wrong()]
     for line in lines:
         print(line)
-    print(f"tests/header.py: {len(lines)} things differ" if lines else "tests/header.py: the header and what calls it are as the sources say")
+    print(f"tools/header.py: {len(lines)} things differ" if lines else "tools/header.py: the header and what calls it are as the sources say")
     sys.exit(1 if lines else 0)
 
 

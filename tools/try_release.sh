@@ -1,5 +1,5 @@
 #!/usr/bin/env bash
-# Tries a release as its user would: tests/released.sh TARBALL. tests/release.sh calls it at its end. It installs the release twice under a temporary folder:
+# Tries a release as its user would: tools/try_release.sh TARBALL. tools/release.sh calls it at its end. It installs the release twice under a temporary folder:
 #   programs   both, and both static ones, make the same bytes of tests/samples/c22-shared.wasm; the static ones also in a folder as root that has nothing else
 #   C          the example of docs/USING.md, compiled by what pkg-config says (where it is there) and with the static library
 #   Rust, Python, JavaScript   a call of each package (where there is cargo, node), which makes the same bytes
@@ -8,7 +8,7 @@
 # leave other files as they are. Prints a line for what isn't tried and for each find, and the count. Half a minute of one processor.
 set -eu
 top=$(cd "$(dirname "$0")/.." && pwd)
-[ $# = 1 ] && [ -f "$1" ] || { echo "usage: tests/released.sh TARBALL" >&2; exit 2; }
+[ $# = 1 ] && [ -f "$1" ] || { echo "usage: tools/try_release.sh TARBALL" >&2; exit 2; }
 tarball=$(realpath -- "$1")
 sample=$top/tests/samples/c22-shared.wasm
 work=$(mktemp -d)
@@ -24,7 +24,7 @@ try() {
   echo "FIND $1: $(tail -n 3 "$work/told")"
 }
 
-untried() { echo "tests/released.sh: not tried: $1"; }
+untried() { echo "tools/try_release.sh: not tried: $1"; }
 
 # Whether a command that reads the sample writes what is wanted.
 makes() {
@@ -46,7 +46,7 @@ example() { awk -v begin="\`\`\`$1" '$0 == "```" && on { exit } on { print } $0 
 
 try_installing() {
   mkdir -p "$dir/bin" && echo mine > "$dir/bin/other"
-  try "install-to.sh" "$top/tests/install-to.sh" "$dir" "$tarball"
+  try "install-to.sh" "$top/tools/install-to.sh" "$dir" "$tarball"
   [ "$finds" = 0 ] || { cat "$work/told"; exit 1; }
   (cd "$dir" && find . -printf '%P %m %l\n' | sort) > "$work/first"
   mkdir "$work/unpacked" && tar --extract --file="$tarball" --directory="$work/unpacked"
@@ -145,5 +145,5 @@ cargo --version > /dev/null 2>&1 && try_rust || untried "Rust, since there is no
 try_python
 command -v node > /dev/null && try_javascript || untried "JavaScript, since there is no node"
 try_shell
-echo "tests/released.sh: $tried things tried, $finds finds"
+echo "tools/try_release.sh: $tried things tried, $finds finds"
 [ "$finds" = 0 ]

@@ -2,7 +2,7 @@
 # Puts in what the scripts of this folder compare with, as Debian's packages: wabt (wat2wasm, wasm-objdump, wasm-validate), binaryen (wasm-opt) and
 # nodejs (node); and what c.sh, rust.sh, python.sh and web.sh compile and run: g++ (cc, c++, nm), cargo, python3 and a Chromium, of which any will do. What is
 # there stays. Where a package can't be put in, it says which commands are missing, and ends with status 1: what is compared with them isn't compared then.
-# `.ci/run` calls it, with a limit on its time. tests/install.sh [--look]: with --look nothing is put in.
+# `.ci/run` calls it, with a limit on its time. tools/install.sh [--look]: with --look nothing is put in.
 set -u
 here=$(dirname "$0")
 declare -A package=([wat2wasm]=wabt [wasm-objdump]=wabt [wasm-validate]=wabt [wasm-opt]=binaryen [node]=nodejs
@@ -10,7 +10,7 @@ declare -A package=([wat2wasm]=wabt [wasm-objdump]=wabt [wasm-validate]=wabt [wa
 
 # Whether a command is there, or what stands for it.
 there() {
-  if [ "$1" = chromium ]; then "$here/web/chromium.sh"; else command -v "$1"; fi > /dev/null
+  if [ "$1" = chromium ]; then "$here/../tests/web/chromium.sh"; else command -v "$1"; fi > /dev/null
 }
 
 # The commands that aren't there, in the order of their names.
@@ -41,4 +41,4 @@ if [ "${#lacking[@]}" -gt 0 ] && [ "${1-}" != --look ]; then
   put_in "${wanted[@]}" || for one in "${wanted[@]}"; do put_in "$one" || true; done
   mapfile -t lacking < <(missing)
 fi
-[ "${#lacking[@]}" = 0 ] || { echo "tests/install.sh: there is no ${lacking[*]}" >&2; exit 1; }
+[ "${#lacking[@]}" = 0 ] || { echo "tools/install.sh: there is no ${lacking[*]}" >&2; exit 1; }

@@ -1,8 +1,8 @@
 #!/usr/bin/env python3
-"""Makes docs/CALLS.md, the public calls of the crate `walrus` in a line each; `tests/form.py` compares the two.
+"""Makes docs/CALLS.md, the public calls of the crate `walrus` in a line each; `tools/form.py` compares the two.
 
-    tests/calls.py          prints the page
-    tests/calls.py --write  writes it
+    tools/calls.py          prints the page
+    tools/calls.py --write  writes it
 
 A call is a public function of what `crates/walrus/src/lib.rt` hands on, of its public modules and of the types there, followed down the
 `pub use` lines to where it stands; and of types that have no name there but come from such a call. The sources are taken apart with
@@ -20,7 +20,7 @@ CRATES = TOP / "crates"
 PAGE = TOP / "docs" / "CALLS.md"
 HEAD = """# The calls of `walrus`
 
-Made by `tests/calls.py --write` from the sources: each public call with its signature, the first sentence of what its source says of it, in words
+Made by `tools/calls.py --write` from the sources: each public call with its signature, the first sentence of what its source says of it, in words
 what it asks of its caller, and the names of the clauses that it ensures, where they have names. docs/PROMISES.md has what the main ones say,
 docs/DEFINITIONS.md the words in them. A type stands once, where it is first handed on, or behind what names it where it has no name there
 (unnamed). Public fields stand in front of a type's calls (`.name`), cases of an enum behind `|`. Names of traits stand for the calls that they bring.
@@ -176,7 +176,7 @@ def in_words(clause):
         found = re.search(pattern, clause)
         if found:
             return found.expand(words)
-    raise SystemExit(f"tests/calls.py: ASKED has no words for the clause {clause}")
+    raise SystemExit(f"tools/calls.py: ASKED has no words for the clause {clause}")
 
 
 class Call:
@@ -335,7 +335,7 @@ class Page:
             self.add_part(f"### {heading}", [it[:2] for it in own if (it[2] if it[2] in files else it[1][0]) in crates])
         left = [name for name, place in items if place and place[2] != "mod" and place not in self.seen]
         if left:
-            raise SystemExit(f"tests/calls.py: GROUPS has no place for {', '.join(left)}")
+            raise SystemExit(f"tools/calls.py: GROUPS has no place for {', '.join(left)}")
 
     def add_below(self, items, said):
         """`walrus::below`, and the types that were reached and have no name in `walrus`."""
