@@ -15,6 +15,7 @@ pub mod EditedExports
 pub mod EditedFunctions
 pub mod EditedItems
 pub mod EditedReplaced
+pub mod HeldSegments
 pub mod Emission
 pub mod FewLocals
 pub mod NamesApart
