@@ -10,18 +10,19 @@ use Rattle.walrus_theorem.specs.WellMade.{IsWellMade}
 use Rattle.walrus_theorem.specs.Whole.{ComesWhole}
 use Rattle.walrus_module.specs.Emitted.{told}
 use Rattle.walrus_module.specs.Answered.{IsWellWritten, WritesUnless}
+use Rattle.walrus_module.specs.Emission.{EmitsBytes}
 use Rattle.walrus_module.specs.Flags.{Flags, config_of}
 use Rattle.walrus_module.specs.Following.{OneMayRefuseThen}
 use Rattle.walrus_module.specs.View.{view}
 use Rattle.walrus_module.specs.declared.entry.SectionEntry.{SectionEntry}
 use Rattle.walrus_module.specs.declared.module.Module.{Module}
-use Rattle.walrus.specs.Whole.{Parses, EmitsBytes, ParsedIsWritten}
+use Rattle.walrus.specs.Whole.{Parses, ParsedIsWritten}
 use Rattle.walrus_theorem.proofs.StepLive.{plain_comes_out}
 use Rattle.walrus_theorem.proofs.WritableParsed.{parsed_is_well}
 use Rattle.walrus_module.proofs.RawStays.{all_raw, leaves_whole}
 
 module _ {V : Type 0} {O : V → Type 0} (G : (v : V) → Ghosts (O v)) where
-  come_whole : (f : Flags) (bytes : List ℕ) (old new : Module (SectionEntry V O)) (output : Vec ℕ) → Parses G f bytes old → EmitsBytes G old new output → ComesWhole (config_of f) bytes output.items
+  come_whole : (f : Flags) (bytes : List ℕ) (old new : Module (SectionEntry V O)) (output : Vec ℕ) → Parses G f bytes old → EmitsBytes G old new (Ok output) → ComesWhole (config_of f) bytes output.items
   come_whole f bytes old new output parses emits =
       let c : Config = config_of f in
       let parsed = parses.found in

@@ -17,6 +17,7 @@ pub mod EditedItems
 pub mod EditedReplaced
 pub mod HeldSegments
 pub mod Emission
+mod EmissionForms
 pub mod FewLocals
 pub mod NamesApart
 pub mod RulesTested

@@ -55,6 +55,7 @@ pub use entry::SectionEntry;
 pub use hook::OnInstrLoc;
 pub use law::bodies_are_counted;
 pub use law::checked_is_well_made;
+pub use law::emitted_twice;
 pub use law::followed_sections_write_by_state;
 pub use law::second_emission_is_the_same;
 pub use module::Module;
