@@ -1,8 +1,9 @@
 -- What was parsed, and is emitted as it is, comes whole.
-use Rattle.std.proofs.Common.{ℕ, List, subst}
-use Rattle.std.specs.Prelude.{Ok}
+use Rattle.std.proofs.Common.{ℕ, List, Result, Ok, Err, subst}
+use Rattle.std.specs.Prelude.{IfOk}
 use Rattle.std.specs.Global.{Vec}
 use Rattle.walrus_items.specs.declared.custom.CustomSection.{Ghosts}
+use Rattle.walrus_items.specs.declared.error.Error.{Error}
 use Rattle.walrus_model.specs.Config.{Config}
 use Rattle.walrus_theorem.specs.Chain.{Leaves}
 use Rattle.walrus_theorem.specs.Refused.{PassesLimits}
@@ -49,3 +50,9 @@ module _ {V : Type 0} {O : V → Type 0} (G : (v : V) → Ghosts (O v)) where
 
   pub parsed_is_written : ParsedIsWritten G
   parsed_is_written f bytes old new output parses emits = come_whole f bytes old new output parses emits
+
+  -- so is what emission answers, whatever that is
+  pub whole_answer : (f : Flags) (bytes : List ℕ) (old new : Module (SectionEntry V O)) (result : Result (Vec ℕ) Error) → Parses G f bytes old → EmitsBytes G old new result
+      → IfOk result (λ (output : Vec ℕ). ComesWhole (config_of f) bytes output.items)
+  whole_answer f bytes old new (Ok output) parses emits = come_whole f bytes old new output parses emits
+  whole_answer f bytes old new (Err e) parses emits = tt

@@ -1,4 +1,4 @@
-//! The laws of a module in memory, as contracts. Nothing runs here.
+//! The laws of a module in memory, as contracts of functions in which nothing runs; and a function that makes the calls of which one of them speaks.
 ghost use Rattle.std.specs.Prelude.{◌≡◌, IfOk, false};
 ghost use Rattle.walrus_theorem.specs.OkLaws.{AreCounted};
 ghost use Rattle.walrus_theorem.specs.Once.{TypesLocals};
@@ -45,16 +45,17 @@ pub fn followed_sections_write_by_state(_module: &Module)
     ensures { FollowedWrite ⟦<dyn CustomSection as CustomSection>⟧ }
 {}
 
-/// The bytes of a first and of a second call, which are the same, where no custom section of the module's own is called `name` or `producers`
-/// and none is handed a transform.
+/// The bytes of a first and of a second call, which are the same, as [`second_emission_is_the_same`] says: so that law hangs on the contract of
+/// [`emit_wasm`](crate::Module::emit_wasm). Nothing is said under `preserve_code_transform`, nor where a custom section of the module's own is called
+/// `name` or `producers`.
 ///
 /// # Errors
 ///
 /// Those of [`emit_wasm`](crate::Module::emit_wasm).
 pub fn emitted_twice(alloc: Global, module: &mut Module) -> Result<(Vec<u8>, Vec<u8>)>
-    requires plain { (settings «module».old).preserve_code_transform ≡ false }
-    requires sayable { IsSayable (view ⟦<dyn CustomSection as CustomSection>⟧ «module».old) }
-    ensures { IfOk result (λ r. r.1.items ≡ r.0.items) }
+    ensures { (settings «module».old).preserve_code_transform ≡ false
+        → IsSayable (view ⟦<dyn CustomSection as CustomSection>⟧ «module».old)
+        → IfOk result (λ r. r.1.items ≡ r.0.items) }
 {
     let first = module.emit_wasm(alloc)?;
     let second = module.emit_wasm(alloc)?;
