@@ -13,6 +13,7 @@ top=$(dirname "$here")
 way=()
 [ "${1-}" != --unproved ] && way=(--proved) || shift
 [ $# -le 1 ] || { echo "usage: web/build.sh [--unproved] [OUT]" >&2; exit 2; }
+"$top/tools/build.sh" --needs web
 out=${1:-$here/dist}
 kit=$(dirname "$(dirname "$(readlink -f "$(command -v rt)")")")
 clang=$kit/toolchain/bin/clang
