@@ -9,8 +9,8 @@ returns-in_err-fid g c =
     let p = err_from_is_err_and c.from_residual.result c.from_residual.ensures.1 in
     rw (p.1, p.2) (not_brought _ (place c.args.import) _ _ c.args.self.now c.in_err-fid.ensures)
 
-pub make_local-requires-live : goal.make_local-requires-live
-make_local-requires-live g c =
+pub make_local-requires-clause-live : goal.make_local-requires-clause-live
+make_local-requires-clause-live g c =
     subst (λ o. IsSome o) (sym (brings_function _ c.in_ok-fid.fid c.in_ok-fid.ensures).there) refl
 
 pub returns : goal.returns
