@@ -1,5 +1,5 @@
 -- Whatever is held has its list of active segments.
-use Rattle.std.proofs.Common.{◌≡◌, ℕ, zero, suc, Bool, true, false, List, [], ◌∷◌, Option, Some, None, option_map, refl, sym, ap, subst}
+use Rattle.std.proofs.Common.{◌≡◌, ℕ, zero, suc, Bool, true, false, List, [], ◌∷◌, Option, Some, None, option_map, refl, sym, subst}
 use Rattle.std.specs.Prelude.{slice_get, ◌↔◌}
 use Rattle.walrus_base.specs.Arena.{item_at}
 use Rattle.walrus_contents.specs.View.{data_of, element_of}
