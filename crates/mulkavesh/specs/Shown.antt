@@ -1,5 +1,5 @@
--- What people see of a text of a stranger's, byte by byte of its UTF-8: a character that moves a terminal's cursor, or turns the order of what it
--- shows, is one question mark, and all else is as it is.
+-- What people see of a name or a path, by the bytes of its UTF-8: a character that moves a terminal's cursor, or turns the order of what it shows,
+-- is one question mark, and all else is as it is.
 use Rattle.std.specs.Prelude.{ℕ, zero, suc, ◌-◌, Bool, List, [], ◌∷◌, ◌&&◌, ◌||◌, nat_eq, nat_le, nat_lt, if◌then◌else◌}
 
 -- a control character of ASCII: U+0000 to 001F, or U+007F
@@ -31,5 +31,6 @@ shown_behind left_out [] = []
 shown_behind (suc left_out) (byte ∷ rest) = shown_behind left_out rest
 shown_behind zero (byte ∷ rest) = if nat_eq (hidden_length (byte ∷ rest)) 0 then byte ∷ shown_behind 0 rest else 63 ∷ shown_behind (hidden_length (byte ∷ rest) - 1) rest
 
+-- what people see of a text
 abbrev pub shown : List ℕ → List ℕ
 shown text = shown_behind 0 text

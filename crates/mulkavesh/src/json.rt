@@ -35,7 +35,7 @@ fn add_escape(to: &mut Vec<u8>, code: u32) -> Result<(), AllocError> {
 }
 
 /// Puts a string behind the text, whose bytes are UTF-8. A character that people don't see is escaped.
-pub fn add_string(to: &mut Vec<u8>, string: &[u8]) -> Result<(), AllocError> {
+pub(crate) fn add_string(to: &mut Vec<u8>, string: &[u8]) -> Result<(), AllocError> {
     to.push(b'"')?;
     let mut rest = string;
     'characters: while let [first, others @ ..] = rest {

@@ -1,4 +1,4 @@
-//! A text of a stranger's as people see it: a character that moves a terminal's cursor, or turns the order of what it shows, is a question mark.
+//! A name or a path as people see it: a character that moves a terminal's cursor, or turns the order of what it shows, is a question mark.
 
 ghost use Rattle.std.specs.Prelude.{◌≡◌, ◌<◌, ◌≤◌, ◌++◌, drop, length, take};
 ghost use Rattle.mulkavesh.specs.Shown.{hidden_length, is_control, is_late_control, is_turn, shown};
