@@ -183,7 +183,7 @@ def answer(call, *words, **more):
 
 
 def shown_name(text):
-    return "" if text is None else " " + re.sub(r"[\x00-\x1f\x7f]", "?", text)
+    return "" if text is None else " " + re.sub(r"[\x00-\x1f\x7f-\x9f\u2028-\u202e\u2066-\u2069]", "?", text)
 
 
 def try_list(work):
@@ -251,6 +251,44 @@ def try_names(work):
     same("list --json of nothing", json.loads(run("list", "--json", data=functions(1))[1]), [])
 
 
+# Names, what people see of them, and what stands for them in JSON.
+NAMES = (
+    ("a\x00b\x1f \x7e\x7f", "a?b? ~?", r"a\u0000b\u001f ~\u007f"),
+    ("\x1b[1m", "?[1m", r"\u001b[1m"),
+    ("a\x85b", "a?b", r"a\u0085b"),
+    ("\x9b1m", "?1m", r"\u009b1m"),
+    ("\x80\x9f\xa0", "??\xa0", "\\u0080\\u009f\xa0"),
+    ("\u2027\u2028\u202f", "\u2027?\u202f", "\u2027\\u2028\u202f"),
+    ("gpj.\u202eexe", "gpj.?exe", r"gpj.\u202eexe"),
+    ("\u2029\u202a\u202b\u202c\u202d", "?????", r"\u2029\u202a\u202b\u202c\u202d"),
+    ("\u2065\u2066\u2067\u2068\u2069\u206a", "\u2065????\u206a", "\u2065\\u2066\\u2067\\u2068\\u2069\u206a"),
+    ("\x9b\x07\u202e\x85", "????", r"\u009b\u0007\u202e\u0085"),
+    ("é", "é", "é"),
+    ("日本", "日本", "日本"),
+    # of their bytes some are those of a character above, at other places
+    ("\u1028\u3028\u20a8\u0428\xe2\xc2\U0001f600\U000a0029", "\u1028\u3028\u20a8\u0428\xe2\xc2\U0001f600\U000a0029", "\u1028\u3028\u20a8\u0428\xe2\xc2\U0001f600\U000a0029"),
+)
+
+
+def try_hidden_characters(work):
+    """A character that moves a terminal's cursor or turns the order is one question mark in a list and in a message, and escaped in JSON."""
+    for text, seen, escaped in NAMES:
+        data = functions(1, [("run", 0)], [(0, text)])
+        same(f"list of {text!r}", run("list", data=data), (0, f"2 0 {seen}\n".encode(), ""))
+        found = run("list", "--json", data=data)
+        same(f"list --json of {text!r}", found, (0, f'[{{"index":0,"size":2,"name":"{escaped}"}}]\n'.encode(), ""))
+        same(f"list --json of {text!r}, read", json.loads(found[1])[0]["name"], text)
+        if "\x00" not in text:
+            same(f"why {text!r}", run("why", "--", text, data=data), (0, b"function 0\n", ""))
+            folder = work / text
+            folder.mkdir()
+            line = f"mulkavesh: {work}/{seen}: it is a folder\n"
+            same(f"IN as the folder {text!r}", run("gc", folder), (1, b"", line))
+            same(f"OUT as the folder {text!r}", run("gc", "-o", folder, data=data), (1, b"", line))
+    data = functions(1, [("run", 0)], [(0, "\x9b\u202e" * 100_000)])
+    same("list of a long name", run("list", data=data)[1], b"2 0 " + b"?" * 200_000 + b"\n")
+
+
 FAULTS = TOP / "tests" / "faults.txt"
 KINDS = (None, "header", "section", "rule", "body")
 
@@ -298,6 +336,18 @@ def try_note(work):
         wanted = f"mulkavesh: {len(data):,} bytes become {len(made):,}; dropped: {', '.join(parts) or 'nothing'}\n"
         same(f"what gc says of {title}", said, wanted)
         same(f"what gc --quiet says of {title}", run("gc", "--quiet", data=data)[2], "")
+
+
+def try_silence(work):
+    """What is said on standard error where all was done: nothing, but for what gc says without --quiet, and for snip and stub, of which nothing is told here."""
+    data = functions(2, [("run", 1)], [(0, "gone"), (1, "main")], [custom("notes", b"abc")])
+    for words in ("check", "report", "list", "why 0", "why main", "strip notes", "gc --quiet", "check --json", "report --json", "list --json", "why --json run"):
+        status, _, said = run(*words.split(), data=data)
+        same(f"what {words} says", (status, said), (0, ""))
+    for title, data in samples():
+        for words in ("check", "report", "list", "why 0", "strip producers", "gc --quiet"):
+            status, _, said = run(*words.split(), data=data)
+            same(f"how many lines {words} says of {title}", len(said.splitlines()), status)
 
 
 # ---- files

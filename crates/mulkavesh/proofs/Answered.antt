@@ -9,7 +9,7 @@ use Rattle.walrus_tools.specs.Wanted.{config_wanted}
 use Rattle.mulkavesh.specs.declared.made.Made.{Made}
 use Rattle.mulkavesh.specs.declared.order.Order.{Order}
 use Rattle.mulkavesh.specs.declared.order.Work.{Work}
-use Rattle.mulkavesh.specs.Made.{Answer, AnswersOrder, AnswersWork, FindsMeant, ForPeople, IsIndex, Writes, name, operand_bytes}
+use Rattle.mulkavesh.specs.Made.{Answer, AnswersOrder, AnswersWork, FindsMeant, ForPeople, IsIndex, NotesNothing, WritesAlone, name, operand_bytes}
 
 -- what is so is so for people
 pub for_people : (is_json : Bool) (P : Type 0) → P → ForPeople is_json P
@@ -30,8 +30,9 @@ pub chain_bytes : (c : Config) (bytes : List ℕ) (function : ℕ) (text made : 
 chain_bytes c bytes function text made same chain = subst (λ (b : List ℕ). AnswersChain {X = List ℕ} c bytes function (λ (l : List ℕ). l) (Ok b)) (sym same) chain
 
 -- by the subcommand of an order
-pub by_work : (o : Order) (bytes : List ℕ) (w : Work) (r : Result Made Error) → o.work ≡ w → AnswersWork w (config_wanted o.wanted) o.is_json (operand_bytes o.operand) bytes r → AnswersOrder o bytes r
-by_work o bytes w r is answers = subst (λ (v : Work). AnswersWork v (config_wanted o.wanted) o.is_json (operand_bytes o.operand) bytes r) (sym is) answers
+pub by_work : (o : Order) (bytes : List ℕ) (w : Work) (r : Result Made Error) → o.work ≡ w → AnswersWork w (config_wanted o.wanted) o.is_quiet o.is_json (operand_bytes o.operand) bytes r → AnswersOrder o bytes r
+by_work o bytes w r is answers = subst (λ (v : Work). AnswersWork v (config_wanted o.wanted) o.is_quiet o.is_json (operand_bytes o.operand) bytes r) (sym is) answers
 
-pub written : (Answers : Answer → Type 0) (output : Vec ℕ) (m : Made) → m.output ≡ output → m.is_refused ≡ false → Answers (Ok output) → Writes Answers (Ok m)
-written Answers output m same accepted answers = (subst (λ (v : Vec ℕ). Answers (Ok v)) (sym same) answers, accepted)
+-- what a call answered is written, and nothing is noted
+pub written : (Answers : Answer → Type 0) (output : Vec ℕ) (m : Made) → m.output ≡ output → m.is_refused ≡ false → NotesNothing m → Answers (Ok output) → WritesAlone Answers (Ok m)
+written Answers output m same accepted alone answers = (subst (λ (v : Vec ℕ). Answers (Ok v)) (sym same) answers, accepted, alone)

@@ -5,4 +5,5 @@ mod Lines
 mod Ordered
 mod Pieces
 mod Refusals
+mod Showing
 mod Sound

@@ -1,8 +1,9 @@
 -- The functions that stay, as a text for people.
-use Rattle.std.specs.Prelude.{ℕ, Bool, true, false, List, [], ◌∷◌, ◌++◌, Option, Some, None, All, codes, decimal, flat_map, length, map, nat_eq, nat_lt, ◌||◌, ◌^◌, ◌<◌, if◌then◌else◌, ◌≡◌}
+use Rattle.std.specs.Prelude.{ℕ, Bool, true, false, List, [], ◌∷◌, ◌++◌, Option, Some, None, All, codes, decimal, flat_map, length, ◌^◌, ◌<◌, ◌≡◌}
 use Rattle.std.specs.Borrow.{Bor}
 use Rattle.walrus_tools.specs.Sized.{entry_bytes, no_name, number_bytes}
 use Rattle.mulkavesh.specs.declared.entries.Entry.{Entry}
+use Rattle.mulkavesh.specs.Shown.{shown}
 
 -- a function: its index, how many bytes its body has, and its name, if it has one
 pub record Listed : Type 0 where
@@ -25,15 +26,11 @@ listed_bytes f = entry_bytes f.index f.size f.name
 
 -- ---- the text
 
--- a byte that moves a terminal's cursor is shown as a question mark
-abbrev pub shown : ℕ → ℕ
-shown byte = if nat_lt byte 32 || nat_eq byte 127 then 63 else byte
-
 abbrev pub name_text : List (List ℕ) → List ℕ
 name_text [] = []
-name_text (name ∷ others) = codes " " ++ map shown name
+name_text (name ∷ others) = codes " " ++ shown name
 
--- how many bytes its body has, its index, and its name
+-- how many bytes its body has, its index, and its name, as people see it
 abbrev pub listed_line : Listed → List ℕ
 listed_line f = decimal f.size ++ codes " " ++ decimal f.index ++ name_text f.name ++ codes "\n"
 

@@ -1,5 +1,5 @@
--- What each subcommand makes of the bytes of a module. What is written for programs, under `--json`, and what gc says of what it dropped, are
--- left open.
+-- What each subcommand makes of the bytes of a module. Left open are what is written for programs, under `--json`, and what is noted by gc
+-- without `--quiet`, by snip and by stub.
 use Rattle.std.specs.Prelude.{ℕ, Bool, true, false, List, [], ◌++◌, Option, Some, None, Result, Ok, Err, String, codes, is_some, string_bytes, ◌≡◌, ◌⊎◌, ⊤}
 use Rattle.std.specs.Global.{Vec}
 use Rattle.std.specs.declared.alloc.Global.{Global}
@@ -33,10 +33,24 @@ ForPeople false P = P
 
 -- ---- what is written
 
--- the answer of a call that answers so
+-- nothing is said on standard error behind what is written
+abbrev pub NotesNothing : Made → Type 0
+NotesNothing m = m.note.items ≡ []
+
+-- the answer of a call that answers so; what is noted is left open
 abbrev pub Writes : (Answers : Answer → Type 0) → Result Made Error → Type 0
 Writes Answers (Ok m) = Answers (Ok m.output) × (m.is_refused ≡ false)
 Writes Answers (Err e) = Answers (Err e)
+
+-- the same, and nothing is noted
+abbrev pub WritesAlone : (Answers : Answer → Type 0) → Result Made Error → Type 0
+WritesAlone Answers (Ok m) = Answers (Ok m.output) × (m.is_refused ≡ false) × NotesNothing m
+WritesAlone Answers (Err e) = Answers (Err e)
+
+-- the same where the order is to be quiet; and else what is noted is left open
+abbrev pub WritesQuietly : (is_quiet : Bool) → (Answers : Answer → Type 0) → Result Made Error → Type 0
+WritesQuietly true Answers = WritesAlone Answers
+WritesQuietly false Answers = Writes Answers
 
 -- a text that tells that answer so
 abbrev pub AnswersText : (is_json : Bool) → (Tells : List ℕ → List ℕ → Type 0) → (Answers : Answer → Type 0) → Answer → Type 0
@@ -44,7 +58,7 @@ AnswersText is_json Tells Answers (Ok text) = (answer : Vec ℕ) × (Answers (Ok
 AnswersText is_json Tells Answers (Err e) = Answers (Err e)
 
 abbrev pub WritesText : (is_json : Bool) → (Tells : List ℕ → List ℕ → Type 0) → (Answers : Answer → Type 0) → Result Made Error → Type 0
-WritesText is_json Tells Answers = Writes (AnswersText is_json Tells Answers)
+WritesText is_json Tells Answers = WritesAlone (AnswersText is_json Tells Answers)
 
 -- word for word
 abbrev pub IsSame : List ℕ → List ℕ → Type 0
@@ -65,9 +79,9 @@ pub record IsVerdict (c : Config) (bytes : List ℕ) (is_json is_refused : Bool)
   pub refused : is_refused ≡ is_some found
   pub says : ForPeople is_json (text ≡ verdict_text found)
 
--- the verdict, or memory ran out
+-- the verdict, and nothing is noted; or memory ran out
 abbrev pub Checks : Config → (bytes : List ℕ) → (is_json : Bool) → Result Made Error → Type 0
-Checks c bytes is_json (Ok m) = IsVerdict c bytes is_json m.is_refused m.output.items
+Checks c bytes is_json (Ok m) = IsVerdict c bytes is_json m.is_refused m.output.items × NotesNothing m
 Checks c bytes is_json (Err (Memory e)) = ⊤
 Checks c bytes is_json (Err _) = ⊥
 
@@ -103,16 +117,16 @@ abbrev pub operand_bytes : Option (String Global) → List ℕ
 operand_bytes None = []
 operand_bytes (Some word) = string_bytes word
 
-abbrev pub AnswersWork : Work → Config → (is_json : Bool) → (operand bytes : List ℕ) → Result Made Error → Type 0
-AnswersWork work.Gc c is_json operand bytes = Writes (RunsOn c bytes vec_bytes)
-AnswersWork work.Report c is_json operand bytes = WritesText is_json IsSame (ReportsOn c bytes vec_bytes)
-AnswersWork work.List c is_json operand bytes = WritesText is_json TellsList (AnswersListed c bytes)
-AnswersWork work.Check c is_json operand bytes = Checks c bytes is_json
-AnswersWork work.Strip c is_json operand bytes = Writes (AnswersStripped c bytes operand)
-AnswersWork work.Snip c is_json operand bytes = Writes (AnswersSnipped (config_of defaults) bytes operand)
-AnswersWork work.Stub c is_json operand bytes = Writes (AnswersStubbed (config_of defaults) bytes operand)
-AnswersWork work.Why c is_json operand bytes = WritesText is_json IsSame (AnswersWhy (config_of defaults) bytes operand)
+abbrev pub AnswersWork : Work → Config → (is_quiet is_json : Bool) → (operand bytes : List ℕ) → Result Made Error → Type 0
+AnswersWork work.Gc c is_quiet is_json operand bytes = WritesQuietly is_quiet (RunsOn c bytes vec_bytes)
+AnswersWork work.Report c is_quiet is_json operand bytes = WritesText is_json IsSame (ReportsOn c bytes vec_bytes)
+AnswersWork work.List c is_quiet is_json operand bytes = WritesText is_json TellsList (AnswersListed c bytes)
+AnswersWork work.Check c is_quiet is_json operand bytes = Checks c bytes is_json
+AnswersWork work.Strip c is_quiet is_json operand bytes = WritesAlone (AnswersStripped c bytes operand)
+AnswersWork work.Snip c is_quiet is_json operand bytes = Writes (AnswersSnipped (config_of defaults) bytes operand)
+AnswersWork work.Stub c is_quiet is_json operand bytes = Writes (AnswersStubbed (config_of defaults) bytes operand)
+AnswersWork work.Why c is_quiet is_json operand bytes = WritesText is_json IsSame (AnswersWhy (config_of defaults) bytes operand)
 
 -- what an order makes of the bytes
 abbrev pub AnswersOrder : Order → (bytes : List ℕ) → Result Made Error → Type 0
-AnswersOrder o bytes = AnswersWork o.work (config_wanted o.wanted) o.is_json (operand_bytes o.operand) bytes
+AnswersOrder o bytes = AnswersWork o.work (config_wanted o.wanted) o.is_quiet o.is_json (operand_bytes o.operand) bytes

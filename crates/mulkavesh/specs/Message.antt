@@ -1,6 +1,7 @@
 -- The line that a refusal is told in.
 use Rattle.std.specs.Prelude.{ℕ, List, ◌++◌, codes}
+use Rattle.mulkavesh.specs.Shown.{shown}
 
--- the program's name, of what is told, what is told, and a line end
+-- the program's name, of what is told, as people see that, what is told, and a line end
 abbrev pub line : (name text : List ℕ) → List ℕ
-line name text = codes "mulkavesh: " ++ (name ++ (codes ": " ++ (text ++ codes "\n")))
+line name text = codes "mulkavesh: " ++ (shown name ++ (codes ": " ++ (text ++ codes "\n")))

@@ -1,10 +1,12 @@
 //! The functions that stay, as a text: for people a line each, for programs an array of objects.
 
-ghost use Rattle.std.specs.Prelude.{◌≡◌, ◌++◌, IfOk, OnOk, map};
-ghost use Rattle.mulkavesh.specs.Entries.{FindsFirst, FindsNumber, TellsList, listed_line, listed_of, shown};
+ghost use Rattle.std.specs.Prelude.{◌≡◌, ◌++◌, IfOk, OnOk};
+ghost use Rattle.mulkavesh.specs.Entries.{FindsFirst, FindsNumber, TellsList, listed_line, listed_of};
+ghost use Rattle.mulkavesh.specs.Shown.{shown};
 
 use crate::json::add_string;
 use crate::numbers::add_decimal;
+use crate::shown::front_shown;
 use std::alloc::{AllocError, Global};
 use walrus_tools::NO_NAME;
 
@@ -46,19 +48,15 @@ fn first(list: &[u8]) -> Option<(Entry<'_>, &[u8])>
     Some((entry, behind))
 }
 
-// A byte of a name as people see it: what moves a terminal's cursor is a question mark.
-fn shown(byte: u8) -> u8
-    ensures { result ≡ shown byte }
-{
-    if byte < 32 || byte == 127 { b'?' } else { byte }
-}
-
-// Puts a name behind the text.
+// Puts a name behind the text, as people see it.
 fn add_name(to: &mut Vec<u8>, name: &[u8]) -> Result<(), AllocError>
-    ensures { OnOk result (to.new.items ≡ to.old.items ++ map shown name.now) }
+    ensures { OnOk result (to.new.items ≡ to.old.items ++ shown name.now) }
 {
-    'bytes: for byte in name {
-        to.push(shown(*byte))?;
+    let mut rest = name;
+    'pieces: while !rest.is_empty() {
+        let (piece, behind) = front_shown(rest);
+        to.extend_from_slice(piece)?;
+        rest = behind;
     }
     Ok(())
 }

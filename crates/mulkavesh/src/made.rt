@@ -2,7 +2,7 @@
 
 ghost use Rattle.std.specs.Prelude.{◌≡◌, false};
 ghost use Rattle.mulkavesh.specs.Entries.{TellsList};
-ghost use Rattle.mulkavesh.specs.Made.{AnswersOrder, AnswersText, AnswersWhy, FindsMeant, IsSame, Writes, operand_bytes, vec_bytes};
+ghost use Rattle.mulkavesh.specs.Made.{AnswersOrder, AnswersText, AnswersWhy, FindsMeant, IsSame, NotesNothing, WritesQuietly, operand_bytes, vec_bytes};
 ghost use Rattle.walrus_tools.specs.Handed.{ReportsOn, RunsOn, config_of, defaults};
 ghost use Rattle.walrus_tools.specs.Sized.{AnswersListed};
 ghost use Rattle.walrus_tools.specs.Wanted.{config_wanted};
@@ -28,6 +28,7 @@ pub struct Made {
 fn only(alloc: Global, output: Vec<u8>) -> Made
     ensures output { result.output ≡ output }
     ensures accepted { result.is_refused ≡ false }
+    ensures alone { NotesNothing result }
 {
     Made {
         output,
@@ -65,14 +66,14 @@ pub(crate) fn make(alloc: Global, order: &Order, bytes: &[u8]) -> Result<Made, E
 
 // The module without what nothing reaches, and what is said of that.
 fn smaller(alloc: Global, order: &Order, bytes: &[u8]) -> Result<Made, Error>
-    ensures { Writes (RunsOn (config_wanted order.now.wanted) bytes.now vec_bytes) result }
+    ensures { WritesQuietly order.now.is_quiet
+        (RunsOn (config_wanted order.now.wanted) bytes.now vec_bytes) result }
 {
     let output = gc(alloc, bytes, order.wanted)?;
-    let note = if order.is_quiet {
-        Vec::new(alloc)
-    } else {
-        note_of(alloc, bytes, &output, &report(alloc, bytes, order.wanted)?)?
-    };
+    if order.is_quiet {
+        return Ok(only(alloc, output));
+    }
+    let note = note_of(alloc, bytes, &output, &report(alloc, bytes, order.wanted)?)?;
     Ok(Made {
         output,
         note,

@@ -21,6 +21,7 @@ mod numbers;
 mod order;
 mod output;
 mod reports;
+mod shown;
 mod usage;
 mod verdicts;
 mod words;

@@ -3,11 +3,29 @@
 ghost use Rattle.std.specs.Prelude.{◌≡◌, OnErr, OnOk};
 ghost use Rattle.std.specs.Io.KnownBytes.{Appends};
 ghost use Rattle.mulkavesh.specs.Message.{line};
+ghost use Rattle.mulkavesh.specs.Shown.{shown};
 ghost use Rattle.walrus_tools.specs.Handed.{Counts, Tells, WroteFront};
 
+use crate::shown::front_shown;
 use walrus_tools::{DeviceFailed, Sink, write_all};
 
-// Writes the program's name, of what is told, what is told, and a line end.
+// Writes a text as people see it.
+fn write_shown<E: Sink>(errors: &mut E, text: &[u8]) -> Result<(), DeviceFailed>
+    ensures ok { OnOk result (Appends (E.held errors.old) (E.held errors.new) (shown text.now)) }
+    ensures begun { OnErr result
+        (WroteFront (E.held errors.old) (E.held errors.new) (shown text.now)) }
+    ensures counts { Counts (E.write_failures errors.old) (E.write_failures errors.new) result }
+{
+    let mut rest = text;
+    'pieces: while !rest.is_empty() {
+        let (piece, behind) = front_shown(rest);
+        write_all(errors, piece)?;
+        rest = behind;
+    }
+    Ok(())
+}
+
+// Writes the program's name, of what is told, as people see that, what is told, and a line end.
 fn write_line<E: Sink>(errors: &mut E, of: &str, text: &str) -> Result<(), DeviceFailed>
     ensures ok { OnOk result (Appends (E.held errors.old) (E.held errors.new) (line of.now text.now)) }
     ensures begun { OnErr result
@@ -15,7 +33,7 @@ fn write_line<E: Sink>(errors: &mut E, of: &str, text: &str) -> Result<(), Devic
     ensures counts { Counts (E.write_failures errors.old) (E.write_failures errors.new) result }
 {
     write_all(errors, b"mulkavesh: ")?;
-    write_all(errors, of.as_bytes())?;
+    write_shown(errors, of.as_bytes())?;
     write_all(errors, b": ")?;
     write_all(errors, text.as_bytes())?;
     write_all(errors, b"\n")

@@ -14,34 +14,35 @@ pub(crate) const USAGE: &str = "usage: mulkavesh gc | report | list | check [wor
        mulkavesh strip SECTION | snip EXPORT | stub MODULE | why FUNCTION [words] [IN] [-o OUT]
        mulkavesh SUBCOMMAND --help | --help | --version
 
-  gc              the module without what nothing reaches
-  report          how many items of it would be kept and dropped
-  list            the functions that would stay, with the bytes of each
-  check           whether the module is accepted, and else what is wrong with it
-  strip SECTION   the module without its first custom section of this name
-  snip EXPORT     the module in which the function of this export traps, without what nothing reaches then
-  stub MODULE     the module in which the functions that come from this module trap, the same
-  why FUNCTION    by which references a function stays
+  gc              drops what nothing reaches
+  report          counts the items that gc would keep and drop
+  list            lists the functions that gc would keep, with the bytes of each
+  check           says whether a module is accepted (well made), and else what is wrong with it
+  strip SECTION   removes a custom section, the first of this name
+  snip EXPORT     makes an exported function trap, and drops what nothing reaches then
+  stub MODULE     makes the functions that are imported from this module trap, and drops what nothing reaches then
+  why FUNCTION    says by which references a function stays
 
-IN and OUT are files, or standard input and output where left out or -. OUT is written whole or not at all.
+IN and OUT are files, or standard input and output where left out or -. A plain file OUT is written whole or not at all.
 Words stand anywhere behind the subcommand; behind -- each word is a name or a file.
 
-Status 0: done. 1: refused, with one line on standard error. 2: these words say nothing, and nothing is read.
+Status 0: done. 1: refused, with one line on standard error; with none where nobody reads the output any more.
+2: these words say nothing, and nothing is read.
 ";
 
 const GC: &str = "usage: mulkavesh gc [words] [IN] [-o OUT]
 
-The module without what nothing reaches. On standard error stands what was dropped.
+Drops what nothing reaches, and writes the smaller module. On standard error stands in one line what was dropped.
 
   --no-names      write no names
   --no-producers  write no producers; without this word walrus 0.28.0 comes to be among them
   --no-legacy     refuse bodies with legacy exceptions (try, catch, catch_all, rethrow, delegate)
-  --quiet         say nothing of what was dropped
+  --quiet         say nothing on standard error, unless gc refuses
 ";
 
 const REPORT: &str = "usage: mulkavesh report [words] [IN] [-o OUT]
 
-How many items gc would keep and drop, in seven lines: functions, tables, memories, tags, globals, elements, data.
+Counts the items that gc would keep and drop, in seven lines: functions, tables, memories, tags, globals, elements, data.
 
   --json          an object with a member for each, as {\"functions\":{\"kept\":1,\"dropped\":2},..}
   --no-legacy     refuse bodies with legacy exceptions
@@ -50,7 +51,8 @@ How many items gc would keep and drop, in seven lines: functions, tables, memori
 
 const LIST: &str = "usage: mulkavesh list [words] [IN] [-o OUT]
 
-The functions with a body that gc would keep, a line each: the bytes of its body in the smaller module, its index in IN, and its name.
+Lists the functions with a body that gc would keep, a line each: the bytes of its body in the smaller module, its index in IN, and its name.
+In a name a character that moves a terminal's cursor, or turns the order of what it shows, is a question mark; with --json it is escaped.
 
   --json          an array of objects, as {\"index\":1,\"size\":20,\"name\":\"main\"}; the name is null where there is none
   --no-legacy     refuse bodies with legacy exceptions
@@ -59,8 +61,8 @@ The functions with a body that gc would keep, a line each: the bytes of its body
 
 const CHECK: &str = "usage: mulkavesh check [words] [IN] [-o OUT]
 
-Whether the module is accepted: then 'accepted' is written and the status is 0, and else what is wrong with it, and the
-status is 1.
+Says whether the module is accepted: then 'accepted' is written and the status is 0, and else what is wrong with it, and the
+status is 1. Accepted means well made. That is less than valid: the types of operands aren't checked.
 
   --json          an object, as {\"accepted\":true}, or with the members reason, kind, and place or index
   --no-legacy     refuse bodies with legacy exceptions
@@ -69,7 +71,8 @@ status is 1.
 
 const STRIP: &str = "usage: mulkavesh strip SECTION [words] [IN] [-o OUT]
 
-The module without its first custom section of this name. What nothing reaches stays.
+Removes a custom section, the first of this name. What nothing reaches stays, but all is written anew, as by gc. The sections of names, of
+producers and of debug information aren't found by their names.
 
   --no-names      write no names
   --no-producers  write no producers
@@ -78,18 +81,19 @@ The module without its first custom section of this name. What nothing reaches s
 
 const SNIP: &str = "usage: mulkavesh snip EXPORT [IN] [-o OUT]
 
-The module in which the function that is exported under this name is replaced by one that traps, without what nothing reaches then.
+Makes an exported function trap: the export names a new function that traps, and the old one stays where something else reaches it. What
+nothing reaches then is dropped.
 ";
 
 const STUB: &str = "usage: mulkavesh stub MODULE [IN] [-o OUT]
 
-The module in which each function that is imported from the module of this name is one of its own that traps, without what nothing reaches then.
+Makes each function trap that is imported from the module of this name: it is one of the module's own then. What nothing reaches then is dropped.
 ";
 
 const WHY: &str = "usage: mulkavesh why FUNCTION [words] [IN] [-o OUT]
 
-By which references a function stays: a line for each item of a chain that leads to it, a root first. FUNCTION is an index, or else a name, or else
-that of an export; of several the first.
+Says by which references a function stays: a line for each item of a chain that leads to it, a root first. FUNCTION is an index, or else a
+name, or else that of an export; of several the first.
 
   --json          an object, as {\"reached\":true,\"chain\":[{\"kind\":\"function\",\"index\":3}]}
 ";

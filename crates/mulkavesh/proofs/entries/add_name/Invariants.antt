@@ -1,7 +1,11 @@
-use Rattle.std.proofs.Common.{◌≡◌, ◌++◌, map, take}
-use Rattle.mulkavesh.specs.Entries.{shown}
+use Rattle.std.proofs.Common.{◌≡◌, ◌++◌, length}
+use Rattle.mulkavesh.specs.Shown.{shown}
 use Rattle.mulkavesh.proofs.entries.add_name.Given as goal
 
--- the first bytes are shown
-abbrev pub invariant-bytes : goal.invariant-bytes
-invariant-bytes l = l.to.items ≡ l.fn.to.items ++ map shown (take l.byte-index l.name)
+-- behind what stands there the rest of the name would make what the whole name makes
+abbrev pub invariant-pieces : goal.invariant-pieces
+invariant-pieces l = l.to.items ++ shown l.rest ≡ l.fn.to.items ++ shown l.name
+
+-- the bytes that are left
+abbrev pub decreases-pieces : goal.decreases-pieces
+decreases-pieces l = length l.rest
