@@ -6,6 +6,7 @@ use Rattle.walrus_base.specs.Arena.{item_at}
 use Rattle.walrus_base.specs.Id.{place}
 use Rattle.walrus_base.specs.declared.id.Id.{Id}
 use Rattle.walrus_base.specs.declared.keys.FunctionKey.{FunctionKey}
+use Rattle.walrus_base.specs.declared.keys.ImportKey.{ImportKey}
 use Rattle.walrus_base.specs.declared.keys.LocalKey.{LocalKey}
 use Rattle.walrus_base.specs.declared.keys.TypeKey.{TypeKey}
 use Rattle.walrus_base.specs.ModuleTypes.{type_slots}
@@ -19,7 +20,7 @@ use Rattle.walrus_items.specs.declared.function_kind.FunctionKind.{FunctionKind}
 use Rattle.walrus_items.specs.declared.function_kind.FunctionKind.TheVariants.{Import, Local, Uninitialized}
 use Rattle.walrus_items.specs.Exports.{ExportValue, exports, exports_item}
 use Rattle.walrus_items.specs.Functions.{FunctionValue, functions}
-use Rattle.walrus_items.specs.Imports.{ImportValue, imports, imports_item}
+use Rattle.walrus_items.specs.Imports.{ImportValue, imported_function, imports}
 use Rattle.walrus_items.specs.Searches.{first}
 use Rattle.walrus_module.specs.Replaced.{Builds, IsBuilt, IsNew, MakesBroughtLocal, MakesImportedLocal, MakesKindLocal, MakesLocal, MakesSlotLocal, ReplacesExported, ReplacesFound, ReplacesImport, ReplacesKind}
 use Rattle.walrus_module.specs.declared.module.Module.{Module}

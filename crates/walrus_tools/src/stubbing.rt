@@ -45,9 +45,10 @@ fn trap_at<S>(alloc: Global, module: &mut Module<S>, at: usize, from: &str) -> R
     ensures { StubsOne from.now at (at + 1) «module».old «module».new result }
 {
     let import = ImportId::at(at);
-    if is_from(&module.imports, import, from) {
-        trap_import(alloc, module, import)?;
+    if !is_from(&module.imports, import, from) {
+        return Ok(());
     }
+    trap_import(alloc, module, import)?;
     Ok(())
 }
 

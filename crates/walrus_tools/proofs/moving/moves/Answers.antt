@@ -1,4 +1,4 @@
-use Rattle.std.proofs.Common.{ℕ, Result, Ok, Err, refl, ap, ◌∙◌}
+use Rattle.std.proofs.Common.{ℕ, Result, Ok, Err, refl, ap, ◌∙◌, inr}
 use Rattle.std.proofs.lemmas.Result.{err_from_is_err_and}
 use Rattle.std.specs.Global.{Vec}
 use Rattle.walrus_items.specs.declared.error.Error.{Error}
@@ -61,4 +61,4 @@ returns-clause-moved c =
     c.in_ok-output.output.items (transform_of c.in_ok-output.transform) c.in_ok-places.places.items c.in_ok-module.ensures.found c.in_ok-run.ensures.collected
     (leaves_whole _ kept left raw (told answer) c.in_ok-output.ensures.emits.left) c.in_ok-run.ensures.items.functions (ap (λ m. m.funcs) c.in_ok-output.ensures.emits.others)
     (located_by_place _ c.args.bytes.now read.funcs (c.preserve_code_transform.ensures.hook ∙ c.new-config.ensures.hook) c.in_ok-module.ensures.located)
-    c.in_ok-output.ensures.emits.refused c.in_ok-output.ensures.transform (c.in_ok-places.ensures.told ∙ ap (map location_of) c.deref.ensures.value)
+    c.in_ok-output.ensures.emits.refused (c.in_ok-output.ensures.transform (inr refl)) (c.in_ok-places.ensures.told ∙ ap (map location_of) c.deref.ensures.value)

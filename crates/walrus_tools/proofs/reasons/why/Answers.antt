@@ -1,4 +1,4 @@
-use Rattle.std.proofs.Common.{ap, refl, ◌∙◌}
+use Rattle.std.proofs.Common.{ap, refl, ◌∙◌, inr}
 use Rattle.std.specs.Prelude.{option_map}
 use Rattle.std.proofs.lemmas.Result.{err_from_is_err_and}
 use Rattle.walrus_module.proofs.RawStays.{all_raw}
@@ -50,6 +50,6 @@ returns c =
     let wrote = c.in_ok-output.ensures in
     let same = wrote.emits.raw (all_raw kept.customs raw.raws (ap sections ran.others.customs ∙ raw.are)) in
     let m = measured _ (LacksFunction c.args.function) defaults refl c.args.bytes.now read c.in_ok-module.ensures.found raw.raws raw.are c.in_ok-module.ensures.configured kept ran.collected ran.others.customs left same
-    wrote.emits.left (settings kept) (ran.others.settings ∙ c.in_ok-module.ensures.configured) c.in_ok-output.output c.in_ok-output.transform wrote.emits.well_made wrote.transform in
+    wrote.emits.left (settings kept) (ran.others.settings ∙ c.in_ok-module.ensures.configured) c.in_ok-output.output c.in_ok-output.transform wrote.emits.well_made (wrote.transform (inr refl)) in
     reason_told _ (config_of defaults) c.args.bytes.now read c.in_ok-module.ensures.found c.args.function (place c.in_ok-function_at.field-0) c.in_ok-function_at.ensures.0 c.in_ok-function_at.ensures.1
     (option_map items_in c.in_ok-chain.chain) c.in_ok-chain.ensures _ _ m refl refl c.in_ok-report.field-0 c.in_ok-report.ensures

@@ -1,4 +1,4 @@
-use Rattle.std.proofs.Common.{ap, refl, ◌∙◌, subst}
+use Rattle.std.proofs.Common.{ap, refl, ◌∙◌, subst, inr}
 use Rattle.std.proofs.lemmas.Result.{err_from_is_err_and}
 use Rattle.std.specs.Prelude.{Err, map}
 use Rattle.walrus_items.specs.Functions.{functions}
@@ -48,6 +48,6 @@ returns c =
     let stay = wrote.emits.raw (all_raw kept.customs raw.raws (ap sections ran.others.customs ∙ raw.are)) in
     let m = measured _ Never (flags c.legacy_exceptions-config.result.now) (ap (λ (f : Flags). f.preserve_code_transform) same) c.args.bytes.now read c.in_ok-module.ensures.found
     raw.raws raw.are c.in_ok-module.ensures.configured kept ran.collected ran.others.customs left stay wrote.emits.left (settings kept) (ran.others.settings ∙ c.in_ok-module.ensures.configured) c.in_ok-output.output c.in_ok-output.transform
-    wrote.emits.well_made wrote.transform in
+    wrote.emits.well_made (wrote.transform (inr refl)) in
     subst (λ (f : Flags). AnswersListed (config_of f) c.args.bytes.now c.entries.result) same
     (list_answers _ c.args.bytes.now _ _ m (names_in (functions left.funcs)) refl c.entries.result _ (ap (map range_of) c.deref.ensures.value) c.entries.ensures.value c.entries.ensures.fits c.entries.ensures.refused)
