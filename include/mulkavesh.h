@@ -113,24 +113,28 @@ uint32_t mulkavesh_report(const uint8_t *input, size_t input_length, uint32_t fl
 uint32_t mulkavesh_diagnose(const uint8_t *input, size_t input_length, uint32_t flags, uint8_t *output, size_t room, size_t *length);
 
 /* The functions with a body that mulkavesh_gc keeps, by rising index. For each of them three numbers of 32 bits, little-endian: its index in the input,
- * the bytes of its body in the output, and the length of its name in the input or MULKAVESH_NO_NAME; and then the name, in UTF-8. Of the flags
- * MULKAVESH_NO_LEGACY alone has a say. */
+ * the bytes of its body in the output, and the length of its name or MULKAVESH_NO_NAME; and then the name as the input's name section has it, in UTF-8.
+ * Of the flags MULKAVESH_NO_LEGACY alone has a say. */
 uint32_t mulkavesh_list(const uint8_t *input, size_t input_length, uint32_t flags, uint8_t *output, size_t room, size_t *length);
 
-/* The module without its first custom section of this name; what nothing reaches stays. MULKAVESH_NOT_FOUND where there is none. Names and
- * producers aren't found by it: the flags say whether they are written. */
+/* The module without its first custom section of this name; MULKAVESH_NOT_FOUND where there is none. What nothing reaches stays, but all is written
+ * anew as by mulkavesh_gc: functions are ordered by size, debug information is gone, and other custom sections are as they were, and so stale where they
+ * hold indices. Names, producers and debug information aren't found by it; the flags say whether names and producers are written. */
 uint32_t mulkavesh_strip(const uint8_t *input, size_t input_length, uint32_t flags, const uint8_t *name, size_t name_length, uint8_t *output, size_t room, size_t *length);
 
 /* Why mulkavesh_gc keeps the function of this index: a line for each item of a chain of references that leads to it, a root first (`function 3`), or
- * `function 3 isn't reached`. MULKAVESH_NOT_FOUND where the module has no function of this index. */
+ * `function 3 isn't reached`. Which chain it is isn't promised, so a second call may want more room than the first one told: call again with more until
+ * the room suffices. MULKAVESH_NOT_FOUND where the module has no function of this index. */
 uint32_t mulkavesh_why(const uint8_t *input, size_t input_length, uint32_t function, uint8_t *output, size_t room, size_t *length);
 
-/* The module where the function that is exported under this name is replaced by one that traps, without what nothing reaches then.
- * MULKAVESH_NOT_FOUND where no function is exported under the name, or where that one is imported or is exported under another name before. */
+/* The module where the function that is exported under this name is replaced by one that traps, without what nothing reaches then. The old function
+ * stays where calls, tables or further exports reach it. MULKAVESH_NOT_FOUND where no function is exported under the name, or where that one is imported
+ * or is exported under another name before. */
 uint32_t mulkavesh_snip(const uint8_t *input, size_t input_length, const uint8_t *name, size_t name_length, uint8_t *output, size_t room, size_t *length);
 
 /* The module where each function that was imported from the module of this name is one of its own, which traps, without what nothing reaches
- * then. Where none is imported from it, that is mulkavesh_gc's answer. MULKAVESH_NOT_FOUND where the name isn't UTF-8, as the name of a module is. */
+ * then. What it answers where no function is imported from such a module is no promise. MULKAVESH_NOT_FOUND where the name isn't UTF-8, as the name of a
+ * module is. */
 uint32_t mulkavesh_stub(const uint8_t *input, size_t input_length, const uint8_t *from, size_t from_length, uint8_t *output, size_t room, size_t *length);
 
 #ifdef __cplusplus

@@ -64,7 +64,9 @@ class NotFound(MulkaveshError):
 
 @dataclass(frozen=True)
 class Function:
-    """A function with a body that `gc` keeps: its index in the input, the bytes of its body in the output, and its name in the input."""
+    """A function with a body that `gc` keeps: its index in the input, the bytes of its body in the output, and its name as the input's name
+    section has it, or None.
+    """
 
     index: int
     size: int
@@ -234,10 +236,10 @@ def _tried(call: str, data: bytes, words: Tuple[Any, ...], room: int) -> Tuple[i
 
 
 def _answer(call: str, module: Bytes, *words: Any, room: int = 0, missing: str = "") -> bytes:
-    """What a call answers: in a guessed room, and again where that was too small. `missing` says what wasn't found."""
+    """What a call answers: in a guessed room, and again in more until that suffices. `missing` says what wasn't found."""
     data = _whole(module)
     status, output, length = _tried(call, data, words, room or len(data) + _MARGIN)
-    if status == Status.NO_ROOM:
+    while status == Status.NO_ROOM:
         status, output, length = _tried(call, data, words, length)
     if status == Status.DONE:
         return bytes(memoryview(output)[:length])
@@ -296,9 +298,11 @@ def list_functions(module: Bytes, *, legacy: bool = True) -> List[Function]:
 
 
 def strip(module: Bytes, name: Name, *, names: bool = True, producers: bool = True, legacy: bool = True) -> bytes:
-    """The module without its first custom section of this name; what nothing reaches stays.
+    """The module without its first custom section of this name; `NotFound` where there is none.
 
-    `NotFound` where there is none. Names and producers aren't found by it: `names` and `producers` say whether they are written.
+    What nothing reaches stays, but all is written anew as by `gc`: functions are ordered by size, debug information is gone, and other custom
+    sections are as they were, and so stale where they hold indices. Names, producers and debug information aren't found by it; `names` and
+    `producers` say whether those are written.
     """
     word = _bytes_of(name)
     missing = f"the module has no custom section {name!r} that could be taken away"
@@ -307,7 +311,7 @@ def strip(module: Bytes, name: Name, *, names: bool = True, producers: bool = Tr
 
 def why(module: Bytes, function: int) -> str:
     """Why `gc` keeps the function of this index in the input: a line for each item of a chain of references that leads to it, a root
-    first, as `function 3`; or the line `function 3 isn't reached`.
+    first, as `function 3`; or the line `function 3 isn't reached`. Which chain it is isn't promised.
 
     `NotFound` where the module has no function of this index, `ValueError` where the index isn't 0 to 2**32 - 1.
     """
@@ -318,7 +322,8 @@ def why(module: Bytes, function: int) -> str:
 
 
 def snip(module: Bytes, name: Name) -> bytes:
-    """The module where the function that is exported under this name is replaced by one that traps, without what nothing reaches then.
+    """The module where the function that is exported under this name is replaced by one that traps, without what nothing reaches then. The old
+    function stays where calls, tables or further exports reach it.
 
     `NotFound` where no function is exported under the name, or where that one is imported or is exported under another name before.
     """
@@ -328,7 +333,7 @@ def snip(module: Bytes, name: Name) -> bytes:
 
 def stub(module: Bytes, from_module: Name) -> bytes:
     """The module where each function that was imported from the module of this name is one of its own, which traps, without what nothing
-    reaches then. Where none is imported from it, that is what `gc` answers.
+    reaches then. What it answers where no function is imported from such a module is no promise.
 
     `NotFound` where the name isn't UTF-8, as the name of a module is.
     """

@@ -1,12 +1,13 @@
 #!/usr/bin/env python3
-"""What tests/c.sh does with the callers that it compiled, but for rooms and threads:
+"""Compares what the callers of tests/c.sh answer with what walrus-gc writes, and with what stands in the modules:
 
     tests/c.py PROGRAM STATIC SHARED REFUSED COUNT FOLDER..
 
-STATIC and SHARED are tests/c/call.c over the two libraries, REFUSED is refused.c as a shared library, COUNT says how many mutants, and FOLDER.. hold modules:
-those with a file NAME.expect are rows, whose words stand in NAME.args. The calls `gc` and `report` are held against the program: the same bytes, and the status
-that its own one and what it tells come to. So is `diagnose`, which has to say that nothing is wrong exactly where the program accepts, and against the faults
-that were worked out by hand (tests/faults.txt). The other calls are held against what stands in the modules themselves. Prints the finds and the counts.
+It is what tests/c.sh does with the callers that it compiled, but for rooms and threads. STATIC and SHARED are tests/c/call.c over the two libraries,
+REFUSED is refused.c as a shared library, COUNT says how many mutants, and FOLDER.. hold modules: those with a file NAME.expect are rows, whose words
+stand in NAME.args. The calls `gc` and `report` are held against the program: the same bytes, and the status that its own one and what it tells come
+to. So is `diagnose`, which has to say that nothing is wrong exactly where the program accepts, and against the faults that were worked out by hand
+(tests/faults.txt). The other calls are held against what stands in the modules themselves. Prints the finds and the counts.
 """
 import collections
 import concurrent.futures

@@ -1,12 +1,12 @@
 #!/usr/bin/env python3
-"""Makes the lists of tests/names from other tools, for `wasm_copy --names` to be compared with.
+"""Compares nothing itself: it makes the lists of names by other tools that tests/samples.sh compares with those of wasm_copy.
 
     tests/expected-names.py MODULE > tests/names/NAME.txt
 
-The namings are those of `wasm-objdump -x` (wabt), which prints each entry of a custom section `name` in order; the values of
-producers, which it doesn't print, those of `obj2yaml` (LLVM). Both are found on the path, or by WASM_OBJDUMP and OBJ2YAML.
-Names of tags are left out: wabt keeps them in the subsection 10, which is that of fields by now, and tags have 11.
-A list of more than 400 lines is cut down to its count, a hash of it, and its first and last 50 lines.
+It is what `wasm_copy --names` has to print. The namings are those of `wasm-objdump -x` (wabt), which prints each entry of a custom section `name` in
+order; the values of producers, which it doesn't print, those of `obj2yaml` (LLVM). Both are found on the path, or by WASM_OBJDUMP and OBJ2YAML. Names
+of tags are left out: wabt keeps them in the subsection 10, which is that of fields by now, and tags have 11. A list of more than 400 lines is cut
+down to its count, a hash of it, and its first and last 50 lines.
 """
 import hashlib
 import os

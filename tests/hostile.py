@@ -1,5 +1,5 @@
 #!/usr/bin/env python3
-"""What tests/hostile.sh does: mutated modules through a program.
+"""Compares what walrus-gc does on mutated modules with what it may do; it is what tests/hostile.sh runs:
 
     tests/hostile.py [--seed N] [--jobs N] [--keep FOLDER] [--only I] COUNT PROGRAM BASE..
 

@@ -1,9 +1,9 @@
 #!/usr/bin/env python3
-"""Runs the program over modules, and compares what comes out with what went in:
+"""Compares what walrus-gc writes of modules with what went in:
 
     tests/kept.py PROGRAM WASM_COPY MODULE..
 
-PROGRAM is walrus_gc, WASM_COPY the program that lists names. Prints a line a module, and the counts; the status is 1 where a module is
+PROGRAM is walrus-gc, WASM_COPY the program that lists names. Prints a line a module, and the counts; the status is 1 where a module is
 refused or one of these doesn't hold. Items have other indices behind a run, and functions another order, so indices aren't compared.
 
 - A second run over the output gives the same bytes.

@@ -1,8 +1,9 @@
 #!/usr/bin/env bash
-# Makes a module of each text NAME.wat of tests/made with wabt's wat2wasm, runs the built program over it, and compares what comes out with
-# the module of NAME.kept.wat, which says what has to be kept, byte for byte; wabt's wasm-validate has to accept it too. Prints a line a
-# module and the count. Where wabt (Debian's package of that name, which tools/install.sh puts in) isn't there, nothing is run, and the status is 2.
+# Compares what walrus-gc writes of made modules with what wabt makes of their kept parts, byte for byte.
 # tests/made.sh [PROGRAM], the proved program where none is given.
+# Of each text NAME.wat of tests/made wabt's wat2wasm makes a module, and of NAME.kept.wat what has to be kept of it. What the program writes of the
+# module has to be the same bytes, and wabt's wasm-validate has to accept it too. Prints a line a module and the count. Where wabt (Debian's package
+# of that name, which tools/install.sh puts in) isn't there, nothing is run, and the status is 2.
 set -eu
 top=$(cd "$(dirname "$0")/.." && pwd)
 command -v wat2wasm > /dev/null || { echo "tests/made.sh: there is no wat2wasm, so nothing is run" >&2; exit 2; }

@@ -1,7 +1,10 @@
 #!/usr/bin/env python3
-"""What tests/program.sh tries: program.py PROGRAM WALRUS_GC, with the library of the environment's MULKAVESH_LIB.
+"""Compares what mulkavesh writes with what walrus-gc writes and the library answers, and the files it leaves with those that have to be there:
 
-A function below whose name begins with `try_` is one part. It calls `same` for each comparison, which counts it and prints a line where it fails.
+    tests/program.py PROGRAM WALRUS_GC
+
+It is what tests/program.sh runs, with the library of the environment's MULKAVESH_LIB. A function below whose name begins with `try_` is one part. It
+calls `same` for each comparison, which counts it and prints a line where it fails.
 """
 import itertools
 import json

@@ -1,6 +1,7 @@
 #!/usr/bin/env bash
-# Calls the library from Python: tests/python.sh [FOLDER [PROGRAM]], the shared library that tools/build.sh mulkavesh_c left and the proved program where
-# none are given, or those of tools/unproved.sh. It runs the tests of python/tests:
+# Compares what the calls from Python answer with what walrus-gc writes, and with answers that were worked out by hand.
+# tests/python.sh [FOLDER [PROGRAM]], the shared library that tools/build.sh mulkavesh_c left and the proved program where none are given, or those of
+# tools/unproved.sh. It runs the tests of python/tests:
 #   test_mulkavesh.py  each call and each refusal on worked modules and on the bytes of faults.txt, in threads too; how the library is found; what is declared,
 #                      beside the header; packing
 #   test_program.py    the modules of tests/samples and ../shared/samples (where it is there) beside the program, under all words: the same bytes, and a fault

@@ -1,7 +1,10 @@
 #!/usr/bin/env python3
-"""What tests/refused.sh does: refused.py PROGRAM SCENES LIBRARY FOLDER.., of which a folder that isn't there is passed over.
+"""Compares each run of walrus-gc to which memory is refused with the run that has ample memory:
 
-LIBRARY is refused.c as a shared library. A module's words stand in NAME.args, one a line, where that is there.
+    tests/refused.py PROGRAM SCENES LIBRARY FOLDER..
+
+It is what tests/refused.sh runs. A folder that isn't there is passed over. LIBRARY is refused.c as a shared library. A module's words stand in
+NAME.args, one a line, where that is there.
 """
 import os
 import pathlib

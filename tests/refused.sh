@@ -1,5 +1,6 @@
 #!/usr/bin/env bash
-# Refuses memory to the built programs: tests/refused.sh [PROGRAM [SCENES]], the proved ones where none is given. On each row of ../shared/rows and
+# Compares each run of walrus-gc to which memory is refused with the run that has ample memory.
+# tests/refused.sh [PROGRAM [SCENES]], the proved ones where none is given. On each row of ../shared/rows and
 # each small module of tests/samples and ../shared/samples every request for memory fails in turn; then all modules are run under less and less
 # address space. Each run has to end as with ample memory, or with status 1, `out of memory` and nothing written. Of SCENES (walrus_refusals), which
 # makes the calls of the library again that lack memory, every request fails in turn too, and each run has to print `all stands`. Prints a line for

@@ -1,6 +1,7 @@
 #!/usr/bin/env bash
-# Runs the built program over a folder of rows, and prints which pass, and their count: tests/rows.sh [--list|--twice] [FOLDER [PROGRAM]],
-# ../shared/rows and the proved program where none is given. With --list it prints the names that pass and nothing else, so that two
+# Compares what walrus-gc writes and tells of each row of a folder with what the row says.
+# tests/rows.sh [--list|--twice] [FOLDER [PROGRAM]], ../shared/rows and the proved program where none is given.
+# Prints which rows pass, and their count. With --list it prints the names that pass and nothing else, so that two
 # lists can be compared by `diff`. With --twice it runs the program over the output of each row of which a module comes, too: by the
 # same words the same bytes have to come out, and by --report the same numbers for both, with nothing dropped.
 # A row is NAME.wasm (the input), NAME.args (words, one a line; there need be none) and NAME.expect:

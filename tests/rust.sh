@@ -1,7 +1,8 @@
 #!/usr/bin/env bash
-# Calls the library from Rust: tests/rust.sh [FOLDER [PROGRAM]], the static library that tools/build.sh mulkavesh_c left and the proved program where none are
-# given, or those of tools/unproved.sh. The crates stand in rust; they need no others, so nothing is fetched, and nothing is left in the tree.
-#   header.py    the declarations of mulkavesh-sys are compared with the sources
+# Compares what the calls from Rust answer with what walrus-gc writes, and with answers that were worked out by hand.
+# tests/rust.sh [FOLDER [PROGRAM]], the static library that tools/build.sh mulkavesh_c left and the proved program where none are given, or those of
+# tools/unproved.sh. The crates stand in rust; they need no others, so nothing is fetched, and nothing is left in the tree.
+#   header.py    the declarations of mulkavesh-sys are compared with the sources (tools/header.py)
 #   cargo test   each call on worked modules, in the tests and in the docs, `diagnose` on the bytes of faults.txt, and all on those of tests/samples and
 #                ../shared/samples (where it is there): `gc`, `report` and `diagnose` beside the program, over mutants of the small ones too, and the
 #                other calls beside one another; in four threads at once

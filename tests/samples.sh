@@ -1,9 +1,10 @@
 #!/usr/bin/env bash
-# Copies each module of a folder with the built program, which also reads the copy and compares the records, and copies the
-# copy, which has to stay as it is. Compares the names that the program lists with those that other tools found (tests/names),
-# first those of the program's stored run. Before all of that it looks whether walrus_gc gets its words. Last runs walrus_gc over
-# each module, and compares what comes out with what went in (kept.py, which says in what). Prints a line a file and the counts. `.ci/run` runs it behind the gate.
+# Compares what wasm_copy and walrus-gc write of real modules with what went in, and the names in these with those that other tools found.
 # tests/samples.sh [FOLDER..], where none is given tests/samples and, where it is there, ../shared/samples.
+# First it looks whether walrus-gc gets its words. Each module is copied by wasm_copy, which also reads the copy and compares the records, and the
+# copy is copied, which has to stay as it is. The names that wasm_copy lists are held against those of tests/names, first those of its stored run.
+# Last walrus-gc is run over each module, and kept.py says in what its output is compared with the input. Prints a line a file and the counts.
+# `.ci/run` runs it behind the gate.
 set -eu
 top=$(cd "$(dirname "$0")/.." && pwd)
 if [ $# = 0 ]; then

@@ -1,26 +1,28 @@
 #!/usr/bin/env python3
-"""Runs a program over modules of hostile shapes, each at two sizes, and judges the time and the memory that it takes:
+"""Compares the time that walrus-gc takes on modules of hostile shapes with that on others a tenth as large, and its memory with their bytes:
 
-    tests/shapes.py [--factor F] [--seconds N] [--gigabytes N] [--keep FOLDER] PROGRAM [SHAPE..]
+    tests/shapes.py [--factor F] [--seconds N] [--gigabytes N] [--keep FOLDER] [--mulkavesh PROGRAM] PROGRAM [SHAPE..]
     tests/shapes.py --list
 
 A shape is a module of many equal parts, of parts that are dear beside the bytes that they take, or of what meets a weak place of lists and tables.
 Where no SHAPE is named all are run, which takes some eight minutes. The smaller module has 1 MB, mostly, and the larger one ten times as many bytes;
 --factor multiplies both, but makes those no larger whose time isn't judged. With --keep the modules stay in FOLDER.
 
+PROGRAM is walrus-gc. A shape that is for a subcommand of mulkavesh is run by the PROGRAM that --mulkavesh names, and passed over where none is named.
+
 A shape is flagged where one of these doesn't hold:
 
 - The program ends with status 0 and tells nothing; on the two shapes that are no modules with status 1, the line that says so, and nothing written.
   It is given so many seconds by the clock (120), behind which SIGALRM ends it, and so many gigabytes of address space (half of the machine's memory).
 - The larger module takes at most 16 times the processor seconds of the smaller one, or 13 times where that has 3 MB or more: for ten times the
-  bytes, and in proportion where they aren't quite that. The least seconds of some runs count, without those that an empty module takes. Where the
-  larger one takes less than a tenth of a second that isn't judged, nor of shapes that are dear by what they say: 50,000 locals in a few bytes, or
-  each of many things for each of many others.
+  bytes, and in proportion where they aren't quite that. Some shapes have a figure of their own. The least seconds of some runs count, without those
+  that an empty module takes. Where the larger one takes less than a tenth of a second that isn't judged, nor of shapes that are dear by what they
+  say: 50,000 locals in a few bytes, or each of many things for each of many others.
 - At the peak a run takes at most 64 times the bytes that it reads and writes, and 50 MB. Some shapes have a figure of their own, by the bytes that
   are read alone, in place of those 64 times.
 
 Prints a line a shape, with what is wrong where it is flagged, and the counts; the status is 1 where one is flagged. Runs follow one after the other,
-with --no-producers. A peak below some 15 MB isn't seen, since a run begins as a copy of this process. No part of the gate.
+those of walrus-gc with --no-producers. A peak below some 15 MB isn't seen, since a run begins as a copy of this process. No part of the gate.
 """
 import argparse
 import dataclasses
@@ -45,10 +47,13 @@ LARGE, MOST_TIMES_AS_LONG_OF_LARGE = 3 * MB, 13
 SHORTEST_JUDGED = 0.1
 MOST_BYTES_FOR_A_BYTE = 64
 MEMORY_BESIDE = 50 * MEGABYTE
-# A module is run so often, but not again where its runs have taken so many seconds by the clock.
+# A module is run so often, mostly, but not again where its runs have taken so many seconds by the clock.
 MOST_ROUNDS, ENOUGH_SECONDS = 5, 4
 # At least so many bytes are asked for of each shape.
 SMALLEST = 100
+
+# What each program is run with on an empty module, and walrus-gc on all shapes.
+WALRUS_GC, MULKAVESH = ("--no-producers",), ("gc", "--quiet", "--no-producers")
 
 TAKEN = (0, b"", True)
 REFUSED = (1, b"walrus-gc: The input WebAssembly is invalid\n", False)
@@ -181,19 +186,27 @@ def calls(count):
 
 @dataclasses.dataclass(frozen=True)
 class Shape:
-    """How a module is made, and what it is; how the program ends on it; how many bytes the smaller one has; whether its time is judged; and the
-    bytes that it may take at the peak, by those that are read, where it has a figure of its own."""
+    """How a module is made, and what it is; how the program ends on it; how many bytes the smaller one has; whether its time is judged; the bytes
+    that it may take at the peak, by those that are read, and how many times as long the larger one may take, where it has a figure of its own; how
+    often a module is run; and the subcommand of mulkavesh that is run, with its operand, where that isn't walrus-gc."""
     make: typing.Callable
     what: str
     ending: tuple = TAKEN
     size: int = MB
     is_timed: bool = True
     memory: typing.Callable | None = None
+    most_times: float | None = None
+    rounds: int = MOST_ROUNDS
+    subcommand: tuple | None = None
 
     def sizes(self, factor):
         """About how many bytes the two modules have."""
         size = max(SMALLEST, int(self.size * (factor if self.is_timed else min(factor, 1))))
         return size, size * LARGER
+
+    def times(self, size):
+        """How many times as long the larger one may take, where the smaller one has so many bytes."""
+        return self.most_times or (MOST_TIMES_AS_LONG_OF_LARGE if size >= LARGE else MOST_TIMES_AS_LONG)
 
 
 SHAPES = {}
@@ -625,6 +638,21 @@ def locals_apart(size):
     return some_locals(size, lambda first: range(0, 45_000, 5))
 
 
+# What a subcommand of mulkavesh is run over.
+
+
+@shape(
+    "imported functions, each called: 10,000 and 100,000 (mulkavesh stub env)", size=240 * KB, most_times=12, rounds=20, subcommand=("stub", "env"))
+def stub_env(size):
+    each = 24
+    called = [CALL + unsigned(index) for index in range(size // each)]
+    lengths = (each - len(call) - len(sized(b"env") + sized(b"") + FUNCTION + FIRST) for call in called)
+    names_ = (name.rjust(length, b"a") for name, length in zip(different(len(called)), lengths))
+    imports = listed(sized(b"env") + sized(name) + FUNCTION + FIRST for name in names_)
+    exports, code = listed([export(b"f", FUNCTION, len(called))]), listed([body(b"".join(called))])
+    return module(types=ONE_TYPE, imports=imports, functions=ONE_FUNCTION, exports=exports, code=code)
+
+
 # What is refused late.
 
 
@@ -657,15 +685,15 @@ class Taken:
 
 
 class Runner:
-    """Runs the program over modules in files, within limits of seconds by the clock and of bytes of address space."""
+    """Runs a program over modules in files, within limits of seconds by the clock and of bytes of address space."""
 
-    def __init__(self, program, folder, seconds, space):
-        self.program, self.folder, self.seconds, self.space = program, folder, seconds, space
+    def __init__(self, program, words, folder, seconds, space):
+        self.program, self.words, self.folder, self.seconds, self.space = os.path.abspath(program), words, folder, seconds, space
         # What the start of a process takes.
         self.start = 0
         empty = folder / "empty.wasm"
         empty.write_bytes(module())
-        started = self.taken(empty)
+        started = self.taken(empty, words)
         self.start = started.seconds
         if started.endings != {TAKEN}:
             sys.exit(f"tests/shapes.py: {program} doesn't take the empty module")
@@ -676,22 +704,21 @@ class Runner:
         resource.setrlimit(resource.RLIMIT_CORE, (0, 0))
         signal.alarm(self.seconds)
 
-    def run(self, path):
+    def run(self, path, words):
         """Processor seconds, bytes at the peak, bytes written, and how it ended."""
-        output, words = self.folder / "output", self.folder / "words"
-        with open(path, "rb") as source, open(output, "wb") as sink, open(words, "wb") as told:
-            process = subprocess.Popen(
-                [self.program, "--no-producers"], stdin=source, stdout=sink, stderr=told, preexec_fn=self.limit)
+        output, errors = self.folder / "output", self.folder / "errors"
+        with open(path, "rb") as source, open(output, "wb") as sink, open(errors, "wb") as told:
+            process = subprocess.Popen([self.program, *words], stdin=source, stdout=sink, stderr=told, preexec_fn=self.limit)
             _, status, usage = os.wait4(process.pid, 0)
             process.returncode = os.waitstatus_to_exitcode(status)
         written = output.stat().st_size
         output.unlink()
-        return usage.ru_utime + usage.ru_stime, usage.ru_maxrss * 1024, written, (process.returncode, words.read_bytes(), written > 0)
+        return usage.ru_utime + usage.ru_stime, usage.ru_maxrss * 1024, written, (process.returncode, errors.read_bytes(), written > 0)
 
-    def taken(self, path):
+    def taken(self, path, words, rounds=MOST_ROUNDS):
         runs, end = [], time.monotonic() + ENOUGH_SECONDS
-        while not runs or len(runs) < MOST_ROUNDS and time.monotonic() < end:
-            runs.append(self.run(path))
+        while not runs or len(runs) < rounds and time.monotonic() < end:
+            runs.append(self.run(path, words))
         seconds, peaks, written, endings = zip(*runs)
         return Taken(path.stat().st_size, max(min(seconds) - self.start, 0.001), max(peaks), max(written), set(endings))
 
@@ -728,7 +755,7 @@ def wrong_in_runs(wanted, taken):
 def wrong_in(wanted, size, smaller, larger):
     yield from wrong_in_runs(wanted, smaller)
     yield from wrong_in_runs(wanted, larger)
-    most = MOST_TIMES_AS_LONG_OF_LARGE if size >= LARGE else MOST_TIMES_AS_LONG
+    most = wanted.times(size)
     if wanted.is_timed and larger.seconds >= SHORTEST_JUDGED and times_as_long(smaller, larger) > most:
         yield f"{times_as_long(smaller, larger):.1f} times as long for ten times the bytes, more than {most}"
 
@@ -739,15 +766,16 @@ HEAD = f"{'shape':20} {'bytes in':>10} {'bytes out':>10} {'seconds':>8} {'larger
 
 def judged(name, runner, folder, factor, is_kept):
     """Whether a shape is flagged; prints its line."""
-    taken, sizes = [], SHAPES[name].sizes(factor)
+    wanted, taken = SHAPES[name], []
+    sizes, words = wanted.sizes(factor), wanted.subcommand or runner.words
     for size, word in zip(sizes, ("smaller", "larger")):
         path = folder / f"{name}.{word}.wasm"
         made(name, size, path)
-        taken.append(runner.taken(path))
+        taken.append(runner.taken(path, words, wanted.rounds))
         if not is_kept:
             path.unlink()
     smaller, larger = taken
-    wrong = list(wrong_in(SHAPES[name], sizes[0], smaller, larger))
+    wrong = list(wrong_in(wanted, sizes[0], smaller, larger))
     print(
         f"{name:20} {larger.given:10} {larger.written:10} {smaller.seconds:8.3f} {larger.seconds:8.3f} {times_as_long(smaller, larger):6.1f}"
         f" {larger.peak / MEGABYTE:8.1f} {larger.multiple():8.1f}{'  FLAG ' if wrong else ''}{'; '.join(wrong)}", flush=True)
@@ -761,14 +789,19 @@ def words_given():
     words.add_argument("--seconds", type=int, default=120)
     words.add_argument("--gigabytes", type=float, default=os.sysconf("SC_PHYS_PAGES") * os.sysconf("SC_PAGE_SIZE") / 2 / GIGABYTE)
     words.add_argument("--keep", type=pathlib.Path)
+    words.add_argument("--mulkavesh")
     words.add_argument("program", nargs="?")
     words.add_argument("shape", nargs="*")
     given = words.parse_args()
     unknown = [name for name in given.shape if name not in SHAPES]
     if unknown:
         words.error(f"there is no shape {', '.join(unknown)}; --list names them")
-    if not given.list and not os.access(given.program or "", os.X_OK):
-        words.error(f"{given.program} can't be run" if given.program else "no program is named")
+    if not given.list:
+        if not given.program:
+            words.error("no program is named")
+        for program in filter(None, (given.program, given.mulkavesh)):
+            if not os.access(program, os.X_OK):
+                words.error(f"{program} can't be run")
     return given
 
 
@@ -778,17 +811,23 @@ def main():
         for name, it in SHAPES.items():
             print(f"{name:20} {it.size:>9}  {it.what}")
         return
-    begin, flagged = time.monotonic(), []
+    begin, flagged, passed_over = time.monotonic(), [], []
     with tempfile.TemporaryDirectory(prefix="shapes-") as room:
-        runner = Runner(os.path.abspath(given.program), pathlib.Path(room), given.seconds, int(given.gigabytes * GIGABYTE))
+        limits = pathlib.Path(room), given.seconds, int(given.gigabytes * GIGABYTE)
+        walrus_gc = Runner(given.program, WALRUS_GC, *limits)
+        mulkavesh = given.mulkavesh and Runner(given.mulkavesh, MULKAVESH, *limits)
         folder = given.keep or pathlib.Path(room)
         folder.mkdir(parents=True, exist_ok=True)
         print(HEAD, flush=True)
         chosen = given.shape or list(SHAPES)
         for name in chosen:
-            if judged(name, runner, folder, given.factor, given.keep is not None):
+            runner = mulkavesh if SHAPES[name].subcommand else walrus_gc
+            if not runner:
+                passed_over.append(name)
+                print(f"{name:20} is passed over, since no --mulkavesh is given", flush=True)
+            elif judged(name, runner, folder, given.factor, given.keep is not None):
                 flagged.append(name)
-    counts = f"{len(chosen)} shapes in {time.monotonic() - begin:.0f} s, {len(flagged)} flagged"
+    counts = f"{len(chosen) - len(passed_over)} shapes in {time.monotonic() - begin:.0f} s, {len(flagged)} flagged"
     print(f"tests/shapes.py: {counts}{': ' if flagged else ''}{', '.join(flagged)}")
     sys.exit(1 if flagged else 0)
 

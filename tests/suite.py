@@ -1,11 +1,11 @@
 #!/usr/bin/env python3
-"""Runs the program over the binary modules of test scripts of the standard, which wabt's `wast2json` makes:
+"""Compares what walrus-gc accepts and refuses with what test scripts of the standard say of the same binary modules:
 
     tests/suite.py PROGRAM FOLDER SCRIPT..
 
-PROGRAM is walrus_gc, a SCRIPT a file *.wast, as those of the standard's repository (test/core), or those that binaryen's sources hold
-(test/spec). Leaves in FOLDER the modules that the program accepts, for `tests/kept.py`. Prints what is not as the script says, and the
-counts; the status is 1 where there is such.
+PROGRAM is walrus-gc, a SCRIPT a file *.wast, as those of the standard's repository (test/core), or those that binaryen's sources hold (test/spec);
+wabt's `wast2json` makes its modules. Leaves in FOLDER the modules that the program accepts, for `tests/kept.py`. Prints what is not as the script
+says, and the counts; the status is 1 where there is such.
 
 - What the script calls a module, also one that can't be linked or traps as it starts, is accepted.
 - What it calls malformed is refused, but where a later edition, or this profile, takes it: LATER says for which fault, of which bytes, and why.

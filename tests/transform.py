@@ -1,5 +1,5 @@
 #!/usr/bin/env python3
-"""Holds the code transform that a program tells against what wabt's wasm-objdump finds in the same bytes:
+"""Compares the code transform that a program tells with what wabt's wasm-objdump finds in the same bytes:
 
     tests/transform.py PROGRAM MODULE..
 

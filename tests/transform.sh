@@ -1,8 +1,9 @@
 #!/usr/bin/env bash
-# Holds the code transform against what wabt's wasm-objdump finds in the same bytes, over real modules: transform.py says in what. The program
-# that tells it is made in a copy of the crates, with nothing proved (unproved.sh), since it is for this script alone. No part of the gate; where
-# wabt (Debian's package of that name, which tools/install.sh puts in) isn't there, nothing is run, and the status is 2.
+# Compares the code transform of real modules with what wabt's wasm-objdump finds in the same bytes.
 # tests/transform.sh [FOLDER..], where none is given tests/samples and, where it is there, ../shared/samples.
+# transform.py says in what. The program that tells the transform is made in a copy of the crates, with nothing proved (tools/unproved.sh), since it is
+# for this script alone. No part of the gate; where wabt (Debian's package of that name, which tools/install.sh puts in) isn't there, nothing is run,
+# and the status is 2.
 set -eu
 top=$(cd "$(dirname "$0")/.." && pwd)
 command -v wasm-objdump > /dev/null || { echo "tests/transform.sh: there is no wasm-objdump, so nothing is run" >&2; exit 2; }
@@ -13,7 +14,7 @@ fi
 work=$(mktemp -d)
 trap 'rm -rf "$work"' EXIT
 mkdir "$work/top"
-tar -C "$top" --exclude=out -c crates crates.txt HANDLES tools/heartbeat.sh tools/unproved.sh | tar -C "$work/top" -x
+tar -C "$top" --exclude=out -c crates crates.txt HANDLES tools/build.sh tools/heartbeat.sh tools/unproved.sh | tar -C "$work/top" -x
 mkdir -p "$work/top/crates/moved/src"
 echo "moved: walrus" >> "$work/top/crates.txt"
 printf '\0asm\1\0\0\0' > "$work/top/crates/moved/stdin"

@@ -1,7 +1,9 @@
 #!/usr/bin/env bash
-# Calls the library from JavaScript: tests/web.sh [FOLDER [PROGRAM]], the folder that web/build.sh left and the proved program where none are given, or
-# those of web/build.sh --unproved and of tools/unproved.sh. The callers stand in tests/web.
-#   worked.mjs   each call on modules whose bytes were worked out by hand (and faults.txt), an error of each kind, each way to load, memory that grows and runs out
+# Compares what the calls from JavaScript answer, and what the page shows, with what walrus-gc writes and with answers that were worked out by hand.
+# tests/web.sh [FOLDER [PROGRAM]], the folder that web/build.sh left and the proved program where none are given, or those of web/build.sh --unproved
+# and of tools/unproved.sh. The callers stand in tests/web.
+#   worked.mjs   each call on modules whose bytes were worked out by hand (and faults.txt), an error of each kind, each way to load, memory that grows, runs
+#                out and is let go
 #   beside.mjs   the modules of tests/samples, ../shared/samples (where it is there), made ones of tests/made (where wabt is there) and 2,000 mutants of them,
 #                beside the program under its words: the same bytes and statuses, and a fault where it refuses
 #   browser.py   the page in a headless Chromium (where one is there; chromium.py drives it): drops, the counts, lists, chains and download of these modules,

@@ -175,6 +175,8 @@ def main():
     kind, made, stamp = made_of(crate)
     if made.exists() and made.stat().st_mtime >= newest_source(crates):
         return
+    if not shutil.which("rt"):
+        sys.exit('build: there is no command rt, which comes with the Rattle kit; README.md, "Quick start", says what a build needs')
     begin = time.time()
     # rt takes a stamp away before it builds anew, so an older program has none
     for it in (made, stamp) if kind == "static" else ():

@@ -1,10 +1,15 @@
 #!/usr/bin/env python3
-"""Makes docs/CALLS.md, the public calls of the crate `walrus` in a line each; `tools/form.py` compares the two.
+"""Prints the public calls of a crate; and makes docs/CALLS.md, those of the crate `walrus` in a line each, which `tools/form.py` compares.
 
-    tools/calls.py          prints the page
+    tools/calls.py CRATE    prints the public calls of a crate of crates.txt, with the text of their clauses
+    tools/calls.py          prints docs/CALLS.md
     tools/calls.py --write  writes it
 
-A call is a public function of what `crates/walrus/src/lib.rt` hands on, of its public modules and of the types there, followed down the
+Of a crate are printed, file by file and as they stand there: the public functions, those of public types and of public traits, and laws, each
+with its comment, its signature and its clauses. Of a program these are the functions that its modules hand on (`pub(crate)` too) and that have a
+clause. What a crate hands on of others stands with those. A name that isn't in crates.txt is refused in a line, with status 2.
+
+A call of the page is a public function of what `crates/walrus/src/lib.rt` hands on, of its public modules and of the types there, followed down the
 `pub use` lines to where it stands; and of types that have no name there but come from such a call. The sources are taken apart with
 regular expressions, and Rust's grammar isn't known here: heads of items stand at the beginning of a line, those of methods four columns
 behind it, as `rt fmt` lays them out.
@@ -394,11 +399,99 @@ def page():
     return HEAD + re.sub(r"\n{3,}", "\n\n", "\n".join([*made.lines, *(laws if made.laws else [])])) + "\n"
 
 
+# A function that a crate may hand on: its margin, for whom it is, and its name.
+HANDED = re.compile(r'^((?:    )?)(pub(?:\(crate\))? )?(?:const |unsafe )*(?:extern "C" )?fn (\w+)', re.M)
+# A block of methods: its head, for whom it is where it is a trait, and the name of its type or of the trait.
+BLOCK = re.compile(r"^((pub(?:\(crate\))? )?(?:impl(?:<[^{]*?>)? (?:[^{]*? for )?|trait )(\w+)[^{]*?) \{", re.M)
+# What stands in front of the brace that opens a clause.
+BEFORE_CLAUSE = re.compile(r"\b(?:requires|ensures)\*?(?: \w+)?\s*\Z")
+
+
+def crate_names():
+    """The crates of crates.txt, lowest first."""
+    lines = source(TOP / "crates.txt").split("\n")
+    return [line.partition(":")[0].split()[0] for line in lines if line.strip() and not line.startswith("#")]
+
+
+def files_of(crate):
+    """The source files of a crate, but for those of its tests: `lib.rt` or `main.rt` first."""
+    paths = sorted((CRATES / crate / "src").rglob("*.rt"), key=lambda it: (it.name not in ("lib.rt", "main.rt"), it))
+    tests = {name for path in paths for name in re.findall(r"^#\[cfg\(test\)\]\n(?:pub )?mod (\w+);", source(path), re.M)}
+    return [path for path in paths if path.stem not in tests]
+
+
+def hidden_types(paths):
+    """The names of the types that these files define and don't hand on."""
+    found = [it for path in paths for it in re.findall(r"^(pub )?(?:pub\(crate\) )?(?:struct|enum|type) (\w+)", source(path), re.M)]
+    return {name for _, name in found} - {name for is_public, name in found if is_public}
+
+
+def end_of_head(text, at):
+    """Where the head of a function ends, with its clauses: in front of its body, or of the `;` of a trait's."""
+    depth = 0
+    for it in re.compile(r"[(\[{}\]);]").finditer(text, at):
+        if depth == 0 and (it[0] == ";" or it[0] == "{" and not BEFORE_CLAUSE.search(text, at, it.start())):
+            return it.start()
+        depth += {"(": 1, "[": 1, "{": 1, ";": 0}.get(it[0], -1)
+    raise SystemExit(f"tools/calls.py: no end is found of the function {text[at:at + 80]}")
+
+
+def as_it_stands(text, head):
+    """A function's comment, its signature and its clauses, and the braces of a law, word for word."""
+    end = end_of_head(text, head.end())
+    said = [head[1] + line for line in above(text, head.start()) if line.startswith("///")][::-1]
+    return "\n".join([*said, text[head.start():end].rstrip(), *([head[1] + "{}"] if text.startswith("{}", end) else [])])
+
+
+def head_of_block(text, block):
+    """What begins a block of methods; of a trait with its ghost members, since its clauses name them."""
+    inner = text[block.end():text.index("\n}", block.end())]
+    return "\n\n".join([block[1], *re.findall(r"^    ghost \w+:[^;]*;", inner, re.M)])
+
+
+def handed_by(path, hidden, is_program):
+    """The functions that a file hands on, as they stand, and the heads of blocks of methods in front of theirs."""
+    text, last = source(path), None
+    blocks = list(BLOCK.finditer(text))
+    for head in HANDED.finditer(text):
+        block = next((it for it in reversed(blocks) if it.start() < head.start()), None) if head[1] else None
+        seen = block[2] if block and "trait " in block[1] else head[2]
+        if not seen or not is_program and (seen != "pub " or block and block[3] in hidden):
+            continue
+        shown = as_it_stands(text, head)
+        if is_program and not re.search(r"^\s*(?:requires|ensures)\b", shown, re.M):
+            continue
+        if block and block is not last:
+            yield head_of_block(text, block)
+        last = block
+        yield shown
+
+
+def calls_of(crate):
+    """What is printed of a crate."""
+    paths = files_of(crate)
+    is_program = paths[0].name == "main.rt"
+    which = f"functions of the program `{crate}` that its modules hand on and that have a clause" if is_program else f"public calls of `{crate}`"
+    lines = [f"# The {which}, as they stand in its sources\n",
+             "What stands behind `requires` is the caller's to show, and what stands behind `ensures` is proved. docs/DEFINITIONS.md leads through the words.",
+             "A call that ends with `{}` is a law: it does nothing, and its clauses are statements. What is handed on of other crates stands with those."]
+    hidden = hidden_types(paths)
+    parts = [(path, list(handed_by(path, hidden, is_program))) for path in paths]
+    lines += [it for path, found in parts if found for it in (f"\n## {path.relative_to(TOP)}", *(f"\n{it}" for it in found))]
+    return "\n".join(lines if any(found for _, found in parts) else [*lines, "\nThere are none."]) + "\n"
+
+
 def main():
-    if sys.argv[1:] == ["--write"]:
+    asked = sys.argv[1:]
+    if asked == ["--write"]:
         PAGE.write_text(page(), encoding="utf-8")
-    else:
+    elif not asked:
         print(page(), end="")
+    elif len(asked) == 1 and asked[0] in crate_names():
+        print(calls_of(asked[0]), end="")
+    else:
+        print(f"tools/calls.py: crates.txt has no crate {' '.join(asked)}", file=sys.stderr)
+        sys.exit(2)
 
 
 main()

@@ -5,11 +5,12 @@
 
 Refused are: a file of src that doesn't begin with `//!`, or has more than 800 lines; a line of a clause of more than 110 columns;
 a body of a function of more than 40 lines; a bare hexadecimal number in src or specs outside the files that name such numbers; a
-README.md of more than 112 lines, or with one of more than 100 columns; documents of too many words or long sentences, and a link or a path
-in one that isn't there (prose.py); a crate that crates.txt lists for another one whose files don't name it; more ways down the crates than rt can sum up in a few minutes; more lines of lemmas above the
-crate that has their words; more wrong edits in the gate than its time allows; a wrong edit, of the gate or of tests/edits, whose old
-text doesn't stand exactly once in its file; a page docs/CALLS.md that isn't what tools/calls.py makes of the sources; a name that docs/DIFFERENCES.md calls absent and that is there; and a file that isn't in
-the layout of `rt fmt`.
+README.md of more than 112 lines, or with one of more than 100 columns; documents of too many words or with too many long sentences, and
+a link or a path in one that isn't there (prose.py); a crate that crates.txt lists for another one whose files don't name it; more ways
+down the crates than rt can sum up in a few minutes; more lines of lemmas above the crate that has their words; more wrong edits in the
+gate than its time allows; a wrong edit, of the gate or of tests/edits, whose old text doesn't stand exactly once in its file; a page
+docs/CALLS.md that isn't what tools/calls.py makes of the sources; a name that docs/DIFFERENCES.md calls absent and that is there; and a
+file that isn't in the layout of `rt fmt`.
 """
 import collections
 import concurrent.futures

@@ -20,8 +20,8 @@ MOST_WORDS = 27_000
 MOST_WORDS_A_SENTENCE_OF_THE_README = 16
 # Documents that a script makes.
 MADE = ("docs/CALLS.md", "docs/THEOREM.md")
-# Folders whose files are made, and never kept in the repository.
-UNKEPT = ("out", "dist", "release")
+# Folders whose files are made, and never kept in the repository; and the crate that a reader of an example makes.
+UNKEPT = ("out", "dist", "release", "mine")
 
 
 def documents_by_hand():

@@ -5,7 +5,7 @@
 #   index.html        a page over it, with page.js, page.css, treemap.js and worker.js: any static host serves the folder
 #   package.json, LICENSE
 # It proves the crates first, as tools/build.sh mulkavesh_c, where that isn't done yet, and takes LLVM's module of what was proved. With --unproved that is of
-# tools/unproved.sh: nothing in it is proved, and it takes four minutes of one processor and 1.5 GB. web/README.md says what is trusted. Nothing is needed but
+# tools/unproved.sh: nothing in it is proved, and it takes five minutes of one processor and 1.5 GB. web/README.md says what is trusted. Nothing is needed but
 # the kit; where there is node, the library makes itself smaller at the end.
 set -eu
 here=$(cd "$(dirname "$0")" && pwd)
@@ -13,6 +13,7 @@ top=$(dirname "$here")
 way=()
 [ "${1-}" != --unproved ] && way=(--proved) || shift
 [ $# -le 1 ] || { echo "usage: web/build.sh [--unproved] [OUT]" >&2; exit 2; }
+"$top/tools/build.sh" --needs web
 out=${1:-$here/dist}
 kit=$(dirname "$(dirname "$(readlink -f "$(command -v rt)")")")
 clang=$kit/toolchain/bin/clang

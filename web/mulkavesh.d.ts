@@ -18,7 +18,7 @@ export interface Listed {
   index: number;
   /** The bytes of its body in the output. */
   size: number;
-  /** Its name in the input, if it has one. */
+  /** Its name as the input's name section has it, or null. */
   name: string | null;
 }
 
@@ -45,13 +45,23 @@ export interface Mulkavesh {
   diagnose(input: Bytes, options?: Options): Fault | null;
   /** The functions with a body that `gc` keeps, by rising index. */
   list(input: Bytes, options?: Options): Listed[];
-  /** The module without its first custom section of this name, or NotFound; what nothing reaches stays. */
+  /**
+   * The module without its first custom section of this name, or NotFound. What nothing reaches stays, but all is written anew as by `gc`: functions are ordered by
+   * size, debug information is gone, and other custom sections are as they were, and so stale where they hold indices. Names, producers and debug information
+   * aren't found by it.
+   */
   strip(input: Bytes, name: string | Bytes, options?: Options): Uint8Array;
-  /** By which references the function of this index stays, a line for each item, a root first; or that it isn't reached; or NotFound. */
+  /** By which references the function of this index stays, a line for each item of a chain, a root first; or that it isn't reached; or NotFound. Which chain it is isn't promised. */
   why(input: Bytes, index: number): string;
-  /** The module where the function that is exported under this name traps, without what nothing reaches then; or NotFound. */
+  /**
+   * The module where the function that is exported under this name is replaced by one that traps, without what nothing reaches then; or NotFound. The old function
+   * stays where calls, tables or further exports reach it.
+   */
   snip(input: Bytes, name: string | Bytes): Uint8Array;
-  /** The module where each function that is imported from the module of this name traps, without what nothing reaches then. */
+  /**
+   * The module where each function that is imported from the module of this name is one of its own, which traps, without what nothing reaches then. What it answers
+   * where no function is imported from such a module is no promise.
+   */
   stub(input: Bytes, from: string | Bytes): Uint8Array;
   /** The version of the library, as `0.1.0`. */
   version(): string;

@@ -40,7 +40,7 @@ const ROOM_OF_A_REPORT = 512;
 // Two numbers of 32 bits.
 const ROOM_OF_A_FAULT = 8;
 const ROOM_OF_A_CHAIN = 4096;
-// Memory of WebAssembly never shrinks: an instance that has come to more is left behind.
+// Memory of WebAssembly never shrinks: an instance that has come to more is left behind, however the call ends.
 const MOST_MEMORY = 64 * 1024 * 1024;
 const NO_NAME = 2 ** 32 - 1;
 
@@ -115,6 +115,19 @@ class Call {
       room = count;
     }
   }
+
+  // Lends what is given, and answers or refuses; either way all is given back. Where the library stops nothing is, since its memory may be in disorder then.
+  run(name, input, between, guess) {
+    try {
+      const words = [...this.lend(input), ...between.flatMap((it) => (typeof it === 'number' ? [it] : this.lend(it)))];
+      const answer = this.answer(name, words, guess);
+      this.giveBack();
+      return answer;
+    } catch (error) {
+      if (error instanceof MulkaveshError) this.giveBack();
+      throw error;
+    }
+  }
 }
 
 function listOf(bytes) {
@@ -157,26 +170,25 @@ function faultOf(bytes) {
   return FAULTS[view.getUint32(0, true)](view.getUint32(4, true));
 }
 
-// What holds the instance: one call at a time, since none of them waits.
+// What holds the instance between calls: one call at a time, since none of them waits. Behind a call it holds none where the library stopped or has come to
+// too much memory. Nor does an error that a caller keeps: V8 keeps with it what stands on the stack, until the error's `stack` is read. So the call lets the
+// instance go, and the stack of what stopped the library, on which the instance stands itself, is read.
 function caller(module) {
   let exports = null;
   const begin = () => new WebAssembly.Instance(module, {}).exports;
   return function call(name, input, between, guess) {
-    exports ??= begin();
-    const one = new Call(exports);
+    const one = new Call(exports ?? begin());
+    exports = null;
     try {
-      const words = [...one.lend(input), ...between.flatMap((it) => (typeof it === 'number' ? [it] : one.lend(it)))];
-      const answer = one.answer(name, words, guess);
-      one.giveBack();
-      if (exports.memory.buffer.byteLength > MOST_MEMORY) exports = null;
-      return answer;
+      return one.run(name, input, between, guess);
     } catch (error) {
-      if (error instanceof MulkaveshError) {
-        one.giveBack();
-        throw error;
-      }
-      exports = null;
+      if (error instanceof MulkaveshError) throw error;
+      void error.stack;
+      one.exports = null;
       throw new Trapped('TRAPPED', `the library stopped: ${error.message}`, { cause: error });
+    } finally {
+      if (one.exports?.memory.buffer.byteLength <= MOST_MEMORY) exports = one.exports;
+      one.exports = null;
     }
   };
 }

@@ -97,5 +97,7 @@ self.onmessage = async ({ data }) => {
     const code = error instanceof MulkaveshError ? error.code : error.name;
     const fault = code === 'INVALID' ? await faultWith(data.options) : null;
     tell('refused', { code, message: error.message, first: bytes?.slice(0, BYTES_TO_LOOK_AT) ?? null, fault, last: true });
+    // Nothing more is asked of a file that is refused.
+    if (data.word === 'take') forget();
   }
 };

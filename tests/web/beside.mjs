@@ -1,6 +1,7 @@
-// Holds the calls `gc` and `report` against the program, and `diagnose`, which has to find nothing wrong exactly where the program accepts:
-// node tests/web/beside.mjs FOLDER PROGRAM MUTANTS MODULES.. , each but the program a folder. The modules go under each of the eight sets of words, a mutant under
-// one of the sixteen ways. The other calls are held against one another. tests/web.sh calls it.
+// Compares what the calls from JavaScript answer with what walrus-gc writes of the same modules, and with one another.
+// node tests/web/beside.mjs FOLDER PROGRAM MUTANTS MODULES.. , each but the program a folder. tests/web.sh calls it.
+// The calls `gc` and `report` are held against the program, and `diagnose`, which has to find nothing wrong exactly where the program accepts; the other calls
+// against one another. The modules go under each of the eight sets of words, a mutant under one of the sixteen ways.
 import { spawnSync } from 'node:child_process';
 import { readFileSync, readdirSync } from 'node:fs';
 import { basename, join } from 'node:path';

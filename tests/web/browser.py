@@ -1,9 +1,12 @@
 #!/usr/bin/env python3
-"""Drives the page of web/index.html in a headless Chromium, as a user does: tests/web/browser.py CHROMIUM FOLDER PROGRAM MODULES.. , of which CHROMIUM is a
-command, FOLDER what web/build.sh left, PROGRAM walrus-gc, and MODULES folders of modules. tests/web.sh calls it.
+"""Compares what the page of web/index.html shows in a headless Chromium with what walrus-gc writes and the library answers:
 
-Each test drops or picks a file, and holds what the page then shows against what the program writes, or what the library's calls in FOLDER answer. Prints the
+    tests/web/browser.py CHROMIUM FOLDER PROGRAM MODULES..
+
+CHROMIUM is a command, FOLDER what web/build.sh left, PROGRAM walrus-gc, and MODULES are folders of modules. tests/web.sh calls it. The page is driven as a user
+does. Each test drops or picks a file, and holds what the page then shows against what the program writes, or what the library's calls in FOLDER answer. Prints the
 count of comparisons, the times, and a line for each find. Where the environment variable MULKAVESH_SCREENS names a folder, screenshots are left there.
+docs/pictures/page.png is page.png of these, made smaller by `optipng -o7 -strip all`, where ../shared/samples is among MODULES.
 """
 import base64
 import functools
@@ -476,6 +479,21 @@ def with_most(test, limit):
     return max((name for name in sizes if sizes[name] < limit), key=sizes.get)
 
 
+def picture(test, name):
+    """The picture of README.md: the functions that stay, and why the second one does."""
+    page = test.page
+    page.size(1040, 900)
+    page.call("Emulation.setScrollbarsHidden", hidden=True)
+    test.drop(test.modules[name])
+    page.click("#map button:nth-child(2)")
+    chain_shown(test)
+    page.call("Input.dispatchMouseEvent", type="mouseMoved", x=1, y=1)
+    clip = page.value("""(() => { const [all, last] = ['functions', 'caption'].map((it) => document.getElementById(it).getBoundingClientRect());
+        return { x: all.x + scrollX, y: all.y + scrollY, width: all.width, height: last.bottom + 12 - all.y, scale: 1 }; })()""")
+    data = page.call("Page.captureScreenshot", format="png", captureBeyondViewport=True, clip=clip)["data"]
+    (pathlib.Path(test.screens) / "page.png").write_bytes(base64.b64decode(data))
+
+
 def tests(test):
     """Each test as a call with no argument, in a page of its own but for the module of 20 MB."""
     largest, small = with_most(test, 10_000_000), with_most(test, 20_000)
@@ -493,6 +511,8 @@ def tests(test):
     yield functools.partial(looks, test, largest)
     yield functools.partial(large, test, small)
     yield functools.partial(policy, test, small)
+    if test.screens:
+        yield functools.partial(picture, test, with_most(test, 50_000))
 
 
 def run_all(test):

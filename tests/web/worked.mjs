@@ -1,10 +1,13 @@
-// Each call on modules whose bytes were worked out by hand (those of crates/walrus_tools/src/samples.rt and python/tests/worked.py; for `diagnose` those of
-// tests/faults.txt), an error of each kind, each way to load, and memory: node tests/web/worked.mjs FOLDER, that of mulkavesh.js. tests/web.sh calls it. Prints
-// the count and a line for each find.
+// Compares what each call from JavaScript answers with answers that were worked out by hand, and the memory behind a large call with that behind a small one.
+// node tests/web/worked.mjs FOLDER, that of mulkavesh.js. tests/web.sh calls it.
+// The modules are those of crates/walrus_tools/src/samples.rt and python/tests/worked.py, for `diagnose` those of tests/faults.txt. Tried are also an error of
+// each kind and each way to load. Prints the count and a line for each find.
 import assert from 'node:assert/strict';
 import { readFileSync } from 'node:fs';
 import { join } from 'node:path';
 import { pathToFileURL } from 'node:url';
+import v8 from 'node:v8';
+import vm from 'node:vm';
 
 const folder = process.argv[2], here = pathToFileURL(join(folder, 'mulkavesh.js'));
 const wasm = readFileSync(join(folder, 'mulkavesh.wasm'));
@@ -69,6 +72,13 @@ function large(size) {
   return made;
 }
 
+// A header, and so many bytes that are no section.
+function junk(size) {
+  const made = new Uint8Array(8 + size).fill(0xFF);
+  made.set(module());
+  return made;
+}
+
 // The lines of tests/faults.txt: the options, the fault that is to be told, and the bytes.
 function faults() {
   const rules = [, 'Order', 'Types', 'Indices', 'FunctionTypes', 'Limits', 'Counts', 'ExportNames', 'Start', 'Offsets', 'Locals'];
@@ -115,12 +125,84 @@ function withMost(pages) {
   }
 }
 
+// ---- memory
+
+const MB = 1 << 20, LARGE = 64 * MB;
+
+// The memories of the instances that are made.
+const memories = [];
+const { Instance } = WebAssembly;
+WebAssembly.Instance = function watched(...words) {
+  const made = new Instance(...words);
+  memories.push(new WeakRef(made.exports.memory));
+  return made;
+};
+v8.setFlagsFromString('--expose-gc');
+const collect = vm.runInNewContext('gc');
+
+const sizes = () => memories.map((it) => it.deref()?.buffer.byteLength ?? 0);
+
+// How many bytes of memory are left, when all is gone that nothing reaches. What a WeakRef was asked for is there up to the next task.
+async function memoryLeft() {
+  for (let times = 0; times < 3; times++) {
+    await new Promise(setImmediate);
+    collect();
+  }
+  return sizes().reduce((sum, it) => sum + it, 0);
+}
+
+// The error of a call, whose stack nobody reads, or null.
+function errorOf(call) {
+  try {
+    call();
+    return null;
+  } catch (error) {
+    return error;
+  }
+}
+
 // ---- what is tried
 
 const alone = { producers: false };
 const equals = (found, wanted) => assert.equal(Buffer.from(found).toString('hex'), Buffer.from(wanted).toString('hex'));
 const refuses = (kind, code, call) =>
   assert.throws(call, (error) => error.constructor === kind && error instanceof MulkaveshError && error.code === code && error.message !== '');
+
+// Ways in which a call ends: the library, what is thrown, and the call of it on a module of about so many bytes. There is no room at all for one of 128 MB in
+// 94 MB of memory, which so stays small; one of 64 MB comes in, and then there is none for the answer.
+const ENDS = {
+  'an answer': [() => wasm, null, (it, size) => it.gc(large(size))],
+  'no module': [() => wasm, InvalidModule, (it, size) => it.gc(junk(size))],
+  'no module, in a list': [() => wasm, InvalidModule, (it, size) => it.list(junk(size))],
+  'a module without its last byte': [() => wasm, InvalidModule, (it, size) => it.gc(large(size).subarray(0, -1))],
+  'a name that is not there': [() => wasm, NotFound, (it, size) => it.strip(large(size), 'c')],
+  'an index that is not there': [() => wasm, NotFound, (it, size) => it.why(large(size), 0)],
+  'memory that runs out': [() => withMost(1500), OutOfMemory, (it, size) => it.gc(large(size < LARGE ? 2 * LARGE : size))],
+  'a trap': [() => snip(wasm, 'mulkavesh_gc'), Trapped, (it, size) => it.gc(large(size))],
+  'wrong arguments': [() => wasm, TypeError, (it, size) => it.gc(large(size), { names: 0 })],
+};
+
+// A large call leaves no more memory behind than a small one, even while its error is kept.
+async function leavesNoMore([made, kind, call]) {
+  const library = await load(made()), kept = [];
+  memories.length = 0;
+  const ends = (size) => {
+    const error = errorOf(() => call(library, size));
+    assert.equal(error?.constructor, kind ?? undefined);
+    kept.push(error);
+  };
+  ends(1000);
+  const left = await memoryLeft();
+  assert.ok(left < 4 * MB, `${left} bytes behind a small call`);
+  for (let times = 0; times < 3; times++) {
+    ends(LARGE);
+    assert.ok(kind === TypeError || Math.max(...sizes()) > LARGE);
+    const now = await memoryLeft();
+    assert.ok(now <= left, `${now} bytes behind a large call, ${left} behind a small one`);
+  }
+  assert.equal(library.report(TWO), REPORT);
+  assert.equal(kept.length, 4);
+}
 
 const TRIES = {
   gc: () => equals(gc(TWO, alone), ONE),
@@ -200,6 +282,7 @@ const TRIES = {
       equals(gc(TWO, alone), ONE);
     }
   },
+  ...Object.fromEntries(Object.entries(ENDS).map(([end, way]) => [`memory behind ${end}`, () => leavesNoMore(way)])),
   'each way to load': async () => {
     const { buffer, byteOffset, length } = wasm, address = new URL('mulkavesh.wasm', here);
     for (const source of [address, 'mulkavesh.wasm', address.href, wasm, buffer.slice(byteOffset, byteOffset + length), new WebAssembly.Module(wasm)]) {

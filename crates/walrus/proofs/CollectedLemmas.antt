@@ -10,7 +10,7 @@ use Rattle.walrus_base.specs.Marks.{is_marked}
 use Rattle.walrus_base.specs.declared.marks.Marks.{Marks}
 use Rattle.walrus_base.proofs.Kept.{kept_marked, kept_there, kept_was, length-kept_by}
 use Rattle.walrus_base.specs.Types.{sub_names}
-use Rattle.walrus_base.specs.ModuleTypes.{type_names as names_of_types, type_slots}
+use Rattle.walrus_base.specs.ModuleTypes.{type_slots}
 use Rattle.walrus_base.specs.declared.module_types.ModuleTypes.{ModuleTypes}
 use Rattle.walrus_base.specs.Operators.{Types, Functions, Tables, Memories, Tags, Globals, Elements, DataSegments, Item, type_item}
 use Rattle.walrus_base.specs.PlaceList.{has}
@@ -174,17 +174,8 @@ module _ (customs : List Custom) (roots : List Item) (held : Contents) (kept_typ
   left = record held { types = kept_types; imports = kept_imports; funcs = kept_funcs; tables = kept_tables; memories = kept_memories; tags = kept_tags; globals = kept_globals; elements = kept_lists; data_ = kept_segments }
 
   -- what is left of each kind
-  pub record AreKept : Type 0 where
-    pub types : slots.KeepsOnly (λ i. Kept (viewed customs roots held) (Types, i)) (type_slots held.types) (type_slots kept_types)
-    pub type_names : slots.KeepsOnly (λ i. Kept (viewed customs roots held) (Types, i)) (names_of_types held.types) (names_of_types kept_types)
-    pub imports : slots.KeepsOnly (IsImportOf (Kept (viewed customs roots held)) (viewed customs roots held)) (imports_in held.imports) (imports_in kept_imports)
-    pub functions : slots.KeepsOnly (λ i. Kept (viewed customs roots held) (Functions, i)) (functions held.funcs) (functions kept_funcs)
-    pub tables : slots.KeepsOnly (λ i. Kept (viewed customs roots held) (Tables, i)) (tables_in held.tables) (tables_in kept_tables)
-    pub memories : slots.KeepsOnly (λ i. Kept (viewed customs roots held) (Memories, i)) (memories_in held.memories) (memories_in kept_memories)
-    pub tags : slots.KeepsOnly (λ i. Kept (viewed customs roots held) (Tags, i)) (tags_in held.tags) (tags_in kept_tags)
-    pub globals : slots.KeepsOnly (λ i. Kept (viewed customs roots held) (Globals, i)) (globals_in held.globals) (globals_in kept_globals)
-    pub elements : slots.KeepsOnly (λ i. Kept (viewed customs roots held) (Elements, i)) (elements_in held.elements) (elements_in kept_lists)
-    pub data_segments : slots.KeepsOnly (λ i. Kept (viewed customs roots held) (DataSegments, i)) (data_segments_in held.data_) (data_segments_in kept_segments)
+  abbrev pub AreKept : Type 0
+  AreKept = slots.KeepsItems (Kept (viewed customs roots held)) (IsImportOf (Kept (viewed customs roots held)) (viewed customs roots held)) held left
 
   -- what is kept keeps its name
   names_kept : AreKept → (y : Subject) → IsSubjectOf (Kept (viewed customs roots held)) y → (viewed customs roots left).named y ≡ (viewed customs roots held).named y

@@ -1,6 +1,6 @@
 -- What a search for used items finds is what the abstract module says is reached, kept and sound.
 use Rattle.std.proofs.Common.{◌≡◌, ℕ, ◌≤◌, ◌⊎◌, inl, inr, ⊎_elim, Bool, true, false, List, [], ◌++◌, flat_map, sym, ap, ◌∙◌, subst, refl}
-use Rattle.std.specs.Prelude.{◌↔◌, Contains, option_map, Result, Ok, Err, IfOk, IfErr, OnOk, MatchResult}
+use Rattle.std.specs.Prelude.{◌↔◌, Contains, option_map, Result, Ok, Err, MatchResult}
 use Rattle.std.proofs.lemmas.Bool.{false≢true}
 use Rattle.std.proofs.lemmas.List.Elements.{Contains-append_left, Contains-append_right, Contains-append_cases}
 use Rattle.walrus_base.specs.Arena.{item_at, items}
@@ -141,25 +141,14 @@ module _ (v : abstract.Abstract) where
   abbrev pub IsFound : Result (MarkedItems × ℕ) Error → Type 0
   IsFound r = MatchResult r (λ found. Finds v found.0 found.1) (IsRefusal (ReachesUnsound v))
 
-  pub kept_by : (r : Result (MarkedItems × ℕ) Error) → IsFound r → IfOk r (λ found. MarksAreKept v found.0)
-  kept_by (Ok found) f = f.kept
-  kept_by (Err e) f = tt
-
-  pub counted_by : (r : Result (MarkedItems × ℕ) Error) → IsFound r → IfOk r (λ found. ReachedCount v found.1)
-  counted_by (Ok found) f = f.count
-  counted_by (Err e) f = tt
-
-  pub sound_by : (r : Result (MarkedItems × ℕ) Error) → IsFound r → OnOk r (ReachesSound v)
-  sound_by (Ok found) f = f.sound
-  sound_by (Err e) f = tt
-
-  pub refused_by : (Q : Type 0) (r : Result (MarkedItems × ℕ) Error) → IsFound r → IfErr r (RefusesSearch (ReachesUnsound v) Q)
-  refused_by Q (Ok found) f = tt
-  refused_by Q (Err e) h = refused_search e h where
-    refused_search : (e : Error) → IsRefusal (ReachesUnsound v) e → RefusesSearch (ReachesUnsound v) Q e
-    refused_search (errors.Memory m) h = tt
-    refused_search errors.DeadItem h = h
-    refused_search _ h = absurd h
+-- a search of a module with custom sections can be refused by one of these, too
+pub or_by_a_section : {X : Type 0} (P Q : Type 0) (Finds : X → Type 0) (r : Result X Error) → MatchResult r Finds (IsRefusal P) → MatchResult r Finds (RefusesSearch P Q)
+or_by_a_section P Q Finds (Ok x) h = h
+or_by_a_section P Q Finds (Err e) h = refused_too e h where
+  refused_too : (e : Error) → IsRefusal P e → RefusesSearch P Q e
+  refused_too (errors.Memory m) h = tt
+  refused_too errors.DeadItem h = h
+  refused_too _ h = absurd h
 
 -- a section that is asked for what it keeps refuses
 pub asked_refused : (P Q : Type 0) (e : Error) → IsRefusedBy Q e → RefusesSearch P Q e

@@ -1,6 +1,6 @@
 -- The report on the module in memory is that on the module that was read: but for types both have the same items, and the same of them are kept.
 use Rattle.std.proofs.Common.{◌≡◌, ℕ, List, codes, subst, Result, Ok, Err}
-use Rattle.std.specs.Prelude.{IfOk, IfErr, ◌↔◌}
+use Rattle.std.specs.Prelude.{MatchResult, ◌↔◌}
 use Rattle.walrus_base.specs.Operators.{Space, Types, Functions, Tables, Memories, Tags, Globals, Elements, DataSegments}
 use Rattle.walrus_model.specs.Abstract.{Abstract}
 use Rattle.walrus_model.specs.Config.{Config}
@@ -78,18 +78,16 @@ module _ (c : Config) (m v : Abstract) (p : ParsedAs c m v) (plain : IsPlain m) 
 -- ---- what the whole way answers
 
 module _ {X : Type 0} (c : Config) (view : X → List ℕ) (Q : Type 0) (never : Q → ⊥) where
-  reported_for : (bytes : List ℕ) (v : Abstract) (result : Result X Error) → IsParsed c bytes v → IfOk result (λ x. IsReport v (view x))
-      → IfErr result (RefusesSearch (ReachesUnsound v) Q) → ReportsOn c bytes view result
-  reported_for bytes v (Ok x) parsed report refused = record {
+  reported_for : (bytes : List ℕ) (v : Abstract) (result : Result X Error) → IsParsed c bytes v → MatchResult result (λ x. IsReport v (view x)) (RefusesSearch (ReachesUnsound v) Q) → ReportsOn c bytes view result
+  reported_for bytes v (Ok x) parsed report = record {
     module_read = parsed.module_read;
     reads = parsed.reads;
     holds = parsed.holds;
     report = report_read c parsed.module_read v parsed.parsed (read_is_plain c bytes parsed.module_read parsed.reads) parsed.holds (view x) report;
   }
-  reported_for bytes v (Err e) parsed report refused = search_refused c view (IsReportOf c) (λ b. ⊥) Q bytes v e parsed never refused
+  reported_for bytes v (Err e) parsed refused = search_refused c view (IsReportOf c) (λ b. ⊥) Q bytes v e parsed never refused
 
   -- what the report on the module in memory answers is the answer for the bytes
-  pub reported : (bytes text : List ℕ) → text ≡ bytes → (v : Abstract) (result : Result X Error) → IsParsed c text v → IfOk result (λ x. IsReport v (view x))
-      → IfErr result (RefusesSearch (ReachesUnsound v) Q) → ReportsOn c bytes view result
-  reported bytes text same v result parsed report refused =
-      subst (λ (b : List ℕ). ReportsOn c b view result) same (reported_for text v result parsed report refused)
+  pub reported : (bytes text : List ℕ) → text ≡ bytes → (v : Abstract) (result : Result X Error) → IsParsed c text v
+      → MatchResult result (λ x. IsReport v (view x)) (RefusesSearch (ReachesUnsound v) Q) → ReportsOn c bytes view result
+  reported bytes text same v result parsed searched = subst (λ (b : List ℕ). ReportsOn c b view result) same (reported_for text v result parsed searched)

@@ -1,6 +1,6 @@
 -- Modules that differ in custom sections alone, where these ask to keep the same items: their chains of references are the same.
 use Rattle.std.proofs.Common.{◌≡◌, List, [], ◌∷◌, flat_map, Option, Some, None, subst}
-use Rattle.std.specs.Prelude.{option_map, Result, Ok, Err, IfErr, IfOk, MatchResult}
+use Rattle.std.specs.Prelude.{option_map, Result, Ok, Err, MatchResult}
 use Rattle.std.specs.Global.{Vec}
 use Rattle.walrus_base.specs.Operators.{Item}
 use Rattle.walrus_code.specs.declared.items.ItemId.{ItemId}
@@ -8,7 +8,6 @@ use Rattle.walrus_model.specs.Abstract.{Abstract, Custom}
 use Rattle.walrus_items.specs.Roots.{RootLists, no_roots, with_roots}
 use Rattle.walrus_items.specs.declared.custom.CustomSection.{Ghosts}
 use Rattle.walrus_items.specs.declared.error.Error.{Error}
-use Rattle.walrus_items.specs.declared.error.Error.TheVariants as errors
 use Rattle.walrus_contents.specs.Named.{items_in}
 use Rattle.walrus_contents.specs.There.{IsRefusal}
 use Rattle.walrus_contents.proofs.NamedLemmas.{refusal_map}
@@ -19,7 +18,6 @@ use Rattle.walrus_module.specs.declared.module.Module.{Module}
 use Rattle.walrus_theorem.proofs.SameItems.{with_own}
 use Rattle.walrus.specs.Asked.{asked_items}
 use Rattle.walrus.specs.Marked.{ReachesUnsound}
-use Rattle.walrus.specs.Used.{RefusesSearch}
 use Rattle.walrus.specs.Why.{Explains, IsChain, IsWay}
 use Rattle.walrus.proofs.AskedItems.{asked_are_kept}
 use Rattle.walrus.proofs.SameRoots.{SameMembers, back, refers_on, root_on, unsound_still}
@@ -62,17 +60,3 @@ explained_of G m asked is parts are x r found =
     explained_on (with_own (held_view m) [] (asked_items asked)) (view G m).customs (view G m).section_roots
     (asked_are_kept asked (flat_map (λ (s : Meaning). s.roots) (meanings G m)) is) x r
     (subst (λ (p : Abstract). IsExplained (with_own p [] (asked_items asked)) x r) are found)
-
--- ---- the clauses
-
-pub explained_by : (v : Abstract) (x : Item) (r : Result (Option (Vec ItemId)) Error) → IsExplained v x r → IfOk r (λ chain. Explains v x (option_map items_in chain))
-explained_by v x (Ok answer) h = h
-explained_by v x (Err e) h = tt
-
-pub chain_refused : (v : Abstract) (x : Item) (Q : Type 0) (r : Result (Option (Vec ItemId)) Error) → IsExplained v x r → IfErr r (RefusesSearch (ReachesUnsound v) Q)
-chain_refused v x Q (Ok answer) h = tt
-chain_refused v x Q (Err e) h = by e h where
-  by : (e : Error) → IsRefusal (ReachesUnsound v) e → RefusesSearch (ReachesUnsound v) Q e
-  by (errors.Memory m) h = tt
-  by errors.DeadItem h = h
-  by _ h = absurd h

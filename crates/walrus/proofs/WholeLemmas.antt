@@ -1,8 +1,9 @@
 -- What was parsed, and is emitted as it is, comes whole.
-use Rattle.std.proofs.Common.{ℕ, List, subst}
-use Rattle.std.specs.Prelude.{Ok}
+use Rattle.std.proofs.Common.{ℕ, List, Result, Ok, Err, subst}
+use Rattle.std.specs.Prelude.{IfOk}
 use Rattle.std.specs.Global.{Vec}
 use Rattle.walrus_items.specs.declared.custom.CustomSection.{Ghosts}
+use Rattle.walrus_items.specs.declared.error.Error.{Error}
 use Rattle.walrus_model.specs.Config.{Config}
 use Rattle.walrus_theorem.specs.Chain.{Leaves}
 use Rattle.walrus_theorem.specs.Refused.{PassesLimits}
@@ -10,18 +11,19 @@ use Rattle.walrus_theorem.specs.WellMade.{IsWellMade}
 use Rattle.walrus_theorem.specs.Whole.{ComesWhole}
 use Rattle.walrus_module.specs.Emitted.{told}
 use Rattle.walrus_module.specs.Answered.{IsWellWritten, WritesUnless}
+use Rattle.walrus_module.specs.Emission.{EmitsBytes}
 use Rattle.walrus_module.specs.Flags.{Flags, config_of}
 use Rattle.walrus_module.specs.Following.{OneMayRefuseThen}
 use Rattle.walrus_module.specs.View.{view}
 use Rattle.walrus_module.specs.declared.entry.SectionEntry.{SectionEntry}
 use Rattle.walrus_module.specs.declared.module.Module.{Module}
-use Rattle.walrus.specs.Whole.{Parses, EmitsBytes, ParsedIsWritten}
+use Rattle.walrus.specs.Whole.{Parses, ParsedIsWritten}
 use Rattle.walrus_theorem.proofs.StepLive.{plain_comes_out}
 use Rattle.walrus_theorem.proofs.WritableParsed.{parsed_is_well}
 use Rattle.walrus_module.proofs.RawStays.{all_raw, leaves_whole}
 
 module _ {V : Type 0} {O : V → Type 0} (G : (v : V) → Ghosts (O v)) where
-  come_whole : (f : Flags) (bytes : List ℕ) (old new : Module (SectionEntry V O)) (output : Vec ℕ) → Parses G f bytes old → EmitsBytes G old new output → ComesWhole (config_of f) bytes output.items
+  come_whole : (f : Flags) (bytes : List ℕ) (old new : Module (SectionEntry V O)) (output : Vec ℕ) → Parses G f bytes old → EmitsBytes G old new (Ok output) → ComesWhole (config_of f) bytes output.items
   come_whole f bytes old new output parses emits =
       let c : Config = config_of f in
       let parsed = parses.found in
@@ -48,3 +50,9 @@ module _ {V : Type 0} {O : V → Type 0} (G : (v : V) → Ghosts (O v)) where
 
   pub parsed_is_written : ParsedIsWritten G
   parsed_is_written f bytes old new output parses emits = come_whole f bytes old new output parses emits
+
+  -- so is what emission answers, whatever that is
+  pub whole_answer : (f : Flags) (bytes : List ℕ) (old new : Module (SectionEntry V O)) (result : Result (Vec ℕ) Error) → Parses G f bytes old → EmitsBytes G old new result
+      → IfOk result (λ (output : Vec ℕ). ComesWhole (config_of f) bytes output.items)
+  whole_answer f bytes old new (Ok output) parses emits = come_whole f bytes old new output parses emits
+  whole_answer f bytes old new (Err e) parses emits = tt

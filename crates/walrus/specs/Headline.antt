@@ -12,8 +12,8 @@ use Rattle.walrus.specs.declared.tool.ToolError.{ToolError}
 use Rattle.walrus.specs.declared.tool.ToolError.TheVariants as tool
 
 -- What the bytes come to. Where a run under the same configuration wrote the bytes, the output is the same bytes again; so no item is dropped, no
--- segment and no shape of a type is added, and custom sections, producers and names stay. No engine that comes to items by names alone can tell
--- the module that was written from the one that was read.
+-- segment and no shape of a type is added, and custom sections, producers and names stay. No engine that comes to items by references alone
+-- tells the module that was written from the one that was read.
 pub record ComesOut (c : Config) (bytes output : List ℕ) : Type 0 where
   pub comes : ComesTo c bytes output
   pub settled : (before : List ℕ) → ComesTo c before bytes → IsSettled c bytes output

@@ -1,5 +1,5 @@
 -- What a search for used items finds, and when it refuses.
-use Rattle.std.specs.Prelude.{ℕ, ◌≡◌, ◌↔◌, true, List, ◌++◌, ◌⊎◌, take, Contains, ⊤}
+use Rattle.std.specs.Prelude.{ℕ, ◌≡◌, ◌≤◌, ◌↔◌, true, List, ◌++◌, ◌⊎◌, take, Contains, MatchResult, Result, ⊤}
 use Rattle.walrus_base.specs.Operators.{Item}
 use Rattle.walrus_model.specs.Abstract.{Abstract}
 use Rattle.walrus_model.specs.Kept.{ReachedCount}
@@ -7,14 +7,22 @@ use Rattle.walrus_model.specs.Live.{IsLive}
 use Rattle.walrus_model.specs.Reached.{Reached}
 use Rattle.walrus_model.specs.Refers.{Refers}
 use Rattle.walrus_model.specs.Roots.{IsRoot}
+use Rattle.walrus_items.specs.declared.custom.CustomSection.{Ghosts}
 use Rattle.walrus_items.specs.declared.error.Error.{Error}
 use Rattle.walrus_items.specs.declared.error.Error.TheVariants.{Memory, DeadItem, Caller}
 pub use Rattle.walrus_contents.specs.There.{IsRefusal}
 use Rattle.walrus_contents.specs.Named.{group_names}
 use Rattle.walrus_contents.specs.There.{IsSound}
+use Rattle.walrus_module.specs.Asked.{OneMayRefuse}
+use Rattle.walrus_module.specs.View.{contents_of, meanings, view}
+use Rattle.walrus_module.specs.declared.entry.SectionEntry.{SectionEntry}
+use Rattle.walrus_module.specs.declared.module.Module.{Module}
+use Rattle.walrus.specs.LiveCount.{live_count}
+use Rattle.walrus.specs.Marked.{MarksAreKept, MarksKept, ReachesSound, ReachesUnsound}
 use Rattle.walrus.specs.MarkedItems.{HavePlaces, has_mark}
 use Rattle.walrus.specs.Worklist.{Keeps, entered_items}
 use Rattle.walrus.specs.declared.passes.marks.MarkedItems.{MarkedItems}
+use Rattle.walrus.specs.declared.passes.used.Used.{Used}
 use Rattle.walrus.specs.declared.passes.worklist.Worklist.{Worklist}
 
 -- ---- refusals
@@ -89,3 +97,27 @@ pub record Found (v : Abstract) (marks : MarkedItems) (n : ℕ) : Type 0 where
   pub count : ReachedCount v n
   pub sound : (x : Item) → Reached v x → IsSound v x
   pub places : HavePlaces v marks
+
+-- ---- what a search of a module answers
+
+module _ {V : Type 0} {O : V → Type 0} (G : (v : V) → Ghosts (O v)) (m : Module (SectionEntry V O)) where
+  -- it finds this; or memory ran out, something reached isn't there, or a custom section that may refuse did
+  abbrev pub Searches : {X : Type 0} → (X → Type 0) → Result X Error → Type 0
+  Searches Finds result = MatchResult result Finds (RefusesSearch (ReachesUnsound (view G m)) (OneMayRefuse (meanings G m)))
+
+  -- the eight sets are what is kept; all that is reached is there and well formed
+  pub record FindsUsed (used : Used) : Type 0 where
+    pub kept : MarksKept (view G m) used
+    pub sound : ReachesSound (view G m)
+
+  -- with how many items the roots reach
+  pub record FindsCounted (found : Used × ℕ) : Type 0 where
+    pub kept : MarksKept (view G m) found.0
+    pub count : ReachedCount (view G m) found.1
+    pub at_most : found.1 ≤ live_count (contents_of m)
+    pub sound : ReachesSound (view G m)
+
+  -- the same of marks
+  pub record FindsMarks (marks : MarkedItems) : Type 0 where
+    pub kept : MarksAreKept (view G m) marks
+    pub sound : ReachesSound (view G m)

@@ -1,15 +1,13 @@
 //! The report on a module: how many items of each index space gc keeps, and how many it drops.
 
-ghost use Rattle.std.specs.Prelude.{◌≡◌, ◌++◌, IfErr, IfOk, OnOk, false, string_bytes, true};
+ghost use Rattle.std.specs.Prelude.{◌≡◌, ◌++◌, IfOk, OnOk, false, string_bytes, true};
 ghost use Rattle.walrus_base.specs.Id.{place};
 ghost use Rattle.walrus_base.specs.IdSet.{has_id};
 ghost use Rattle.walrus_items.specs.Held.{held};
-ghost use Rattle.walrus_module.specs.Asked.{OneMayRefuse};
-ghost use Rattle.walrus_module.specs.View.{meanings, view};
+ghost use Rattle.walrus_module.specs.View.{view};
 ghost use Rattle.walrus_theorem.specs.Report.{IsReport, line};
-ghost use Rattle.walrus.specs.Marked.{ReachesUnsound};
 ghost use Rattle.walrus.specs.Reported.{count_where, is_counted};
-ghost use Rattle.walrus.specs.Used.{RefusesSearch};
+ghost use Rattle.walrus.specs.Used.{Searches};
 
 use crate::passes::used::Used;
 use std::alloc::{AllocError, Global};
@@ -71,11 +69,8 @@ fn add_line<K, T: Item>(
 ///
 /// Those of [`Used::new`].
 pub(crate) fn report_on(alloc: Global, module: &Module) -> Result<Vec<u8>>
-    ensures report { IfOk result (λ text. IsReport
-        (view ⟦<dyn CustomSection as CustomSection>⟧ «module».now) text.items) }
-    ensures refused { IfErr result (RefusesSearch
-        (ReachesUnsound (view ⟦<dyn CustomSection as CustomSection>⟧ «module».now))
-        (OneMayRefuse (meanings ⟦<dyn CustomSection as CustomSection>⟧ «module».now))) }
+    ensures { Searches ⟦<dyn CustomSection as CustomSection>⟧ «module».now
+        (λ text. IsReport (view ⟦<dyn CustomSection as CustomSection>⟧ «module».now) text.items) result }
 {
     let used = Used::new(alloc, module)?;
     let mut text = Vec::new(alloc);

@@ -4,6 +4,7 @@ use crate::made::read;
 use std::alloc::Global;
 use std::test::Fail;
 use test_support::{add_bytes, are, demand};
+use walrus::law::written_as_parsed;
 use walrus::passes::{Used, gc};
 use walrus::{Error, FunctionId, Module, ModuleConfig};
 use walrus_test_support::demand_output;
@@ -62,10 +63,20 @@ fn written_whole(alloc: Global, text: &str) -> Result<Vec<u8>, Error> {
     module.emit_whole(alloc)
 }
 
+// The same by the one call that reads and writes.
+fn written_at_once(alloc: Global, text: &str) -> Result<Vec<u8>, Error> {
+    let mut bytes = Vec::new(alloc);
+    add_bytes(&mut bytes, text);
+    let mut config = ModuleConfig::new();
+    config.generate_producers_section(false);
+    written_as_parsed(alloc, &bytes, &config)
+}
+
 #[test]
 fn what_was_read_is_written_whole(rt: HostRuntime) -> Result<(), Fail> {
     let alloc = rt.alloc();
-    demand_output(alloc, written_whole(alloc, INPUT), INPUT)
+    demand_output(alloc, written_whole(alloc, INPUT), INPUT)?;
+    demand_output(alloc, written_at_once(alloc, INPUT), INPUT)
 }
 
 // Two equal types, a function of each, which are exported as a and b.

@@ -62,6 +62,20 @@ fn import_number(alloc: Global, module: &mut Module, id: FunctionId) -> Result<F
     )
 }
 
+fn brought_number(
+    alloc: Global,
+    module: &mut Module,
+    import: ImportId,
+) -> Result<FunctionId, Error> {
+    module.replace_import(
+        alloc,
+        import,
+        |body: &mut InstrSeqBuilder, args: &Vec<LocalId>| -> Result<(), Error> {
+            put_number(body, args)
+        },
+    )
+}
+
 fn import_trap(alloc: Global, module: &mut Module, id: FunctionId) -> Result<FunctionId, Error> {
     module.replace_imported_func(
         alloc,
@@ -163,6 +177,29 @@ fn an_imported_function_with_a_parameter(rt: HostRuntime) -> Result<(), Fail> {
     replace_import(rt.alloc(), &mut module)
 }
 
+// The import is named, not the function; another import of the same function stays.
+fn replace_brought(alloc: Global, module: &mut Module) -> Result<(), Fail> {
+    let id = module.exports.get_func("a")?;
+    let import = ImportId::at(0);
+    let other = module.imports.add("m", "g", ImportKind::Function(id))?;
+    demand(
+        brought_number(alloc, module, import)? == id,
+        "the same id, by its import",
+    )?;
+    demand(
+        !module.imports.contains(import) && module.imports.contains(other),
+        "the import that was named goes, and no other",
+    )?;
+    module.imports.delete(other);
+    demand_output(alloc, module.emit_wasm(alloc), IMPORT_REPLACED)
+}
+
+#[test]
+fn the_function_of_an_import(rt: HostRuntime) -> Result<(), Fail> {
+    let mut module = read(rt.alloc(), IMPORTED)?;
+    replace_brought(rt.alloc(), &mut module)
+}
+
 fn is_there(module: &Module, id: FunctionId) -> bool {
     module.funcs.contains(id)
         && match &module.funcs.get(id).kind {
@@ -249,6 +286,42 @@ fn refuse_local(alloc: Global, module: &mut Module) -> Result<(), Fail> {
 fn a_function_of_the_module_is_refused(rt: HostRuntime) -> Result<(), Fail> {
     let mut module = bare_module(rt.alloc())?;
     refuse_local(rt.alloc(), &mut module)
+}
+
+// Whether the import's function isn't replaced for this reason, and the module is as it was.
+fn refuses_import(alloc: Global, module: &mut Module, import: ImportId, why: &str) -> bool {
+    let before = shown(alloc, module);
+    is_refused(brought_number(alloc, module, import), why) && is_as_before(alloc, module, &before)
+}
+
+// Fails where something is replaced for an import that isn't there, of no function, or of a function of the module.
+fn refuse_brought(alloc: Global, module: &mut Module) -> Result<(), Fail> {
+    demand(
+        refuses_import(alloc, module, ImportId::at(0), NOT_LIVE),
+        "an import that isn't there",
+    )?;
+    let (_, memory) = module.add_import_memory("m", "m", false, false, 1, None, None)?;
+    demand(
+        refuses_import(alloc, module, memory, "no imported function with this id"),
+        "an import of a memory",
+    )?;
+    let local = add_function(alloc, module)?;
+    let import = module.imports.add("m", "f", ImportKind::Function(local))?;
+    demand(
+        refuses_import(alloc, module, import, NOT_REPLACEABLE),
+        "an import of a function of the module",
+    )?;
+    delete(&mut module.funcs, local);
+    demand(
+        refuses_import(alloc, module, import, NOT_LIVE),
+        "an import of a function that isn't there",
+    )
+}
+
+#[test]
+fn an_import_of_no_imported_function_is_refused(rt: HostRuntime) -> Result<(), Fail> {
+    let mut module = bare_module(rt.alloc())?;
+    refuse_brought(rt.alloc(), &mut module)
 }
 
 // A closure that builds something and then refuses.

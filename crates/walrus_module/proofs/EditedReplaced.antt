@@ -20,7 +20,7 @@ use Rattle.walrus_contents.specs.declared.parts.Contents.{Contents}
 use Rattle.walrus_items.specs.Exports.{ExportValue, exports, exports_item}
 use Rattle.walrus_items.specs.Function.{function_type}
 use Rattle.walrus_items.specs.Functions.{FunctionValue, functions}
-use Rattle.walrus_items.specs.Imports.{ImportValue, imports, imports_item}
+use Rattle.walrus_items.specs.Imports.{ImportValue, imported_function, imports, imports_item}
 use Rattle.walrus_items.specs.LocalFunction.{LocalFunction}
 use Rattle.walrus_items.specs.Searches.{first}
 use Rattle.walrus_base.proofs.SearchFound.{found-item, found-passes}
@@ -29,10 +29,12 @@ use Rattle.walrus_items.specs.declared.error.Error.{Error}
 use Rattle.walrus_items.specs.declared.function_kind.FunctionKind.{FunctionKind}
 use Rattle.walrus_items.specs.declared.function_kind.FunctionKind.TheVariants.{Import, Local, Uninitialized}
 use Rattle.walrus_items.specs.declared.function_kind.ImportedFunction.{ImportedFunction}
+use Rattle.walrus_items.specs.declared.kinds.ImportKind.{ImportKind}
+use Rattle.walrus_items.specs.declared.kinds.ImportKind.TheVariants as kinds
 use Rattle.walrus_items.proofs.ItemLemmas.{is_item-same}
 use Rattle.walrus_theorem.specs.Edits.{GainsItem, MakesLocal, SwapsExport}
-use Rattle.walrus_module.specs.Edits.{Edits, ExportIsRedirected, ExportedReplaced, ImportedIsLocal, ImportedReplaced, Redirects, TakesTypes, seen}
-use Rattle.walrus_module.specs.Replaced.{Builds, IsMadeLocal, IsReplaced, MakesFoundLocal, MakesKindLocal, MakesLocal as MakesTypedLocal, ReplacesFound, ReplacesKind, naming}
+use Rattle.walrus_module.specs.Edits.{Edits, ExportIsRedirected, ExportedReplaced, ImportReplaced, ImportedIsLocal, ImportedReplaced, Redirects, TakesTypes, seen}
+use Rattle.walrus_module.specs.Replaced.{Builds, IsMadeLocal, IsReplaced, MakesBroughtLocal, MakesFoundLocal, MakesImportedLocal, MakesKindLocal, MakesLocal as MakesTypedLocal, MakesSlotLocal, ReplacesFound, ReplacesKind, naming}
 use Rattle.walrus_module.specs.View.{contents_of, held_view}
 use Rattle.walrus_module.specs.declared.module.Module.{Module}
 use Rattle.walrus_module.proofs.EditedExports.{export_set}
@@ -82,24 +84,18 @@ module _ {S : Type 0} (post : Builds) (old new : Module S) (id : Id FunctionKey)
 -- ---- as the calls say it
 
 module _ {S : Type 0} (post : Builds) (old : Module S) (fid id : Id FunctionKey) (new : Module S) where
-  module _ (match : ImportsMatch (held_view old)) (e : ℕ × ImportValue) (found : first (imports_item (function_item (place fid))) (imports old.imports) ≡ Some e) where
-    stands : item_at (imports old.imports) e.0 ≡ Some e.1
-    stands = found-item (λ (d : ℕ × ImportValue). imports_item (function_item (place fid)) d.1) (imports old.imports) e found
-
-    brings : imported e.1.kind ≡ function_item (place fid)
-    brings = is_item-same (imported e.1.kind) (function_item (place fid)) (found-passes (λ (d : ℕ × ImportValue). imports_item (function_item (place fid)) d.1) (imports old.imports) e found)
-
-    its_import : import_in (λ (g : abstract.Function). kind_import g.kind) (option_map (function old.locals) (item_at (functions old.funcs) (place fid))) ≡ Some e.0
-    its_import = subst (λ (x : Item). import_of_item (held_view old) x ≡ Some e.0) brings (match.imports e.0 (import_of e.1) (ap (option_map import_of) stands))
+  module _ (match : ImportsMatch (held_view old)) (n : ℕ) (x : ImportValue) (stands : item_at (imports old.imports) n ≡ Some x) (brings : imported x.kind ≡ function_item (place fid)) where
+    its_import : import_in (λ (g : abstract.Function). kind_import g.kind) (option_map (function old.locals) (item_at (functions old.funcs) (place fid))) ≡ Some n
+    its_import = subst (λ (x : Item). import_of_item (held_view old) x ≡ Some n) brings (match.imports n (import_of x) (ap (option_map import_of) stands))
 
     module _ (f : FunctionValue) (there : item_at (functions old.funcs) (place fid) ≡ Some f) (i : ImportedFunction) (kind : f.kind ≡ Import i) where
-      own : e.0 ≡ place i.«import»
-      own = some_inj e.0 (place i.«import»)
+      own : n ≡ place i.«import»
+      own = some_inj n (place i.«import»)
           (sym its_import
           ∙ ap (λ (o : Option FunctionValue). import_in (λ (g : abstract.Function). kind_import g.kind) (option_map (function old.locals) o)) there
           ∙ ap (λ (k : FunctionKind). kind_import (kind_of old.locals k)) kind)
 
-      made_so : (def : TypeDef) → item_at (type_slots old.types) (place i.ty) ≡ Some def → IsMadeLocal post fid e.0 f i.ty def old new id → ImportedIsLocal post fid old new
+      made_so : (def : TypeDef) → item_at (type_slots old.types) (place i.ty) ≡ Some def → IsMadeLocal post fid n f i.ty def old new id → ImportedIsLocal post fid old new
       made_so def typed was =
           let made : IsMadeLocal post fid (place i.«import») f i.ty def old new fid =
           subst (λ (x : Id FunctionKey). IsMadeLocal post fid (place i.«import») f i.ty def old new x) was.same (subst (λ (n : ℕ). IsMadeLocal post fid n f i.ty def old new id) own was) in
@@ -115,23 +111,26 @@ module _ {S : Type 0} (post : Builds) (old : Module S) (fid id : Id FunctionKey)
             takes = imported_takes post fid fid old new f i def there kind made;
           }
 
-      by_type : (o : Option TypeDef) → item_at (type_slots old.types) (place i.ty) ≡ o → MakesTypedLocal post fid e.0 f i.ty o old new (Ok id) → ImportedIsLocal post fid old new
+      by_type : (o : Option TypeDef) → item_at (type_slots old.types) (place i.ty) ≡ o → MakesTypedLocal post fid n f i.ty o old new (Ok id) → ImportedIsLocal post fid old new
       by_type None typed h = refused id _ h.0
       by_type (Some def) typed h = made_so def typed h
 
-    by_kind : (f : FunctionValue) → item_at (functions old.funcs) (place fid) ≡ Some f → (k : FunctionKind) → f.kind ≡ k → MakesKindLocal post fid e.0 f k old new (Ok id) → ImportedIsLocal post fid old new
+    by_kind : (f : FunctionValue) → item_at (functions old.funcs) (place fid) ≡ Some f → (k : FunctionKind) → f.kind ≡ k → MakesKindLocal post fid n f k old new (Ok id) → ImportedIsLocal post fid old new
     by_kind f there (Import i) kind h = by_type f there i kind (item_at (type_slots old.types) (place i.ty)) refl h
     by_kind f there (Local l) kind h = refused id _ h.0
     by_kind f there (Uninitialized ty) kind h = refused id _ h.0
 
-    by_slot : (o : Option FunctionValue) → item_at (functions old.funcs) (place fid) ≡ o → MakesFoundLocal post fid (Some e) o old new (Ok id) → ImportedIsLocal post fid old new
+    by_slot : (o : Option FunctionValue) → item_at (functions old.funcs) (place fid) ≡ o → MakesSlotLocal post fid n o old new (Ok id) → ImportedIsLocal post fid old new
     by_slot None there h = refused id _ h.0
     by_slot (Some f) there h = by_kind f there f.kind refl h
 
   by_import : ImportsMatch (held_view old) → (o : Option (ℕ × ImportValue)) → first (imports_item (function_item (place fid))) (imports old.imports) ≡ o → MakesFoundLocal post fid o (item_at (functions old.funcs) (place fid)) old new (Ok id)
       → ImportedIsLocal post fid old new
   by_import match None found h = refused id _ h.0
-  by_import match (Some e) found h = by_slot match e found (item_at (functions old.funcs) (place fid)) refl h
+  by_import match (Some e) found h =
+      by_slot match e.0 e.1 (found-item (λ (d : ℕ × ImportValue). imports_item (function_item (place fid)) d.1) (imports old.imports) e found)
+      (is_item-same (imported e.1.kind) (function_item (place fid)) (found-passes (λ (d : ℕ × ImportValue). imports_item (function_item (place fid)) d.1) (imports old.imports) e found))
+      (item_at (functions old.funcs) (place fid)) refl h
 
   module _ (e : ℕ × ExportValue) (found : first (exports_item (function_item (place fid))) (exports old.exports) ≡ Some e) where
     shown : item_at (exports old.exports) e.0 ≡ Some e.1
@@ -165,3 +164,40 @@ imported_replaced post old fid id new match h = by_import post old fid id new ma
 
 pub exported_replaced : {S : Type 0} (post : Builds) (old : Module S) → ExportedReplaced post old
 exported_replaced post old fid id new h = by_export post old fid id new (first (exports_item (function_item (place fid))) (exports old.exports)) refl h
+
+-- ---- the function of an import
+
+of_kind : (k : ImportKind) (fid : Id FunctionKey) → imported_function k ≡ Some fid → imported k ≡ function_item (place fid)
+of_kind (kinds.Function f) fid e = ap (λ (i : Id FunctionKey). function_item (place i)) (some_inj f fid e)
+of_kind (kinds.Table t) fid e = absurd cc
+of_kind (kinds.Memory t) fid e = absurd cc
+of_kind (kinds.Global t) fid e = absurd cc
+of_kind (kinds.Tag t) fid e = absurd cc
+
+module _ {S : Type 0} (post : Builds) (old new : Module S) (id : Id FunctionKey) where
+  -- what is answered is the function's own id
+  same_typed : (fid : Id FunctionKey) (n : ℕ) (f : FunctionValue) (ty : Id TypeKey) (o : Option TypeDef) → MakesTypedLocal post fid n f ty o old new (Ok id) → fid ≡ id
+  same_typed fid n f ty None h = refused id _ h.0
+  same_typed fid n f ty (Some def) made = sym made.same
+
+  same_kind : (fid : Id FunctionKey) (n : ℕ) (f : FunctionValue) (k : FunctionKind) → MakesKindLocal post fid n f k old new (Ok id) → fid ≡ id
+  same_kind fid n f (Import i) h = same_typed fid n f i.ty (item_at (type_slots old.types) (place i.ty)) h
+  same_kind fid n f (Local l) h = refused id _ h.0
+  same_kind fid n f (Uninitialized ty) h = refused id _ h.0
+
+  same_slot : (fid : Id FunctionKey) (n : ℕ) (o : Option FunctionValue) → MakesSlotLocal post fid n o old new (Ok id) → fid ≡ id
+  same_slot fid n None h = refused id _ h.0
+  same_slot fid n (Some f) h = same_kind fid n f f.kind h
+
+  module _ (match : ImportsMatch (held_view old)) (n : ℕ) where
+    by_function : (x : ImportValue) → item_at (imports old.imports) n ≡ Some x → (o : Option (Id FunctionKey)) → imported_function x.kind ≡ o → MakesBroughtLocal post n o old new (Ok id) → ImportedIsLocal post id old new
+    by_function x stands None is h = refused id _ h.0
+    by_function x stands (Some fid) is h = subst (λ (i : Id FunctionKey). ImportedIsLocal post i old new) (same_slot fid n (item_at (functions old.funcs) (place fid)) h)
+        (by_slot post old fid id new match n x stands (of_kind x.kind fid is) (item_at (functions old.funcs) (place fid)) refl h)
+
+    pub brought_by : (o : Option ImportValue) → item_at (imports old.imports) n ≡ o → MakesImportedLocal post n o old new (Ok id) → ImportedIsLocal post id old new
+    brought_by None stands h = refused id _ h.0
+    brought_by (Some x) stands h = by_function x stands (imported_function x.kind) refl h
+
+pub import_replaced : {S : Type 0} (post : Builds) (old : Module S) → ImportReplaced post old
+import_replaced post old at fid new match h = brought_by post old new fid match (place at) (item_at (imports old.imports) (place at)) refl h

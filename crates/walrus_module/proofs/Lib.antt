@@ -15,7 +15,9 @@ pub mod EditedExports
 pub mod EditedFunctions
 pub mod EditedItems
 pub mod EditedReplaced
+pub mod HeldSegments
 pub mod Emission
+mod EmissionForms
 pub mod FewLocals
 pub mod NamesApart
 pub mod RulesTested

@@ -25,10 +25,10 @@ use Rattle.walrus_items.specs.declared.function_kind.FunctionKind.TheVariants.{I
 use Rattle.walrus_items.specs.declared.function_kind.ImportedFunction.{ImportedFunction}
 use Rattle.walrus_items.specs.Exports.{ExportValue, exports, exports_item}
 use Rattle.walrus_items.specs.Functions.{FunctionValue, functions}
-use Rattle.walrus_items.specs.Imports.{ImportValue, imports, imports_item}
+use Rattle.walrus_items.specs.Imports.{ImportValue, imported_function, imports, imports_item}
 use Rattle.walrus_items.specs.Searches.{first}
 use Rattle.walrus_base.proofs.SearchFound.{IsFound, is_found}
-use Rattle.walrus_module.specs.Replaced.{AddsParameters, AreParameters, Builds, IsMadeLocal, IsNew, LendsBody, LendsKind, MakesFoundLocal, MakesKindLocal, MakesLocal, OnlyLocals, Refuses, RefusesBody, RefusesLocal, ReplacesExported, ReplacesFound, ReplacesImported, ReplacesKind, SameFunctions, TellsKind, TellsType, naming, with_body}
+use Rattle.walrus_module.specs.Replaced.{AddsParameters, AreParameters, Builds, IsMadeLocal, IsNew, LendsBody, LendsKind, MakesBroughtLocal, MakesFoundLocal, MakesImportedLocal, MakesKindLocal, MakesLocal, MakesSlotLocal, OnlyLocals, Refuses, RefusesBody, RefusesLocal, ReplacesExported, ReplacesFound, ReplacesImported, ReplacesKind, SameFunctions, TellsBrought, TellsFunction, TellsKind, TellsType, naming, with_body}
 use Rattle.walrus_module.specs.declared.module.Module.{Module}
 
 -- an item that is changed at its place
@@ -78,6 +78,37 @@ has_type (Some f) ty h = by_kind f.kind refl h where
     the_ok q = cc
   by_kind (Local l) is h = absurd (wrong h)
   by_kind (Uninitialized t) is h = absurd (wrong h)
+
+-- an import that brings this function
+pub record BringsFunction (slot : Option ImportValue) (fid : Id FunctionKey) : Type 0 where
+  pub value : ImportValue
+  pub there : slot ≡ Some value
+  pub function : imported_function value.kind ≡ Some fid
+
+pub brings_function : (slot : Option ImportValue) (fid : Id FunctionKey) → TellsBrought slot (Ok fid) → BringsFunction slot fid
+brings_function None fid h = absurd (wrong h)
+brings_function (Some x) fid h = record { value = x; there = refl; function = by_function (imported_function x.kind) h } where
+  by_function : (o : Option (Id FunctionKey)) → TellsFunction o (Ok fid) → o ≡ Some fid
+  by_function None h = absurd (wrong h)
+  by_function (Some f) same = ap Some (sym (the_ok same)) where
+    the_ok : {a b : Id FunctionKey} → ◌≡◌ {A = Result (Id FunctionKey) Error} (Ok a) (Ok b) → a ≡ b
+    the_ok q = cc
+
+-- where an import's place brings no function, nothing changes
+pub not_brought : {S : Type 0} (post : Builds) (n : ℕ) (slot : Option ImportValue) (e : Error) (m : Module S) → TellsBrought slot (Err e) → MakesImportedLocal post n slot m m (Err e)
+not_brought post n None e m h = (h, refl)
+not_brought post n (Some x) e m h = by_function (imported_function x.kind) h where
+  by_function : (o : Option (Id FunctionKey)) → TellsFunction o (Err e) → MakesBroughtLocal post n o m m (Err e)
+  by_function None h = (h, refl)
+  by_function (Some f) h = absurd (wrong (sym h))
+
+-- where it brings one, that is made local
+pub by_brought : {S : Type 0} (post : Builds) (fid : Id FunctionKey) (n : ℕ) (slot : Option ImportValue) (old new : Module S) (result : Result (Id FunctionKey) Error)
+    → TellsBrought slot (Ok fid) → MakesSlotLocal post fid n (item_at (functions old.funcs) (place fid)) old new result → MakesImportedLocal post n slot old new result
+by_brought post fid n slot old new result told made =
+    let b = brings_function slot fid told in
+    subst (λ (o : Option ImportValue). MakesImportedLocal post n o old new result) (sym b.there)
+    (subst (λ (o : Option (Id FunctionKey)). MakesBroughtLocal post n o old new result) (sym b.function) made)
 
 module _ {S : Type 0} (post : Builds) (fid : Id FunctionKey) (old new : Module S) where
   -- ---- an exported function
@@ -129,39 +160,46 @@ module _ {S : Type 0} (post : Builds) (fid : Id FunctionKey) (old new : Module S
 
   -- ---- an imported function
 
-  module _ (n : ℕ) (ty : Id TypeKey) (named : Some n ≡ option_map (λ e. e.0) (first (imports_item (function_item (place fid))) (imports old.imports)))
-      (told : TellsType (item_at (functions old.funcs) (place fid)) (Ok ty)) where
+  module _ (n : ℕ) (named : Some n ≡ option_map (λ e. e.0) (first (imports_item (function_item (place fid))) (imports old.imports))) where
     abbrev found_import : IsFound (λ (e : ℕ × ImportValue). imports_item (function_item (place fid)) e.1) (imports old.imports) n
     found_import = is_found (λ (e : ℕ × ImportValue). imports_item (function_item (place fid)) e.1) (imports old.imports) n named
-
-    abbrev has : HasType (item_at (functions old.funcs) (place fid)) ty
-    has = has_type (item_at (functions old.funcs) (place fid)) ty told
 
     pub import_lives : IsSome (item_at (imports old.imports) n)
     import_lives = found_lives _ (imports old.imports) n found_import
 
-    imported : (result : Result (Id FunctionKey) Error) → MakesLocal post fid found_import.entry.0 has.function ty (item_at (type_slots old.types) (place ty)) old new result → ReplacesImported post fid old new result
-    imported result given =
+    pub by_first_import : (result : Result (Id FunctionKey) Error) → MakesSlotLocal post fid n (item_at (functions old.funcs) (place fid)) old new result → ReplacesImported post fid old new result
+    by_first_import result given =
         subst (λ o. MakesFoundLocal post fid o (item_at (functions old.funcs) (place fid)) old new result) (sym found_import.found)
-        (subst (λ s. MakesFoundLocal post fid (Some found_import.entry) s old new result) (sym has.there)
-        (subst (λ k. MakesKindLocal post fid found_import.entry.0 has.function k old new result) (sym has.kind)
-        (subst (λ t. MakesLocal post fid found_import.entry.0 has.function t (item_at (type_slots old.types) (place t)) old new result) (sym has.typed) given)))
+        (subst (λ i. MakesSlotLocal post fid i (item_at (functions old.funcs) (place fid)) old new result) (sym found_import.at_place) given)
+
+  module _ (n : ℕ) (ty : Id TypeKey) (told : TellsType (item_at (functions old.funcs) (place fid)) (Ok ty)) where
+    abbrev has : HasType (item_at (functions old.funcs) (place fid)) ty
+    has = has_type (item_at (functions old.funcs) (place fid)) ty told
+
+    abbrev Makes : Result (Id FunctionKey) Error → Type 0
+    Makes result = MakesSlotLocal post fid n (item_at (functions old.funcs) (place fid)) old new result
+
+    imported : (result : Result (Id FunctionKey) Error) → MakesLocal post fid n has.function ty (item_at (type_slots old.types) (place ty)) old new result → Makes result
+    imported result given =
+        subst (λ s. MakesSlotLocal post fid n s old new result) (sym has.there)
+        (subst (λ k. MakesKindLocal post fid n has.function k old new result) (sym has.kind)
+        (subst (λ t. MakesLocal post fid n has.function t (item_at (type_slots old.types) (place t)) old new result) (sym has.typed) given))
 
     -- of a live type
     module _ (live : IsSome (item_at (type_slots old.types) (place ty))) where
       with_type : (o : Option TypeDef) → IsSome o → (result : Result (Id FunctionKey) Error)
-          → ((def : TypeDef) → o ≡ Some def → MatchResult result (IsMadeLocal post fid found_import.entry.0 has.function ty def old new) (λ e. RefusesLocal post def old new e × OnlyLocals old new))
-          → MakesLocal post fid found_import.entry.0 has.function ty o old new result
+          → ((def : TypeDef) → o ≡ Some def → MatchResult result (IsMadeLocal post fid n has.function ty def old new) (λ e. RefusesLocal post def old new e × OnlyLocals old new))
+          → MakesLocal post fid n has.function ty o old new result
       with_type None none result given = absurd cc
       with_type (Some def) there result given = given def refl
 
       by_def : (result : Result (Id FunctionKey) Error)
-          → ((def : TypeDef) → item_at (type_slots old.types) (place ty) ≡ Some def → MatchResult result (IsMadeLocal post fid found_import.entry.0 has.function ty def old new) (λ e. RefusesLocal post def old new e × OnlyLocals old new))
-          → ReplacesImported post fid old new result
+          → ((def : TypeDef) → item_at (type_slots old.types) (place ty) ≡ Some def → MatchResult result (IsMadeLocal post fid n has.function ty def old new) (λ e. RefusesLocal post def old new e × OnlyLocals old new))
+          → Makes result
       by_def result given = imported result (with_type (item_at (type_slots old.types) (place ty)) live result given)
 
       -- memory ran out while locals were added
-      pub import_no_room : (e : Error) → e ≡ out_of_memory → OnlyLocals old new → ReplacesImported post fid old new (Err e)
+      pub import_no_room : (e : Error) → e ≡ out_of_memory → OnlyLocals old new → Makes (Err e)
       import_no_room e is only = by_def (Err e) (λ def is_def. (inl is, only))
 
       module _ (types : List ValType) (args : List (Id LocalKey)) (takes : map val_type types ≡ params_of (item_at (type_slots old.types) (place ty)))
@@ -170,7 +208,7 @@ module _ {S : Type 0} (post : Builds) (fid : Id FunctionKey) (old new : Module S
         parameters def is_def = record { types = types; taken = takes ∙ ap params_of is_def; added = added }
 
         -- the closure refused, or memory ran out behind it
-        pub import_refused : (e : Error) → Refuses post args e → OnlyLocals old new → ReplacesImported post fid old new (Err e)
+        pub import_refused : (e : Error) → Refuses post args e → OnlyLocals old new → Makes (Err e)
         import_refused e refuses only = by_def (Err e) (λ def is_def. (by_cause def is_def refuses, only)) where
           by_cause : (def : TypeDef) → item_at (type_slots old.types) (place ty) ≡ Some def → Refuses post args e → RefusesLocal post def old new e
           by_cause def is_def (inl memory) = inl memory
@@ -179,7 +217,7 @@ module _ {S : Type 0} (post : Builds) (fid : Id FunctionKey) (old new : Module S
         pub import_replaced : (function : LocalFunction) → IsNew post ty args function
             → functions new.funcs ≡ slice_set (functions old.funcs) (place fid) (option_map (with_body function) (item_at (functions old.funcs) (place fid)))
             → imports new.imports ≡ slice_set (imports old.imports) n None
-            → new ≡ record old { funcs = new.funcs; imports = new.imports; locals = new.locals } → ReplacesImported post fid old new (Ok fid)
+            → new ≡ record old { funcs = new.funcs; imports = new.imports; locals = new.locals } → Makes (Ok fid)
         import_replaced function made funcs gone others = by_def (Ok fid) (λ def is_def. record {
           same = refl;
           args = args;
@@ -187,6 +225,6 @@ module _ {S : Type 0} (post : Builds) (fid : Id FunctionKey) (old new : Module S
           function = function;
           is_new = made;
           funcs = funcs ∙ ap (λ (o : Option FunctionValue). slice_set (functions old.funcs) (place fid) (option_map (with_body function) o)) has.there;
-          gone = gone ∙ ap (λ (i : ℕ). slice_set (imports old.imports) i None) (sym found_import.at_place);
+          gone = gone;
           others = others;
         })

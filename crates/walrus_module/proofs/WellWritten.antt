@@ -1,6 +1,6 @@
 -- What emission answers for a well-made module, and what a second emission does.
 use Rattle.std.proofs.Common.{◌≡◌, ℕ, Bool, true, false, List, sym, ap, subst, ◌∙◌, ⊎_elim}
-use Rattle.std.specs.Prelude.{IfOk, Result, Ok, Err, ◌⊎◌, ⊤}
+use Rattle.std.specs.Prelude.{IfOk, Result, Ok, Err, ◌⊎◌}
 use Rattle.std.specs.Global.{Vec}
 use Rattle.walrus_items.specs.declared.custom.CustomSection.{Ghosts}
 use Rattle.walrus_items.specs.declared.error.Error.{Error}
@@ -22,7 +22,8 @@ use Rattle.walrus_module.specs.Flags.{Flags, choices_of, config_of}
 use Rattle.walrus_code.specs.Transform.{Transform}
 use Rattle.walrus_module.specs.Following.{LeavesCustoms, OneMayRefuseThen}
 use Rattle.walrus_module.specs.declared.customs.ModuleCustomSections.{ModuleCustomSections}
-use Rattle.walrus_module.specs.Laws.{Emits, EmitsAgain, UnsayableIsOpen}
+use Rattle.walrus_module.specs.Emission.{EmitsBytes}
+use Rattle.walrus_module.specs.Laws.{EmitsAgain, UnsayableIsOpen}
 use Rattle.walrus_module.specs.Left.{ChangesElements, but_customs}
 use Rattle.walrus_module.specs.Settings.{settings}
 use Rattle.walrus_module.specs.View.{meanings, view}
@@ -120,27 +121,28 @@ module _ {V : Type 0} {O : V → Type 0} (G : (v : V) → Ghosts (O v)) where
   unhanded false Tells Told old new r off h = h
   unhanded true Tells Told old new r off h = absurd (cc)
 
-  unheld : {X : Type 0} (E : Type 0) (x y : X) (hands : Bool) (old new : ModuleCustomSections (SectionEntry V O)) → hands ≡ false → LeavesCustoms G {E = E} hands (λ (r : X) (t : Transform). ⊤) (λ (t : Transform). ⊤) old new (Ok x)
-      → LeavesCustoms G {E = E} hands (λ (r : X) (t : Transform). ⊤) (λ (t : Transform). ⊤) old new (Ok y)
-  unheld E x y false old new off h = h
-  unheld E x y true old new off h = absurd (cc)
+  unheld : {X : Type 0} (E : Type 0) (x y : X) (hands : Bool) (Tells : X → Transform → Type 0) (Told : Transform → Type 0) (old new : ModuleCustomSections (SectionEntry V O)) → hands ≡ false
+      → LeavesCustoms G {E = E} hands Tells Told old new (Ok x) → LeavesCustoms G {E = E} hands Tells Told old new (Ok y)
+  unheld E x y false Tells Told old new off h = h
+  unheld E x y true Tells Told old new off h = absurd (cc)
 
-  module _ (result : Result (Vec ℕ) Error) (old new : Module (SectionEntry V O)) (said : Emits G old new result) where
+  module _ (result : Result (Vec ℕ) Error) (old new : Module (SectionEntry V O)) (plain : (settings old).preserve_code_transform ≡ false) (said : EmitsBytes G old new result) where
     whole : but_customs old new ≡ new
     whole = ap (λ (customs : ModuleCustomSections (SectionEntry V O)). record new { customs = customs })
-        (sym (unhanded (settings old).preserve_code_transform (λ (r : Vec ℕ) (x : Transform). ⊤) (λ (x : Transform). ⊤) old.customs new.customs result said.plain said.customs))
+        (sym (unhanded (settings old).preserve_code_transform _ _ old.customs new.customs result plain said.customs))
 
     changes : ChangesElements old new
     changes = subst (λ (m : Module (SectionEntry V O)). ChangesElements old m) whole said.others
 
   pub emits_again : EmitsAgain G
-  emits_again old middle new first second sayable one two =
+  emits_again old middle new first second plain sayable one two =
       let c = config_of (settings old) in
       let A = OneAskedMayRefuse (meanings G middle) in
-      let left : Leaves (view G old) (view G middle) = subst (λ (m : Module (SectionEntry V O)). Leaves (view G old) (view G m)) (whole (Ok first) old middle one) one.left in
-      let same : new ≡ middle = sym (whole second middle new two) ∙ two.settled (leaves_nothing (view G old) (view G middle) left) in
-      let kept : settings middle ≡ settings old = ap settings (changes (Ok first) old middle one) in
-      let says : IsSayable (view G middle) = subst (λ (m : Module (SectionEntry V O)). IsSayable (view G m)) (sym (changes (Ok first) old middle one)) sayable in
+      let kept : settings middle ≡ settings old = ap settings (changes (Ok first) old middle plain one) in
+      let still : (settings middle).preserve_code_transform ≡ false = ap (λ (f : Flags). f.preserve_code_transform) kept ∙ plain in
+      let left : Leaves (view G old) (view G middle) = subst (λ (m : Module (SectionEntry V O)). Leaves (view G old) (view G m)) (whole (Ok first) old middle plain one) one.left in
+      let same : new ≡ middle = sym (whole second middle new still two) ∙ two.settled (leaves_nothing (view G old) (view G middle) left) in
+      let says : IsSayable (view G middle) = subst (λ (m : Module (SectionEntry V O)). IsSayable (view G m)) (sym (changes (Ok first) old middle plain one)) sayable in
       let emitted : IfOk second (λ bytes. IsEmitted c (view G middle) bytes.items) =
       subst (λ (m : Module (SectionEntry V O)). IfOk second (λ bytes. IsEmitted c (view G m) bytes.items)) same
       (subst (λ (f : Flags). IfOk second (λ bytes. IsEmitted (config_of f) (view G new) bytes.items)) kept two.emitted) in
@@ -150,12 +152,16 @@ module _ {V : Type 0} {O : V → Type 0} (G : (v : V) → Ghosts (O v)) where
       (same, answered_again A c (view G middle) one.refused says first.items second one.emitted emitted (one_of A c (view G middle) (told second) refused))
 
   pub unsayable_open : UnsayableIsOpen G
-  unsayable_open old new first other not said = record {
-    plain = said.plain;
+  unsayable_open old new first other plain not said = record {
     left = said.left;
+    segments = said.segments;
     others = said.others;
     settled = said.settled;
-    customs = unheld Error first other (settings old).preserve_code_transform old.customs new.customs said.plain said.customs;
-    emitted = λ sayable. absurd (not (subst (λ (m : Module (SectionEntry V O)). IsSayable (view G m)) (changes (Ok first) old new said) sayable));
+    customs = unheld Error first other (settings old).preserve_code_transform _ _ old.customs new.customs plain said.customs;
+    raw = said.raw;
+    emitted = λ sayable. absurd (not (subst (λ (m : Module (SectionEntry V O)). IsSayable (view G m)) (changes (Ok first) old new plain said) sayable));
+    declared = said.declared;
     refused = said.refused;
+    well_made = λ made. absurd (not made.customs);
+    own_ids = said.own_ids;
   }

@@ -1,5 +1,5 @@
 -- Custom sections that follow the code and are written: which stand where, what stays of them, and what is refused.
-use Rattle.std.proofs.Common.{◌≡◌, ℕ, ◌+◌, suc, Bool, true, false, cond, not, append-nil, List, [], ◌∷◌, ◌++◌, map, length, filter, None, Some, refl, sym, ap, ap₂, ◌∙◌, subst, inl, inr, arith, ⊎_elim}
+use Rattle.std.proofs.Common.{◌≡◌, ℕ, ◌+◌, suc, Bool, true, false, cond, append-nil, List, [], ◌∷◌, ◌++◌, map, length, filter, None, Some, refl, sym, ap, ap₂, ◌∙◌, subst, inl, inr, arith, ⊎_elim}
 use Rattle.std.specs.Prelude.{All, Option, IfErr, IfOk, Result, Ok, Err}
 use Rattle.std.specs.List.{AllZip}
 use Rattle.std.specs.Global.{Vec as Bytes}

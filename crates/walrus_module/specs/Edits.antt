@@ -35,12 +35,13 @@ use Rattle.walrus_items.specs.declared.custom.CustomSection.{Ghosts}
 use Rattle.walrus_items.specs.declared.function_kind.FunctionKind.TheVariants.{Import, Local}
 use Rattle.walrus_items.specs.declared.function_kind.ImportedFunction.{ImportedFunction}
 use Rattle.walrus_items.specs.declared.kinds.ImportKind.TheVariants.{Function}
+use Rattle.walrus_theorem.specs.Engines.{Segments}
 use Rattle.walrus_theorem.specs.Edits.{GainsCustom, GainsExport, GainsImported, GainsItem, LosesCustom, LosesExport, LosesItem, MakesImported, MakesLocal, RenamesImport, SwapsBodies, SwapsCustom, SwapsExport}
 use Rattle.walrus_module.specs.Customs.{sections}
 use Rattle.walrus_module.specs.Imported.{AddsImported}
 use Rattle.walrus_module.specs.Meaning.{Meaning, meaning}
 use Rattle.walrus_module.specs.Raws.{first_raw, without_first}
-use Rattle.walrus_module.specs.Replaced.{Builds, IsMadeLocal, IsReplaced, ReplacesExported, ReplacesImported, with_body}
+use Rattle.walrus_module.specs.Replaced.{Builds, IsMadeLocal, IsReplaced, ReplacesExported, ReplacesImport, ReplacesImported, with_body}
 use Rattle.walrus_module.specs.View.{contents_of, custom_of, held_view, kept_by, view, with_sections}
 use Rattle.walrus_module.specs.declared.entry.SectionEntry.{SectionEntry}
 use Rattle.walrus_module.specs.declared.module.Module.{Module}
@@ -244,6 +245,11 @@ module _ {S : Type 0} where
   ImportedReplaced post old = (fid id : Id FunctionKey) (new : Module S) → ImportsMatch (held_view old) → ReplacesImported post fid old new (Ok id)
       → ImportedIsLocal post fid old new
 
+  -- so is the one that an import brings whose function is replaced
+  abbrev pub ImportReplaced : Builds → (old : Module S) → Type 0
+  ImportReplaced post old = (at : Id ImportKey) (fid : Id FunctionKey) (new : Module S) → ImportsMatch (held_view old) → ReplacesImport post at old new (Ok fid)
+      → ImportedIsLocal post fid old new
+
   -- the export of a function with a body names another one that came, of its type and with its parameters
   pub record ExportIsRedirected (post : Builds) (fid : Id FunctionKey) (old new : Module S) (id : Id FunctionKey) : Type 0 where
     pub found : ℕ × ExportValue
@@ -295,3 +301,9 @@ module _ {V : Type 0} {O : V → Type 0} (G : (v : V) → Ghosts (O v)) where
       (old new : Module (SectionEntry V O)) (i : ℕ) (s t : SectionEntry V O) → OnlyCustoms old new → item_at (sections old.customs) i ≡ Some s
       → sections new.customs ≡ slice_set (sections old.customs) i (Some t)
       → SwapsCustom (custom_of (meaning G s)) (custom_of (meaning G t)) (kept_by (meaning G t ∷ [])) (view G old) (view G new)
+
+-- ---- engines
+
+-- whatever is held, edited or not, has its list of active segments: with it an engine begins
+abbrev pub HeldHasSegments : Type 0
+HeldHasSegments = (m : Contents) (ss : List Meaning) → Segments (seen ss m)

@@ -1,5 +1,5 @@
 -- The laws of a module in memory: what a second emission answers, and what its bodies count.
-use Rattle.std.specs.Prelude.{ℕ, [], false, IfOk, Result, Ok, ◌≡◌, ⊤}
+use Rattle.std.specs.Prelude.{ℕ, [], false, Result, Ok, ◌≡◌}
 use Rattle.std.specs.Global.{Vec}
 use Rattle.walrus_items.specs.declared.custom.CustomSection.{Ghosts}
 use Rattle.walrus_items.specs.declared.error.Error.{Error}
@@ -8,18 +8,15 @@ use Rattle.walrus_base.specs.declared.locals.ModuleLocals.{ModuleLocals}
 use Rattle.walrus_items.specs.LocalFunction.{LocalFunction}
 use Rattle.walrus_contents.specs.View.{body, contents_view}
 use Rattle.walrus_contents.specs.declared.parts.Contents.{Contents}
-use Rattle.walrus_model.specs.Declared.{NothingUndeclared}
 use Rattle.walrus_theorem.specs.OkLaws.{AreCounted}
 use Rattle.walrus_theorem.specs.Once.{TypesLocals}
 use Rattle.walrus_theorem.specs.Pinned.{DeclaresLocal}
-use Rattle.walrus_theorem.specs.Refused.{IsSayable, RefusesToWrite}
+use Rattle.walrus_theorem.specs.Refused.{IsSayable}
 use Rattle.walrus_theorem.specs.WellMade.{IsCounted}
-use Rattle.walrus_writing.specs.Emitted.{IsEmitted, told}
+use Rattle.walrus_writing.specs.Emitted.{told}
 use Rattle.walrus_module.specs.Answered.{WritesUnless}
 use Rattle.walrus_module.specs.Asked.{OneAskedMayRefuse}
-use Rattle.walrus_module.specs.Flags.{config_of}
-use Rattle.walrus_module.specs.Following.{LeavesCustoms, OneMayRefuseThen}
-use Rattle.walrus_module.specs.Left.{ChangesElements, LeavesBy, but_customs}
+use Rattle.walrus_module.specs.Emission.{EmitsBytes}
 use Rattle.walrus_module.specs.Settings.{settings}
 use Rattle.walrus_module.specs.View.{meanings, view}
 use Rattle.walrus_module.specs.declared.entry.SectionEntry.{SectionEntry}
@@ -38,24 +35,14 @@ AbsentIsUncounted = (all : ModuleLocals) (f : LocalFunction) (x : ℕ) → local
 -- ---- emission, twice
 
 module _ {V : Type 0} {O : V → Type 0} (G : (v : V) → Ghosts (O v)) where
-  -- what a call of emission says of the module before and after it, and of its answer: its clauses of these names; no transform is handed on
-  pub record Emits (old new : Module (SectionEntry V O)) (result : Result (Vec ℕ) Error) : Type 0 where
-    pub plain : (settings old).preserve_code_transform ≡ false
-    pub left : LeavesBy (view G old) (view G (but_customs old new)) (told result)
-    pub others : ChangesElements old (but_customs old new)
-    pub settled : NothingUndeclared (view G old) → but_customs old new ≡ old
-    pub customs : LeavesCustoms G (settings old).preserve_code_transform (λ r x. ⊤) (λ x. ⊤) old.customs new.customs result
-    pub emitted : IfOk result (λ bytes. IsEmitted (config_of (settings old)) (view G new) bytes.items)
-    pub refused : RefusesToWrite (OneMayRefuseThen G old.customs new.customs) (config_of (settings old)) (view G new) (told result)
-
   -- What was written once is left as it is by a second emission, and written as the same bytes, unless memory runs out or a custom section that
-  -- is asked refuses. No custom section of its own is called as the name or the producers section is, and none is handed a transform.
+  -- is asked refuses. No custom section of its own is called as the name or the producers section is, and none is handed a transform, since it isn't kept.
   abbrev pub EmitsAgain : Type 0
   EmitsAgain =
-      (old middle new : Module (SectionEntry V O)) (first : Vec ℕ) (second : Result (Vec ℕ) Error) → IsSayable (view G old)
-      → Emits old middle (Ok first) → Emits middle new second
+      (old middle new : Module (SectionEntry V O)) (first : Vec ℕ) (second : Result (Vec ℕ) Error) → (settings old).preserve_code_transform ≡ false → IsSayable (view G old)
+      → EmitsBytes G old middle (Ok first) → EmitsBytes G middle new second
       → (new ≡ middle) × WritesUnless ⊥ (OneAskedMayRefuse (meanings G middle)) (λ bytes. bytes.items ≡ first.items) (told second)
 
   -- where one is called so, the clauses that hold of the bytes hold of any others: they tell nothing of them
   abbrev pub UnsayableIsOpen : Type 0
-  UnsayableIsOpen = (old new : Module (SectionEntry V O)) (first other : Vec ℕ) → (IsSayable (view G old) → ⊥) → Emits old new (Ok first) → Emits old new (Ok other)
+  UnsayableIsOpen = (old new : Module (SectionEntry V O)) (first other : Vec ℕ) → (settings old).preserve_code_transform ≡ false → (IsSayable (view G old) → ⊥) → EmitsBytes G old new (Ok first) → EmitsBytes G old new (Ok other)

@@ -3,6 +3,7 @@ pub mod Asked
 pub mod Check
 pub mod Customs
 pub mod Edits
+pub mod Emission
 pub mod Entry
 pub mod Flags
 pub mod Following

@@ -6,6 +6,7 @@ use Rattle.walrus_base.specs.Arena.{item_at}
 use Rattle.walrus_base.specs.Id.{place}
 use Rattle.walrus_base.specs.declared.id.Id.{Id}
 use Rattle.walrus_base.specs.declared.keys.FunctionKey.{FunctionKey}
+use Rattle.walrus_base.specs.declared.keys.ImportKey.{ImportKey}
 use Rattle.walrus_base.specs.declared.keys.LocalKey.{LocalKey}
 use Rattle.walrus_base.specs.declared.keys.TypeKey.{TypeKey}
 use Rattle.walrus_base.specs.Locals.{locals}
@@ -31,7 +32,7 @@ use Rattle.walrus_items.specs.declared.function_kind.FunctionKind.TheVariants.{I
 use Rattle.walrus_items.specs.declared.kinds.ExportItem.TheVariants.{Function}
 use Rattle.walrus_items.specs.Exports.{ExportValue, exports, exports_item}
 use Rattle.walrus_items.specs.Functions.{FunctionValue, functions}
-use Rattle.walrus_items.specs.Imports.{ImportValue, imports, imports_item}
+use Rattle.walrus_items.specs.Imports.{ImportValue, imported_function, imports, imports_item}
 use Rattle.walrus_items.specs.Searches.{first}
 use Rattle.walrus_module.specs.declared.module.Module.{Module}
 
@@ -97,6 +98,16 @@ LendsKind (Uninitialized ty) result = IsErrOf result NotReplaceable
 abbrev pub LendsBody : Option FunctionValue → Result (Bor LocalFunction) Error → Type 0
 LendsBody None result = IsErrOf result DeadItem
 LendsBody (Some f) result = LendsKind f.kind result
+
+-- the function that an import brings, or that it brings none
+abbrev pub TellsFunction : Option (Id FunctionKey) → Result (Id FunctionKey) Error → Type 0
+TellsFunction None result = IsErrOf result NotImported
+TellsFunction (Some fid) result = result ≡ Ok fid
+
+-- the function that what stands at an import's place brings, or why there is none
+abbrev pub TellsBrought : Option ImportValue → Result (Id FunctionKey) Error → Type 0
+TellsBrought None result = IsErrOf result DeadItem
+TellsBrought (Some x) result = TellsFunction (imported_function x.kind) result
 
 -- the type of an imported function, or that it isn't imported
 abbrev pub TellsKind : FunctionKind → Result (Id TypeKey) Error → Type 0
@@ -177,11 +188,30 @@ module _ {S : Type 0} where
   MakesKindLocal post fid i f (Local l) old new result = IsErrOf result NotReplaceable × (new ≡ old)
   MakesKindLocal post fid i f (Uninitialized ty) old new result = IsErrOf result NotReplaceable × (new ≡ old)
 
+  -- by what stands at the function's place
+  abbrev pub MakesSlotLocal : Builds → Id FunctionKey → ℕ → Option FunctionValue → (old new : Module S) → Result (Id FunctionKey) Error → Type 0
+  MakesSlotLocal post fid i None old new result = IsErrOf result DeadItem × (new ≡ old)
+  MakesSlotLocal post fid i (Some f) old new result = MakesKindLocal post fid i f f.kind old new result
+
   -- by the first import of the function, and what stands at its place
   abbrev pub MakesFoundLocal : Builds → Id FunctionKey → Option (ℕ × ImportValue) → Option FunctionValue → (old new : Module S) → Result (Id FunctionKey) Error → Type 0
   MakesFoundLocal post fid None slot old new result = IsErrOf result NotImported × (new ≡ old)
-  MakesFoundLocal post fid (Some i) None old new result = IsErrOf result DeadItem × (new ≡ old)
-  MakesFoundLocal post fid (Some i) (Some f) old new result = MakesKindLocal post fid i.0 f f.kind old new result
+  MakesFoundLocal post fid (Some i) slot old new result = MakesSlotLocal post fid i.0 slot old new result
 
   abbrev pub ReplacesImported : Builds → Id FunctionKey → (old new : Module S) → Result (Id FunctionKey) Error → Type 0
   ReplacesImported post fid old new result = MakesFoundLocal post fid (first (imports_item (function_item (place fid))) (imports old.imports)) (item_at (functions old.funcs) (place fid)) old new result
+
+  -- ---- the function that an import brings
+
+  -- by the function that the import at this place brings, if it brings one
+  abbrev pub MakesBroughtLocal : Builds → ℕ → Option (Id FunctionKey) → (old new : Module S) → Result (Id FunctionKey) Error → Type 0
+  MakesBroughtLocal post i None old new result = IsErrOf result NotImported × (new ≡ old)
+  MakesBroughtLocal post i (Some fid) old new result = MakesSlotLocal post fid i (item_at (functions old.funcs) (place fid)) old new result
+
+  -- by what stands at the import's place
+  abbrev pub MakesImportedLocal : Builds → ℕ → Option ImportValue → (old new : Module S) → Result (Id FunctionKey) Error → Type 0
+  MakesImportedLocal post i None old new result = IsErrOf result DeadItem × (new ≡ old)
+  MakesImportedLocal post i (Some x) old new result = MakesBroughtLocal post i (imported_function x.kind) old new result
+
+  abbrev pub ReplacesImport : Builds → Id ImportKey → (old new : Module S) → Result (Id FunctionKey) Error → Type 0
+  ReplacesImport post at old new result = MakesImportedLocal post (place at) (item_at (imports old.imports) (place at)) old new result

@@ -1,7 +1,7 @@
 //! What the calls that edit a module make of the abstract module, so that the laws of edits of `walrus_theorem` tell what stays. Nothing
 //! runs here.
 
-ghost use Rattle.walrus_module.specs.Edits.{BodiesSet, CustomAdded, CustomDeleted, CustomSet, DataAdded, DataDeleted, ElementDeleted, ExportAdded, ExportDeleted, ExportSet, ExportedReplaced, FunctionAdded, FunctionDeleted, FunctionImported, FunctionMadeImported, GlobalAdded, GlobalDeleted, ImportSet, ImportedReplaced, MemoryDeleted, RawRemoved, TableDeleted, TagDeleted, TypeFound};
+ghost use Rattle.walrus_module.specs.Edits.{BodiesSet, CustomAdded, CustomDeleted, CustomSet, DataAdded, DataDeleted, ElementDeleted, ExportAdded, ExportDeleted, ExportSet, ExportedReplaced, FunctionAdded, FunctionDeleted, FunctionImported, FunctionMadeImported, GlobalAdded, GlobalDeleted, HeldHasSegments, ImportReplaced, ImportSet, ImportedReplaced, MemoryDeleted, RawRemoved, TableDeleted, TagDeleted, TypeFound};
 
 use crate::module::Module;
 use walrus_base::LocalId;
@@ -58,6 +58,14 @@ pub fn imported_functions_become_local<
     ensures { ImportedReplaced (F.post _build.now) «module».now }
 {}
 
+/// So is the function of an import that is [replaced](crate::Module::replace_import). `_build` only names what is built with.
+pub fn brought_functions_become_local<
+    S,
+    F: FnOnce(&mut InstrSeqBuilder, &Vec<LocalId>) -> Result<()>,
+>(module: &Module<S>, _build: &F)
+    ensures { ImportReplaced (F.post _build.now) «module».now }
+{}
+
 /// A function with a body that is written as imported, by an import that is added, is imported.
 pub fn local_functions_become_imported()
     ensures { FunctionMadeImported }
@@ -104,4 +112,10 @@ pub fn items_are_deleted()
     ensures global { GlobalDeleted }
     ensures element { ElementDeleted }
     ensures segment { DataDeleted }
+{}
+
+/// A module in memory, edited or not, has its list of active segments. So the law of `walrus_theorem` on what engines tell of an edited
+/// module and of what it is written as can be begun.
+pub fn active_segments_are_listed()
+    ensures { HeldHasSegments }
 {}

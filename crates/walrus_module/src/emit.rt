@@ -1,25 +1,14 @@
 //! Writing a module as bytes.
-ghost use Rattle.std.specs.Prelude.{◌≡◌, ◌⊎◌, IfOk, IsOkUnless, OnErr, OnOk, true};
+ghost use Rattle.std.specs.Prelude.{◌≡◌, IsOkUnless, OnErr, OnOk, true};
 ghost use Rattle.walrus_contents.specs.View.{parts_view};
 ghost use Rattle.walrus_items.specs.Elements.{elements};
+ghost use Rattle.walrus_items.specs.Errors.{out_of_memory};
 ghost use Rattle.walrus_model.specs.Dead.{HasDead};
 ghost use Rattle.walrus_model.specs.Declared.{NothingUndeclared};
-ghost use Rattle.walrus_items.specs.Errors.{out_of_memory};
 ghost use Rattle.walrus_theorem.specs.Chain.{Leaves};
-ghost use Rattle.walrus_reading.specs.Parsed.{ItemsAtOwnIds};
-ghost use Rattle.walrus_items.specs.Transform.{transform_of};
-ghost use Rattle.walrus_theorem.specs.Refused.{IsSayable, PassesLimits, RefusesToWrite};
-ghost use Rattle.walrus_theorem.specs.WellMade.{IsWellMade};
-ghost use Rattle.walrus_module.specs.Answered.{IsWellWritten, WritesUnless};
-ghost use Rattle.walrus_module.specs.Asked.{asked_first};
-ghost use Rattle.walrus_module.specs.Customs.{sections};
-ghost use Rattle.walrus_module.specs.Flags.{config_of};
-ghost use Rattle.walrus_module.specs.Following.{AreRaw, IsToldOf, LeavesCustoms, OneMayRefuseThen};
-ghost use Rattle.walrus_module.specs.Left.{AddsDeclared, ChangesElements, LeavesBy, but_customs};
-ghost use Rattle.walrus_module.specs.Settings.{settings};
-ghost use Rattle.walrus_module.specs.View.{contents_of, held_view, locations_of, meanings, view};
-ghost use Rattle.walrus_writing.specs.Emitted.{IsEmitted, told};
-ghost use Rattle.walrus_writing.specs.Transform.{IsTransformOf};
+ghost use Rattle.walrus_module.specs.Emission.{EmitsBytes, EmitsTransform};
+ghost use Rattle.walrus_module.specs.Left.{AddsDeclared, ChangesElements};
+ghost use Rattle.walrus_module.specs.View.{held_view, view};
 
 use crate::module::Module;
 use crate::written::write_parts;
@@ -43,37 +32,7 @@ impl Module {
     /// or a type names what gets its index later; `NotWritable` where no bytes spell a body, a type, an initialiser or a segment; `TooLarge` where
     /// a count or a size passes 32 bits. What a custom section of a caller's own refuses with: `Caller`, where one that is asked, or handed the transform, may refuse. And `Memory`.
     pub fn emit_wasm(&mut self, alloc: Global) -> Result<Vec<u8>>
-        ensures left { LeavesBy (view ⟦<dyn CustomSection as CustomSection>⟧ self.old)
-            (view ⟦<dyn CustomSection as CustomSection>⟧ (but_customs self.old self.new)) (told result) }
-        ensures segments { AddsDeclared (elements self.old.elements) (elements self.new.elements) }
-        ensures others { ChangesElements self.old (but_customs self.old self.new) }
-        ensures settled { NothingUndeclared (view ⟦<dyn CustomSection as CustomSection>⟧ self.old)
-            → but_customs self.old self.new ≡ self.old }
-        ensures customs { LeavesCustoms ⟦<dyn CustomSection as CustomSection>⟧
-            (settings self.old).preserve_code_transform
-            (λ r x. IsSayable (view ⟦<dyn CustomSection as CustomSection>⟧ self.new)
-            → IsTransformOf (config_of (settings self.old)) true (locations_of self.new)
-            (view ⟦<dyn CustomSection as CustomSection>⟧ self.new) r.items x)
-            (IsToldOf (config_of (settings self.old)) (contents_of self.new)
-            (asked_first (meanings ⟦<dyn CustomSection as CustomSection>⟧ self.old)))
-            self.old.customs self.new.customs result }
-        ensures raw { AreRaw (sections self.old.customs) → self.new.customs ≡ self.old.customs }
-        ensures emitted { IfOk result (λ r. IsEmitted (config_of (settings self.old))
-            (view ⟦<dyn CustomSection as CustomSection>⟧ self.new) r.items) }
-        ensures refused { RefusesToWrite
-            (OneMayRefuseThen ⟦<dyn CustomSection as CustomSection>⟧ self.old.customs self.new.customs)
-            (config_of (settings self.old))
-            (view ⟦<dyn CustomSection as CustomSection>⟧ self.new) (told result) }
-        ensures declared { OnOk result (NothingUndeclared
-            (view ⟦<dyn CustomSection as CustomSection>⟧ self.new)) }
-        ensures well_made { IsWellMade (config_of (settings self.old))
-            (view ⟦<dyn CustomSection as CustomSection>⟧ self.old) → WritesUnless
-            (PassesLimits (config_of (settings self.old))
-            (view ⟦<dyn CustomSection as CustomSection>⟧ self.new))
-            (OneMayRefuseThen ⟦<dyn CustomSection as CustomSection>⟧ self.old.customs self.new.customs)
-            (λ r. IsWellWritten (config_of (settings self.old))
-            (view ⟦<dyn CustomSection as CustomSection>⟧ self.new) r.items) (told result) }
-        ensures own_ids { ItemsAtOwnIds (contents_of self.old) → ItemsAtOwnIds (contents_of self.new) }
+        ensures { EmitsBytes ⟦<dyn CustomSection as CustomSection>⟧ self.old self.new result }
     {
         let (bytes, transform) = self.emit(alloc, false)?;
         drop(transform);
@@ -89,40 +48,7 @@ impl Module {
     ///
     /// Those of [`Module::emit_wasm`].
     pub fn emit_wasm_with_transform(&mut self, alloc: Global) -> Result<(Vec<u8>, CodeTransform)>
-        ensures left { LeavesBy (view ⟦<dyn CustomSection as CustomSection>⟧ self.old)
-            (view ⟦<dyn CustomSection as CustomSection>⟧ (but_customs self.old self.new)) (told result) }
-        ensures segments { AddsDeclared (elements self.old.elements) (elements self.new.elements) }
-        ensures others { ChangesElements self.old (but_customs self.old self.new) }
-        ensures settled { NothingUndeclared (view ⟦<dyn CustomSection as CustomSection>⟧ self.old)
-            → but_customs self.old self.new ≡ self.old }
-        ensures customs { LeavesCustoms ⟦<dyn CustomSection as CustomSection>⟧
-            (settings self.old).preserve_code_transform
-            (λ r x. x ≡ transform_of r.1)
-            (IsToldOf (config_of (settings self.old)) (contents_of self.new)
-            (asked_first (meanings ⟦<dyn CustomSection as CustomSection>⟧ self.old)))
-            self.old.customs self.new.customs result }
-        ensures raw { AreRaw (sections self.old.customs) → self.new.customs ≡ self.old.customs }
-        ensures emitted { IfOk result (λ r. IsEmitted (config_of (settings self.old))
-            (view ⟦<dyn CustomSection as CustomSection>⟧ self.new) r.0.items) }
-        ensures refused { RefusesToWrite
-            (OneMayRefuseThen ⟦<dyn CustomSection as CustomSection>⟧ self.old.customs self.new.customs)
-            (config_of (settings self.old))
-            (view ⟦<dyn CustomSection as CustomSection>⟧ self.new) (told result) }
-        ensures declared { OnOk result (NothingUndeclared
-            (view ⟦<dyn CustomSection as CustomSection>⟧ self.new)) }
-        ensures well_made { IsWellMade (config_of (settings self.old))
-            (view ⟦<dyn CustomSection as CustomSection>⟧ self.old) → WritesUnless
-            (PassesLimits (config_of (settings self.old))
-            (view ⟦<dyn CustomSection as CustomSection>⟧ self.new))
-            (OneMayRefuseThen ⟦<dyn CustomSection as CustomSection>⟧ self.old.customs self.new.customs)
-            (λ r. IsWellWritten (config_of (settings self.old))
-            (view ⟦<dyn CustomSection as CustomSection>⟧ self.new) r.0.items) (told result) }
-        ensures own_ids { ItemsAtOwnIds (contents_of self.old) → ItemsAtOwnIds (contents_of self.new) }
-        ensures transform { IfOk result (λ r.
-            IsSayable (view ⟦<dyn CustomSection as CustomSection>⟧ self.new)
-            → IsTransformOf (config_of (settings self.old)) (settings self.old).preserve_code_transform
-            (locations_of self.new) (view ⟦<dyn CustomSection as CustomSection>⟧ self.new) r.0.items
-            (transform_of r.1)) }
+        ensures { EmitsTransform ⟦<dyn CustomSection as CustomSection>⟧ self.old self.new true result }
     {
         self.emit(alloc, true)
     }
@@ -135,37 +61,7 @@ impl Module {
     /// Those of [`Module::emit_wasm`] but `DeadItem`.
     pub fn emit_whole(&mut self, alloc: Global) -> Result<Vec<u8>>
         requires { HasDead (view ⟦<dyn CustomSection as CustomSection>⟧ self.old) → ⊥ }
-        ensures left { LeavesBy (view ⟦<dyn CustomSection as CustomSection>⟧ self.old)
-            (view ⟦<dyn CustomSection as CustomSection>⟧ (but_customs self.old self.new)) (told result) }
-        ensures segments { AddsDeclared (elements self.old.elements) (elements self.new.elements) }
-        ensures others { ChangesElements self.old (but_customs self.old self.new) }
-        ensures settled { NothingUndeclared (view ⟦<dyn CustomSection as CustomSection>⟧ self.old)
-            → but_customs self.old self.new ≡ self.old }
-        ensures customs { LeavesCustoms ⟦<dyn CustomSection as CustomSection>⟧
-            (settings self.old).preserve_code_transform
-            (λ r x. IsSayable (view ⟦<dyn CustomSection as CustomSection>⟧ self.new)
-            → IsTransformOf (config_of (settings self.old)) true (locations_of self.new)
-            (view ⟦<dyn CustomSection as CustomSection>⟧ self.new) r.items x)
-            (IsToldOf (config_of (settings self.old)) (contents_of self.new)
-            (asked_first (meanings ⟦<dyn CustomSection as CustomSection>⟧ self.old)))
-            self.old.customs self.new.customs result }
-        ensures raw { AreRaw (sections self.old.customs) → self.new.customs ≡ self.old.customs }
-        ensures emitted { IfOk result (λ r. IsEmitted (config_of (settings self.old))
-            (view ⟦<dyn CustomSection as CustomSection>⟧ self.new) r.items) }
-        ensures refused { RefusesToWrite
-            (OneMayRefuseThen ⟦<dyn CustomSection as CustomSection>⟧ self.old.customs self.new.customs)
-            (config_of (settings self.old))
-            (view ⟦<dyn CustomSection as CustomSection>⟧ self.new) (told result) }
-        ensures declared { OnOk result (NothingUndeclared
-            (view ⟦<dyn CustomSection as CustomSection>⟧ self.new)) }
-        ensures well_made { IsWellMade (config_of (settings self.old))
-            (view ⟦<dyn CustomSection as CustomSection>⟧ self.old) → WritesUnless
-            (PassesLimits (config_of (settings self.old))
-            (view ⟦<dyn CustomSection as CustomSection>⟧ self.new))
-            (OneMayRefuseThen ⟦<dyn CustomSection as CustomSection>⟧ self.old.customs self.new.customs)
-            (λ r. IsWellWritten (config_of (settings self.old))
-            (view ⟦<dyn CustomSection as CustomSection>⟧ self.new) r.items) (told result) }
-        ensures own_ids { ItemsAtOwnIds (contents_of self.old) → ItemsAtOwnIds (contents_of self.new) }
+        ensures { EmitsBytes ⟦<dyn CustomSection as CustomSection>⟧ self.old self.new result }
     {
         let (bytes, transform) = self.emit_live(alloc, false)?;
         drop(transform);
@@ -174,40 +70,7 @@ impl Module {
 
     // The same as both, where the places are only true if they are asked for, or sections are to follow the code.
     fn emit(&mut self, alloc: Global, tells: bool) -> Result<(Vec<u8>, CodeTransform)>
-        ensures left { LeavesBy (view ⟦<dyn CustomSection as CustomSection>⟧ self.old)
-            (view ⟦<dyn CustomSection as CustomSection>⟧ (but_customs self.old self.new)) (told result) }
-        ensures segments { AddsDeclared (elements self.old.elements) (elements self.new.elements) }
-        ensures others { ChangesElements self.old (but_customs self.old self.new) }
-        ensures settled { NothingUndeclared (view ⟦<dyn CustomSection as CustomSection>⟧ self.old)
-            → but_customs self.old self.new ≡ self.old }
-        ensures customs { LeavesCustoms ⟦<dyn CustomSection as CustomSection>⟧
-            (settings self.old).preserve_code_transform
-            (λ r x. x ≡ transform_of r.1)
-            (IsToldOf (config_of (settings self.old)) (contents_of self.new)
-            (asked_first (meanings ⟦<dyn CustomSection as CustomSection>⟧ self.old)))
-            self.old.customs self.new.customs result }
-        ensures raw { AreRaw (sections self.old.customs) → self.new.customs ≡ self.old.customs }
-        ensures emitted { IfOk result (λ r. IsEmitted (config_of (settings self.old))
-            (view ⟦<dyn CustomSection as CustomSection>⟧ self.new) r.0.items) }
-        ensures refused { RefusesToWrite
-            (OneMayRefuseThen ⟦<dyn CustomSection as CustomSection>⟧ self.old.customs self.new.customs)
-            (config_of (settings self.old))
-            (view ⟦<dyn CustomSection as CustomSection>⟧ self.new) (told result) }
-        ensures declared { OnOk result (NothingUndeclared
-            (view ⟦<dyn CustomSection as CustomSection>⟧ self.new)) }
-        ensures well_made { IsWellMade (config_of (settings self.old))
-            (view ⟦<dyn CustomSection as CustomSection>⟧ self.old) → WritesUnless
-            (PassesLimits (config_of (settings self.old))
-            (view ⟦<dyn CustomSection as CustomSection>⟧ self.new))
-            (OneMayRefuseThen ⟦<dyn CustomSection as CustomSection>⟧ self.old.customs self.new.customs)
-            (λ r. IsWellWritten (config_of (settings self.old))
-            (view ⟦<dyn CustomSection as CustomSection>⟧ self.new) r.0.items) (told result) }
-        ensures own_ids { ItemsAtOwnIds (contents_of self.old) → ItemsAtOwnIds (contents_of self.new) }
-        ensures transform { ((settings self.old).preserve_code_transform ≡ true) ⊎ (tells ≡ true)
-            → IfOk result (λ r. IsSayable (view ⟦<dyn CustomSection as CustomSection>⟧ self.new)
-            → IsTransformOf (config_of (settings self.old)) (settings self.old).preserve_code_transform
-            (locations_of self.new) (view ⟦<dyn CustomSection as CustomSection>⟧ self.new) r.0.items
-            (transform_of r.1)) }
+        ensures { EmitsTransform ⟦<dyn CustomSection as CustomSection>⟧ self.old self.new tells result }
     {
         check_live(alloc, self.parts())?;
         self.emit_live(alloc, tells)
@@ -216,40 +79,7 @@ impl Module {
     // The same where nothing dead is named.
     fn emit_live(&mut self, alloc: Global, tells: bool) -> Result<(Vec<u8>, CodeTransform)>
         requires { HasDead (held_view self.old) → ⊥ }
-        ensures left { LeavesBy (view ⟦<dyn CustomSection as CustomSection>⟧ self.old)
-            (view ⟦<dyn CustomSection as CustomSection>⟧ (but_customs self.old self.new)) (told result) }
-        ensures segments { AddsDeclared (elements self.old.elements) (elements self.new.elements) }
-        ensures others { ChangesElements self.old (but_customs self.old self.new) }
-        ensures settled { NothingUndeclared (view ⟦<dyn CustomSection as CustomSection>⟧ self.old)
-            → but_customs self.old self.new ≡ self.old }
-        ensures customs { LeavesCustoms ⟦<dyn CustomSection as CustomSection>⟧
-            (settings self.old).preserve_code_transform
-            (λ r x. x ≡ transform_of r.1)
-            (IsToldOf (config_of (settings self.old)) (contents_of self.new)
-            (asked_first (meanings ⟦<dyn CustomSection as CustomSection>⟧ self.old)))
-            self.old.customs self.new.customs result }
-        ensures raw { AreRaw (sections self.old.customs) → self.new.customs ≡ self.old.customs }
-        ensures emitted { IfOk result (λ r. IsEmitted (config_of (settings self.old))
-            (view ⟦<dyn CustomSection as CustomSection>⟧ self.new) r.0.items) }
-        ensures refused { RefusesToWrite
-            (OneMayRefuseThen ⟦<dyn CustomSection as CustomSection>⟧ self.old.customs self.new.customs)
-            (config_of (settings self.old))
-            (view ⟦<dyn CustomSection as CustomSection>⟧ self.new) (told result) }
-        ensures declared { OnOk result (NothingUndeclared
-            (view ⟦<dyn CustomSection as CustomSection>⟧ self.new)) }
-        ensures well_made { IsWellMade (config_of (settings self.old))
-            (view ⟦<dyn CustomSection as CustomSection>⟧ self.old) → WritesUnless
-            (PassesLimits (config_of (settings self.old))
-            (view ⟦<dyn CustomSection as CustomSection>⟧ self.new))
-            (OneMayRefuseThen ⟦<dyn CustomSection as CustomSection>⟧ self.old.customs self.new.customs)
-            (λ r. IsWellWritten (config_of (settings self.old))
-            (view ⟦<dyn CustomSection as CustomSection>⟧ self.new) r.0.items) (told result) }
-        ensures own_ids { ItemsAtOwnIds (contents_of self.old) → ItemsAtOwnIds (contents_of self.new) }
-        ensures transform { ((settings self.old).preserve_code_transform ≡ true) ⊎ (tells ≡ true)
-            → IfOk result (λ r. IsSayable (view ⟦<dyn CustomSection as CustomSection>⟧ self.new)
-            → IsTransformOf (config_of (settings self.old)) (settings self.old).preserve_code_transform
-            (locations_of self.new) (view ⟦<dyn CustomSection as CustomSection>⟧ self.new) r.0.items
-            (transform_of r.1)) }
+        ensures { EmitsTransform ⟦<dyn CustomSection as CustomSection>⟧ self.old self.new tells result }
     {
         self.declare_references(alloc)?;
         let start = self.start;

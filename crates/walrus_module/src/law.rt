@@ -1,13 +1,17 @@
-//! The laws of a module in memory, as contracts. Nothing runs here.
+//! The laws of a module in memory, as contracts of functions in which nothing runs; and a function that makes the calls of which one of them speaks.
+ghost use Rattle.std.specs.Prelude.{◌≡◌, IfOk, false};
 ghost use Rattle.walrus_theorem.specs.OkLaws.{AreCounted};
 ghost use Rattle.walrus_theorem.specs.Once.{TypesLocals};
+ghost use Rattle.walrus_theorem.specs.Refused.{IsSayable};
 ghost use Rattle.walrus_module.specs.Check.{CheckedIsWellMade};
 ghost use Rattle.walrus_module.specs.Following.{FollowedWrite};
 ghost use Rattle.walrus_module.specs.Laws.{AbsentIsUncounted, EmitsAgain, HeldAreCounted, UnsayableIsOpen};
+ghost use Rattle.walrus_module.specs.Settings.{settings};
 ghost use Rattle.walrus_module.specs.View.{view};
 
 use crate::module::Module;
-use walrus_items::CustomSection;
+use std::alloc::Global;
+use walrus_items::{CustomSection, Result};
 
 /// A module for which [`emit_wasm`](crate::Module::emit_wasm) answered bytes is left as it is by a second call, which answers
 /// the same bytes, or is refused for want of memory or by a custom section that is asked. So the clauses of the two calls say,
@@ -40,3 +44,20 @@ pub fn checked_is_well_made(_module: &Module)
 pub fn followed_sections_write_by_state(_module: &Module)
     ensures { FollowedWrite ⟦<dyn CustomSection as CustomSection>⟧ }
 {}
+
+/// The bytes of a first and of a second call, which are the same, as [`second_emission_is_the_same`] says: so that law hangs on the contract of
+/// [`emit_wasm`](crate::Module::emit_wasm). Nothing is said under `preserve_code_transform`, nor where a custom section of the module's own is called
+/// `name` or `producers`.
+///
+/// # Errors
+///
+/// Those of [`emit_wasm`](crate::Module::emit_wasm).
+pub fn emitted_twice(alloc: Global, module: &mut Module) -> Result<(Vec<u8>, Vec<u8>)>
+    ensures { (settings «module».old).preserve_code_transform ≡ false
+        → IsSayable (view ⟦<dyn CustomSection as CustomSection>⟧ «module».old)
+        → IfOk result (λ r. r.1.items ≡ r.0.items) }
+{
+    let first = module.emit_wasm(alloc)?;
+    let second = module.emit_wasm(alloc)?;
+    Ok((first, second))
+}

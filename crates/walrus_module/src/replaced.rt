@@ -7,17 +7,19 @@ ghost use Rattle.walrus_base.specs.ModuleTypes.{type_slots};
 ghost use Rattle.walrus_base.specs.Value.{val_type};
 ghost use Rattle.walrus_items.specs.Exports.{exports};
 ghost use Rattle.walrus_items.specs.Functions.{functions};
+ghost use Rattle.walrus_items.specs.Imports.{imports};
 ghost use Rattle.walrus_model.specs.BlockHandlers.{params_of};
-ghost use Rattle.walrus_module.specs.Replaced.{LendsBody, Rebuilds, ReplacesExported, ReplacesImported, TellsType, naming, with_body};
+ghost use Rattle.walrus_module.specs.Replaced.{LendsBody, MakesSlotLocal, Rebuilds, ReplacesExported, ReplacesImport, ReplacesImported, TellsBrought, TellsType, naming, with_body};
 
 use crate::module::Module;
 use std::alloc::Global;
-use walrus_base::{ExportId, FunctionId, LocalId, ModuleTypes, TypeId, ValType};
+use walrus_base::{ExportId, FunctionId, ImportId, LocalId, ModuleTypes, TypeId, ValType};
 use walrus_bodies::LocalFunction;
 use walrus_functions::add_locals;
 use walrus_ir::InstrSeqBuilder;
 use walrus_items::{
-    Error, ExportItem, FunctionKind, ImportKind, ModuleExports, ModuleFunctions, Result,
+    Error, ExportItem, FunctionKind, ImportKind, ModuleExports, ModuleFunctions, ModuleImports,
+    Result,
 };
 
 // The body of the function of this id.
@@ -30,6 +32,19 @@ fn body_at(all: &ModuleFunctions, id: FunctionId) -> Result<&LocalFunction>
     match &all.get(id).kind {
         FunctionKind::Local(local) => Ok(local),
         FunctionKind::Import(_) | FunctionKind::Uninitialized(_) => Err(Error::NotReplaceable),
+    }
+}
+
+// The function that the import of this id brings.
+fn brought(all: &ModuleImports, at: ImportId) -> Result<FunctionId>
+    ensures { TellsBrought (item_at (imports all.now) (place at)) result }
+{
+    if !all.contains(at) {
+        return Err(Error::DeadItem);
+    }
+    match all.get(at).kind {
+        ImportKind::Function(id) => Ok(id),
+        _ => Err(Error::NotImported),
     }
 }
 
@@ -142,6 +157,42 @@ impl<S> Module<S> {
         let Some(import) = self.imports.first_id_of(ImportKind::Function(fid)) else {
             return Err(Error::NotImported);
         };
+        self.make_local(alloc, import, fid, build)
+    }
+
+    /// Replaces the function that this import brings by one that `build` builds, as [`replace_imported_func`](Module::replace_imported_func)
+    /// does, and this import goes; answers the function's id. No import is searched for, so that many functions are replaced in linear time.
+    /// Where another import brings the same function, that stays; behind parsing there is none.
+    ///
+    /// # Errors
+    ///
+    /// `DeadItem` where the import isn't there, else `NotImported` where it brings no function, else as `replace_imported_func`.
+    pub fn replace_import<F: FnOnce(&mut InstrSeqBuilder, &Vec<LocalId>) -> Result<()>>(
+        &mut self,
+        alloc: Global,
+        import: ImportId,
+        build: F,
+    ) -> Result<FunctionId>
+        requires callable { F.IsAlwaysCallable build }
+        ensures { ReplacesImport (F.post build) «import» self.old self.new result }
+    {
+        let fid = brought(&self.imports, import)?;
+        self.make_local(alloc, import, fid, build)
+    }
+
+    // The imported function is local, and this import of it goes.
+    fn make_local<F: FnOnce(&mut InstrSeqBuilder, &Vec<LocalId>) -> Result<()>>(
+        &mut self,
+        alloc: Global,
+        import: ImportId,
+        fid: FunctionId,
+        build: F,
+    ) -> Result<FunctionId>
+        requires callable { F.IsAlwaysCallable build }
+        requires live { IsLive (imports self.old.imports) (place «import») }
+        ensures { MakesSlotLocal (F.post build) fid (place «import»)
+            (item_at (functions self.old.funcs) (place fid)) self.old self.new result }
+    {
         let ty = imported_type(&self.funcs, fid)?;
         if !self.types.contains(ty) {
             return Err(Error::DeadItem);

@@ -2,7 +2,7 @@
 
 use crate::adds::{add, first_type};
 use crate::noted::{noted_last, raw_section};
-use crate::replaced::replace;
+use crate::replaced::{replace, replace_brought};
 use crate::scenes::Scene;
 use crate::seen::{Seen, is_as_seen, look_at};
 use crate::steps::{End, Kind, Outcome, Step, end_of, refused, written};
@@ -82,6 +82,7 @@ pub fn played(alloc: Global, scene: &Scene, input: &[u8], output: &[u8]) -> Outc
             Step::Emit => written(module.emit_wasm(alloc), output),
             Step::Add(kind) => end_of(add(alloc, &mut module, kind)),
             Step::Replace(kind) => end_of(replace(alloc, &mut module, kind)),
+            Step::ReplaceBrought => end_of(replace_brought(alloc, &mut module)),
             Step::Raw => match raw_section(alloc) {
                 Ok(section) => end_of(module.customs.add(SectionEntry::Raw(section))),
                 Err(refusal) => refused(refusal),

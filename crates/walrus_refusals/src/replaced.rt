@@ -3,7 +3,7 @@
 use crate::adds::first_function;
 use crate::steps::Kind;
 use std::alloc::Global;
-use walrus::{FunctionId, InstrSeqBuilder, LocalId, Module, Result};
+use walrus::{FunctionId, ImportId, InstrSeqBuilder, LocalId, Module, Result};
 
 // Makes a number and drops it.
 fn put_dropped(body: &mut InstrSeqBuilder) -> Result<()> {
@@ -32,6 +32,15 @@ fn replace_imported<S>(
     module.replace_imported_func(
         alloc,
         id,
+        |body: &mut InstrSeqBuilder, _args: &Vec<LocalId>| -> Result<()> { put_dropped(body) },
+    )
+}
+
+/// Replaces the function of the first import by one that makes a number and drops it.
+pub fn replace_brought<S>(alloc: Global, module: &mut Module<S>) -> Result<FunctionId> {
+    module.replace_import(
+        alloc,
+        ImportId::at(0),
         |body: &mut InstrSeqBuilder, _args: &Vec<LocalId>| -> Result<()> { put_dropped(body) },
     )
 }

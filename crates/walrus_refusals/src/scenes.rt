@@ -57,10 +57,12 @@ const EXPORTED: [Step; 3] = [Step::Replace(Kind::Export), Step::Collect, Step::E
 
 const IMPORTED: [Step; 2] = [Step::Replace(Kind::Function), Step::Emit];
 
+const BROUGHT: [Step; 2] = [Step::ReplaceBrought, Step::Emit];
+
 const SECTIONS: [Step; 4] = [Step::Raw, Step::Boxed, Step::Collect, Step::Emit];
 
 /// All scenes.
-pub const SCENES: [Scene; 12] = [
+pub const SCENES: [Scene; 13] = [
     Scene {
         name: "two functions, of which the second is exported",
         input: "00 61 73 6D 01 00 00 00 01 04 01 60 00 00 03 03 02 00 00 07 05 01 01 66 00 01 0A 07 02 02 00 0B 02 00 0B",
@@ -153,6 +155,14 @@ pub const SCENES: [Scene; 12] = [
         name: "an imported function that is replaced",
         input: "00 61 73 6D 01 00 00 00 01 04 01 60 00 00 02 0D 01 03 6D 6F 64 05 64 75 6D 6D 79 00 00 07 05 01 01 66 00 00",
         steps: &IMPORTED,
+        output: "00 61 73 6D 01 00 00 00 01 04 01 60 00 00 03 02 01 00 07 05 01 01 66 00 00 0A 08 01 06 00 41 E1 21 1A 0B",
+        declared: "",
+        produces: false,
+    },
+    Scene {
+        name: "an imported function that is replaced by its import",
+        input: "00 61 73 6D 01 00 00 00 01 04 01 60 00 00 02 0D 01 03 6D 6F 64 05 64 75 6D 6D 79 00 00 07 05 01 01 66 00 00",
+        steps: &BROUGHT,
         output: "00 61 73 6D 01 00 00 00 01 04 01 60 00 00 03 02 01 00 07 05 01 01 66 00 00 0A 08 01 06 00 41 E1 21 1A 0B",
         declared: "",
         produces: false,

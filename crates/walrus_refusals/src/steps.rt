@@ -19,6 +19,8 @@ pub enum Step {
     Add(Kind),
     /// Replaces the first function: an exported one (`Export`), or an imported one.
     Replace(Kind),
+    /// Replaces the function of the first import.
+    ReplaceBrought,
 }
 
 /// What is imported or added.

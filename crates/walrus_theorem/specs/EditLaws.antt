@@ -1,4 +1,4 @@
--- Edits that leave a well-made module well made, and what is reached there: each with what has to be asked, which a caller can test.
+-- Edits that leave a well-made module well made, and what is reached there: each with what has to be asked of the module and of what is new.
 use Rattle.std.specs.Prelude.{ℕ, Bool, true, List, Some, Contains, ◌≡◌, ◌≢◌, ◌⊎◌, ⊤}
 use Rattle.walrus_base.specs.Operators.{Space, Item, function_item, type_item}
 use Rattle.walrus_model.specs.Abstract.{Abstract, Body, Import, Export, Custom}

@@ -1,8 +1,9 @@
 -- What an engine can tell of a module. It begins with what the module shows: its exports, whether it has a start function, and its active
 -- segments, in their order. From there it comes to items by the names that stand in what it looks at. Of an item it sees all that is written in
 -- it but numbers: those of items, of imports, for which their two names stand, and of locals. Of two items it is told whether they are one, of
--- types never. All else it does on notes of its own, what operators and hosts do among it. An engine that runs a module as the standard says
--- ("Execution") is one of these, since it comes to items by names alone; `WorkedEngine` has one. Many others are, which count, or compare bodies.
+-- types never: to test one it walks both. All else it does on notes of its own, what operators and hosts do among it. That running a module as
+-- the standard says ("Execution") is such an engine is read, not proved; `WorkedEngine` has a small one. Many others are, which count, or compare
+-- bodies. Nothing here is said of validation, linking, memory, numbers that a host shows, custom sections, time and depth.
 use Rattle.std.specs.Prelude.{ℕ, zero, suc, Bool, false, List, [], ◌∷◌, ◌++◌, map, length, Option, Some, None, option_map, is_some, Contains, AllPairs, slice_get, ◌≡◌, ◌==◌, ◌<◌, ◌↔◌}
 use Rattle.wasm_opcodes.specs.declared.one_byte.TheConstants.{NOP}
 use Rattle.walrus_base.specs.Types.{ValType, SubType, map_sub, map_val, val_names}

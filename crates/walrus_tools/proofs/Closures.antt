@@ -6,6 +6,7 @@ use Rattle.walrus_base.specs.Arena.{item_at}
 use Rattle.walrus_base.specs.Id.{place}
 use Rattle.walrus_base.specs.declared.id.Id.{Id}
 use Rattle.walrus_base.specs.declared.keys.FunctionKey.{FunctionKey}
+use Rattle.walrus_base.specs.declared.keys.ImportKey.{ImportKey}
 use Rattle.walrus_base.specs.declared.keys.LocalKey.{LocalKey}
 use Rattle.walrus_base.specs.declared.keys.TypeKey.{TypeKey}
 use Rattle.walrus_base.specs.ModuleTypes.{type_slots}
@@ -19,9 +20,9 @@ use Rattle.walrus_items.specs.declared.function_kind.FunctionKind.{FunctionKind}
 use Rattle.walrus_items.specs.declared.function_kind.FunctionKind.TheVariants.{Import, Local, Uninitialized}
 use Rattle.walrus_items.specs.Exports.{ExportValue, exports, exports_item}
 use Rattle.walrus_items.specs.Functions.{FunctionValue, functions}
-use Rattle.walrus_items.specs.Imports.{ImportValue, imports, imports_item}
+use Rattle.walrus_items.specs.Imports.{ImportValue, imported_function, imports}
 use Rattle.walrus_items.specs.Searches.{first}
-use Rattle.walrus_module.specs.Replaced.{Builds, IsBuilt, IsNew, MakesFoundLocal, MakesKindLocal, MakesLocal, ReplacesExported, ReplacesFound, ReplacesImported, ReplacesKind}
+use Rattle.walrus_module.specs.Replaced.{Builds, IsBuilt, IsNew, MakesBroughtLocal, MakesImportedLocal, MakesKindLocal, MakesLocal, MakesSlotLocal, ReplacesExported, ReplacesFound, ReplacesImport, ReplacesKind}
 use Rattle.walrus_module.specs.declared.module.Module.{Module}
 
 module _ (P Q : Builds) (weaker : (shown : MutBor InstrSeqBuilder) (given : Bor (Vec (Id LocalKey))) (answer : Result (Unit {0}) Error) (left : MutBor InstrSeqBuilder) → P shown given answer left → Q shown given answer left) where
@@ -43,13 +44,9 @@ module _ (P Q : Builds) (weaker : (shown : MutBor InstrSeqBuilder) (given : Bor 
     by_kind i f (Local l) result h = h
     by_kind i f (Uninitialized ty) result h = h
 
-    by_found : (o : Option (ℕ × ImportValue)) (slot : Option FunctionValue) (result : Result (Id FunctionKey) Error) → MakesFoundLocal P fid o slot old new result → MakesFoundLocal Q fid o slot old new result
-    by_found None slot result h = h
-    by_found (Some i) None result h = h
-    by_found (Some i) (Some f) result h = by_kind i.0 f f.kind result h
-
-    pub imported_by : (result : Result (Id FunctionKey) Error) → ReplacesImported P fid old new result → ReplacesImported Q fid old new result
-    imported_by result h = by_found (first (imports_item (function_item (place fid))) (imports old.imports)) (item_at (functions old.funcs) (place fid)) result h
+    by_slot : (i : ℕ) (slot : Option FunctionValue) (result : Result (Id FunctionKey) Error) → MakesSlotLocal P fid i slot old new result → MakesSlotLocal Q fid i slot old new result
+    by_slot i None result h = h
+    by_slot i (Some f) result h = by_kind i f f.kind result h
 
     by_kind_exported : (e : ℕ × ExportValue) (k : FunctionKind) (result : Result (Id FunctionKey) Error) → ReplacesKind P e k old new result → ReplacesKind Q e k old new result
     by_kind_exported e (Local l) (Ok id) r = record { is_next = r.is_next; args = r.args; parameters = r.parameters; function = r.function; is_new = new_by (function_type l) r.args r.function r.is_new; funcs = r.funcs; exported = r.exported; others = r.others }
@@ -66,11 +63,24 @@ module _ (P Q : Builds) (weaker : (shown : MutBor InstrSeqBuilder) (given : Bor 
     pub exported_by : (result : Result (Id FunctionKey) Error) → ReplacesExported P fid old new result → ReplacesExported Q fid old new result
     exported_by result h = by_found_exported (first (exports_item (function_item (place fid))) (exports old.exports)) (item_at (functions old.funcs) (place fid)) result h
 
+  -- of the function that an import brings
+  module _ {S : Type 0} (old new : Module S) where
+    by_function : (i : ℕ) (o : Option (Id FunctionKey)) (result : Result (Id FunctionKey) Error) → MakesBroughtLocal P i o old new result → MakesBroughtLocal Q i o old new result
+    by_function i None result h = h
+    by_function i (Some fid) result h = by_slot fid old new i (item_at (functions old.funcs) (place fid)) result h
+
+    by_place : (i : ℕ) (o : Option ImportValue) (result : Result (Id FunctionKey) Error) → MakesImportedLocal P i o old new result → MakesImportedLocal Q i o old new result
+    by_place i None result h = h
+    by_place i (Some x) result h = by_function i (imported_function x.kind) result h
+
+    pub import_by : (at : Id ImportKey) (result : Result (Id FunctionKey) Error) → ReplacesImport P at old new result → ReplacesImport Q at old new result
+    import_by at result h = by_place (place at) (item_at (imports old.imports) (place at)) result h
+
 -- the same, with what is known of the call first
-pub imported_in : {S : Type 0} (P Q : Builds) (fid : Id FunctionKey) (old new : Module S) (result : Result (Id FunctionKey) Error) → ReplacesImported P fid old new result
+pub import_in : {S : Type 0} (P Q : Builds) (at : Id ImportKey) (old new : Module S) (result : Result (Id FunctionKey) Error) → ReplacesImport P at old new result
     → ((shown : MutBor InstrSeqBuilder) (given : Bor (Vec (Id LocalKey))) (answer : Result (Unit {0}) Error) (left : MutBor InstrSeqBuilder) → P shown given answer left → Q shown given answer left)
-    → ReplacesImported Q fid old new result
-imported_in P Q fid old new result h weaker = imported_by P Q weaker fid old new result h
+    → ReplacesImport Q at old new result
+import_in P Q at old new result h weaker = import_by P Q weaker old new at result h
 
 pub exported_in : {S : Type 0} (P Q : Builds) (fid : Id FunctionKey) (old new : Module S) (result : Result (Id FunctionKey) Error) → ReplacesExported P fid old new result
     → ((shown : MutBor InstrSeqBuilder) (given : Bor (Vec (Id LocalKey))) (answer : Result (Unit {0}) Error) (left : MutBor InstrSeqBuilder) → P shown given answer left → Q shown given answer left)

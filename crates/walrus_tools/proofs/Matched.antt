@@ -1,7 +1,7 @@
--- In a well-made module an import of a function and that function name each other, so that a search finds the one of the other.
+-- In a well-made module an import of a function and that function name each other.
 use Rattle.std.proofs.Common.{◌≡◌, ℕ, Bool, true, false, cond, List, [], ◌∷◌, Option, Some, None, find, option_map, refl, sym, ap, ◌∙◌, subst, inl, inr}
 use Rattle.std.specs.Prelude.{Contains, ◌⊎◌}
-use Rattle.walrus_base.specs.Arena.{entries, item_at}
+use Rattle.walrus_base.specs.Arena.{item_at}
 use Rattle.walrus_base.specs.Id.{place}
 use Rattle.walrus_base.specs.ModuleTypes.{type_slots}
 use Rattle.walrus_base.specs.Operators.{Functions, Item, function_item}
@@ -15,14 +15,10 @@ use Rattle.walrus_items.specs.Kinds.{imported}
 use Rattle.walrus_items.specs.declared.function_kind.FunctionKind.{FunctionKind}
 use Rattle.walrus_items.specs.declared.function_kind.FunctionKind.TheVariants.{Import, Local, Uninitialized}
 use Rattle.walrus_items.specs.declared.function_kind.ImportedFunction.{ImportedFunction}
-use Rattle.walrus_items.proofs.ItemLemmas.{is_item-same, same-is_item}
 use Rattle.walrus_items.specs.Functions.{FunctionValue, functions}
-use Rattle.walrus_items.specs.Imports.{ImportValue, imports, imports_item}
-use Rattle.walrus_items.specs.Searches.{first}
-use Rattle.walrus_base.proofs.SearchFound.{found-item, found-passes}
+use Rattle.walrus_items.specs.Imports.{ImportValue, imports}
 use Rattle.walrus_contents.specs.View.{contents_view, function, import_of, kind_of}
 use Rattle.walrus_contents.specs.declared.parts.Contents.{Contents}
-use Rattle.walrus_model.proofs.Slots.{entry_in}
 use Rattle.walrus_theorem.specs.WellMade.{IsWellMade}
 use Rattle.walrus_base.proofs.Lists.{Contains-none, Contains-uncons}
 use Rattle.walrus_tools.proofs.StubTurn.{Theirs}
@@ -78,14 +74,3 @@ module _ (c : Config) (m : Contents) (made : IsWellMade c (contents_view m)) whe
 
     pub brought_by : IsBroughtBy m j n
     brought_by = with_slot (item_at (functions m.funcs) j) refl named
-
-    pub is_searched : first (imports_item (function_item j)) (imports m.imports) ≡ None → ⊥
-    is_searched none = finds (λ (e : ℕ × ImportValue). imports_item (function_item j) e.1) (entries (imports m.imports)) (n, x) (entry_in (imports m.imports) n x at) (same-is_item (imported x.kind) (function_item j) is) none
-
-  -- the first import of a function is the one that brings it
-  pub first_brings : (n j : ℕ) (x : ImportValue) → item_at (imports m.imports) n ≡ Some x → imported x.kind ≡ function_item j → (e : ℕ × ImportValue) → first (imports_item (function_item j)) (imports m.imports) ≡ Some e → e.0 ≡ n
-  first_brings n j x at is e found =
-      let one = brought_by n j x at is in
-      let two = brought_by e.0 j e.1 (found-item (λ (d : ℕ × ImportValue). imports_item (function_item j) d.1) (imports m.imports) e found) (is_item-same (imported e.1.kind) (function_item j) (found-passes (λ (d : ℕ × ImportValue). imports_item (function_item j) d.1) (imports m.imports) e found)) in
-      let same : two.f ≡ one.f = some_is (sym two.there ∙ one.there) in
-      sym two.at_place ∙ some_is (sym (ap import_place two.kind) ∙ ap (λ (f : FunctionValue). import_place f.kind) same ∙ ap import_place one.kind) ∙ one.at_place

@@ -170,6 +170,7 @@ module _ {S : Type 0} (name : List ℕ) (c : Config) (old new : Module S) (whole
         its_items : SnipsIn name (functions old.funcs) (functions new.funcs) (exports old.exports) (exports new.exports)
         its_items = record {
           export = export;
+          is_first = subst (λ (n : ℕ). first (exports_item (function_item n)) (exports old.exports) ≡ Some e) (sym its.2) is.found;
           old = f;
           there = there_too;
           body = l;

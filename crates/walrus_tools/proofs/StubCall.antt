@@ -5,6 +5,7 @@ use Rattle.walrus_base.specs.Arena.{item_at}
 use Rattle.walrus_base.specs.Id.{place}
 use Rattle.walrus_base.specs.declared.id.Id.{Id}
 use Rattle.walrus_base.specs.declared.keys.FunctionKey.{FunctionKey}
+use Rattle.walrus_base.specs.declared.keys.ImportKey.{ImportKey}
 use Rattle.walrus_base.specs.declared.keys.LocalKey.{LocalKey}
 use Rattle.walrus_base.specs.declared.keys.TypeKey.{TypeKey}
 use Rattle.walrus_base.specs.Locals.{locals}
@@ -24,12 +25,12 @@ use Rattle.walrus_items.specs.declared.function_kind.FunctionKind.{FunctionKind}
 use Rattle.walrus_items.specs.declared.kinds.ImportKind.{ImportKind}
 use Rattle.walrus_items.specs.declared.kinds.ImportKind.TheVariants as kinds
 use Rattle.walrus_items.specs.Functions.{FunctionValue, functions}
-use Rattle.walrus_items.specs.Imports.{ImportValue, imported_function, imports, imports_item}
-use Rattle.walrus_items.specs.Searches.{first}
-use Rattle.walrus_module.specs.Replaced.{IsMadeLocal, IsNew, MakesFoundLocal, MakesKindLocal, MakesLocal, OnlyLocals, RefusesLocal, ReplacesImported}
+use Rattle.walrus_items.specs.Imports.{ImportValue, imported_function, imports}
+use Rattle.walrus_base.proofs.Standing.{some_of}
+use Rattle.walrus_module.specs.Replaced.{IsMadeLocal, IsNew, MakesBroughtLocal, MakesImportedLocal, MakesKindLocal, MakesLocal, MakesSlotLocal, OnlyLocals, RefusesLocal, ReplacesImport}
 use Rattle.walrus_module.specs.View.{contents_of}
 use Rattle.walrus_module.specs.declared.module.Module.{Module}
-use Rattle.walrus_tools.proofs.Matched.{IsBroughtBy, brought_by, first_brings, is_searched, theirs}
+use Rattle.walrus_tools.proofs.Matched.{IsBroughtBy, brought_by, theirs}
 use Rattle.walrus_tools.proofs.Places.{all_below, none_below, not_yet, now_hit, passes_over, same_below}
 use Rattle.walrus_tools.proofs.StubStep.{stub_whole}
 use Rattle.walrus_tools.proofs.StubTurn.{stubs_more, stubs_none}
@@ -54,6 +55,7 @@ traps ty args function new =
 pub record Brings (from : List ℕ) (slot : Option ImportValue) (id : Id FunctionKey) : Type 0 where
   pub x : ImportValue
   pub there : slot ≡ Some x
+  pub function : imported_function x.kind ≡ Some id
   pub brings : imported x.kind ≡ function_item (place id)
 
 of_kind : (k : ImportKind) (id : Id FunctionKey) → imported_function k ≡ Some id → imported k ≡ function_item (place id)
@@ -65,7 +67,7 @@ of_kind (kinds.Tag t) id e = absurd (none_isnt e)
 
 brings : (from : List ℕ) (o : Option ImportValue) (id : Id FunctionKey) → function_from from o ≡ Some id → Brings from o id
 brings from None id e = absurd (none_isnt e)
-brings from (Some x) id e = record { x = x; there = refl; brings = of_kind x.kind id (by (bytes_eq x.module_name from) e) } where
+brings from (Some x) id e = let brought = by (bytes_eq x.module_name from) e in record { x = x; there = refl; function = brought; brings = of_kind x.kind id brought } where
   by : (b : Bool) → (if b then imported_function x.kind else None) ≡ Some id → imported_function x.kind ≡ Some id
   by true e = e
   by false e = absurd (none_isnt e)
@@ -78,14 +80,20 @@ module _ {S : Type 0} (c : Config) (from : List ℕ) (n : ℕ) (begun old new : 
   untouched : item_at (imports old.imports) n ≡ item_at (imports begun.imports) n
   untouched = some.stubs.items.gone n ∙ ap (λ (b : Bool). if b then None else item_at (imports begun.imports) n) (not_yet C n)
 
-  pub passes : function_from from (item_at (imports old.imports) n) ≡ None → StubsSome c from (n + 1) begun old
+  pub passes : comes_from from (imports old.imports) n ≡ false → StubsSome c from (n + 1) begun old
   passes none =
-      let miss : C n ≡ false = ap (λ (o : Option ImportValue). is_some (function_from from o)) (sym untouched) ∙ ap is_some none in
+      let miss : C n ≡ false = ap (λ (o : Option ImportValue). is_some (function_from from o)) (sym untouched) ∙ none in
       record { stubs = subst (λ (hits : ℕ → Bool). StubsAt hits begun old) (passes_over C n miss) some.stubs; whole = some.whole }
 
-  module _ (id : Id FunctionKey) (found : function_from from (item_at (imports old.imports) n) ≡ Some id) where
+  module _ (comes : comes_from from (imports old.imports) n ≡ true) where
+    abbrev its : (id : Id FunctionKey) × (function_from from (item_at (imports old.imports) n) ≡ Some id)
+    its = some_of (function_from from (item_at (imports old.imports) n)) comes
+
+    abbrev id : Id FunctionKey
+    id = its.0
+
     abbrev b : Brings from (item_at (imports old.imports) n) id
-    b = brings from (item_at (imports old.imports) n) id found
+    b = brings from (item_at (imports old.imports) n) id its.1
 
     abbrev by : IsBroughtBy (contents_of old) (place id) n
     by = brought_by c (contents_of old) some.whole.made n (place id) b.x b.there b.brings
@@ -108,13 +116,13 @@ module _ {S : Type 0} (c : Config) (from : List ℕ) (n : ℕ) (begun old new : 
           )
 
       hit : C n ≡ true
-      hit = ap (λ (o : Option ImportValue). is_some (function_from from o)) (sym untouched) ∙ ap is_some found
+      hit = ap (λ (o : Option ImportValue). is_some (function_from from o)) (sym untouched) ∙ comes
 
       made_some : StubsSome c from (n + 1) begun new
       made_some = record {
         stubs = record {
           items = stubs_more (λ p. nat_lt p n && C p) (λ p. nat_lt p (n + 1) && C p) (functions begun.funcs) (functions old.funcs) (functions new.funcs) (imports begun.imports) (imports old.imports) (imports new.imports) n (place id) by.f by.by local.function
-              some.stubs.items (theirs c (contents_of begun) begun_whole.made) (not_yet C n) (now_hit C n hit) (same_below C n) by.there by.kind by.at_place local.is_new.typed (traps (by.by).ty local.args local.function local.is_new) local.funcs (some_there (item_at (imports old.imports) n) b.there)
+              some.stubs.items (theirs c (contents_of begun) begun_whole.made) (not_yet C n) (now_hit C n hit) (same_below C n) by.there by.kind by.at_place local.is_new.typed (traps (by.by).ty local.args local.function local.is_new) local.is_new.handlers local.funcs (some_there (item_at (imports old.imports) n) b.there)
               (subst (λ k. imports new.imports ≡ slice_set (imports old.imports) k None) by.at_place local.gone);
           locals = grown;
           others = local.others ∙ ap (λ (m : Module S). record m { funcs = new.funcs; imports = new.imports; locals = new.locals }) some.stubs.others;
@@ -126,21 +134,21 @@ module _ {S : Type 0} (c : Config) (from : List ℕ) (n : ℕ) (begun old new : 
     refuses e (inl memory) = memory
     refuses e (inr (args, parameters, (builder, built_so))) = built_so.called
 
-    answers : (i : ℕ) (result : Result (Id FunctionKey) Error) → i ≡ n → MatchResult result (IsMadeLocal PutsTrap id i by.f (by.by).ty by.def old new) (λ e. RefusesLocal PutsTrap by.def old new e × OnlyLocals old new)
+    answers : (result : Result (Id FunctionKey) Error) → MatchResult result (IsMadeLocal PutsTrap id n by.f (by.by).ty by.def old new) (λ e. RefusesLocal PutsTrap by.def old new e × OnlyLocals old new)
         → MatchResult result (λ done. StubsSome c from (n + 1) begun new) (λ e. e ≡ out_of_memory)
-    answers i (Ok r) at_n local = made_some r (subst (λ k. IsMadeLocal PutsTrap id k by.f (by.by).ty by.def old new r) (at_n ∙ sym by.at_place) local)
-    answers i (Err e) at_n refused = refuses e refused.0
+    answers (Ok r) local = made_some r (subst (λ k. IsMadeLocal PutsTrap id k by.f (by.by).ty by.def old new r) (sym by.at_place) local)
+    answers (Err e) refused = refuses e refused.0
 
-    pub stubs_next : (result : Result (Id FunctionKey) Error) → ReplacesImported PutsTrap id old new result → MatchResult result (λ done. StubsSome c from (n + 1) begun new) (λ e. e ≡ out_of_memory)
-    stubs_next result replaced = by_first (first (imports_item (function_item (place id))) (imports old.imports)) refl replaced where
-      by_first : (o : Option (ℕ × ImportValue)) → first (imports_item (function_item (place id))) (imports old.imports) ≡ o → MakesFoundLocal PutsTrap id o (item_at (functions old.funcs) (place id)) old new result
-          → MatchResult result (λ done. StubsSome c from (n + 1) begun new) (λ e. e ≡ out_of_memory)
-      by_first None none h = absurd (is_searched c (contents_of old) some.whole.made n (place id) b.x b.there b.brings none)
-      by_first (Some e) is h =
-          answers e.0 result (first_brings c (contents_of old) some.whole.made n (place id) b.x b.there b.brings e is)
-          (subst (λ (o : Option TypeDef). MakesLocal PutsTrap id e.0 by.f (by.by).ty o old new result) by.typed
-          (subst (λ (k : FunctionKind). MakesKindLocal PutsTrap id e.0 by.f k old new result) by.kind
-          (subst (λ (o : Option FunctionValue). MakesFoundLocal PutsTrap id (Some e) o old new result) by.there h)))
+    pub stubs_next : (at : Id ImportKey) → place at ≡ n → (result : Result (Id FunctionKey) Error) → ReplacesImport PutsTrap at old new result
+        → MatchResult result (λ done. StubsSome c from (n + 1) begun new) (λ e. e ≡ out_of_memory)
+    stubs_next at at_n result replaced =
+        answers result
+        (subst (λ (o : Option TypeDef). MakesLocal PutsTrap id n by.f (by.by).ty o old new result) by.typed
+        (subst (λ (k : FunctionKind). MakesKindLocal PutsTrap id n by.f k old new result) by.kind
+        (subst (λ (o : Option FunctionValue). MakesSlotLocal PutsTrap id n o old new result) by.there
+        (subst (λ (o : Option (Id FunctionKey)). MakesBroughtLocal PutsTrap n o old new result) b.function
+        (subst (λ (o : Option ImportValue). MakesImportedLocal PutsTrap n o old new result) b.there
+        (subst (λ (k : ℕ). MakesImportedLocal PutsTrap k (item_at (imports old.imports) k) old new result) at_n replaced))))))
 
 module _ {S : Type 0} (c : Config) (from : List ℕ) (old : Module S) (whole : IsWhole c old) where
   -- nothing is done at first

@@ -1,10 +1,10 @@
 -- One function more that traps.
-use Rattle.std.proofs.Common.{◌≡◌, ◌≢◌, ℕ, Bool, true, false, List, Option, Some, None, IsSome, slice_set, refl, sym, ap, ◌∙◌, subst, ⊎_elim}
+use Rattle.std.proofs.Common.{◌≡◌, ◌≢◌, ℕ, Bool, true, false, List, [], Option, Some, None, IsSome, slice_set, refl, sym, ap, ◌∙◌, subst, ⊎_elim}
 use Rattle.std.specs.Prelude.{if◌then◌else◌}
 use Rattle.walrus_base.specs.Arena.{item_at}
 use Rattle.walrus_base.specs.Id.{place}
 use Rattle.walrus_base.specs.Operators.{Item, function_item}
-use Rattle.walrus_items.specs.Function.{function_type, body_of}
+use Rattle.walrus_items.specs.Function.{body_of, function_type, handlers_in}
 use Rattle.walrus_items.specs.LocalFunction.{LocalFunction}
 use Rattle.walrus_items.specs.Kinds.{imported}
 use Rattle.walrus_items.specs.declared.function_kind.FunctionKind.TheVariants.{Import}
@@ -28,7 +28,7 @@ stubs_none fs is = record { traps = λ j p f at by hit. absurd (let no_such : fa
 
 module _ (hits more : ℕ → Bool) (fs gs hs : List (Option FunctionValue)) (is js ks : List (Option ImportValue)) (n j : ℕ) (g : FunctionValue) (brought : ImportedFunction) (local : LocalFunction)
     (state : StubsWhere hits fs gs is js) (theirs : Theirs fs is) (not_yet : hits n ≡ false) (hit : more n ≡ true) (same_hits : (p : ℕ) → p ≢ n → more p ≡ hits p)
-    (there : item_at gs j ≡ Some g) (kind : g.kind ≡ Import brought) (at_place : place brought.«import» ≡ n) (typed : function_type local ≡ brought.ty) (traps : body_of local ≡ trap_ops)
+    (there : item_at gs j ≡ Some g) (kind : g.kind ≡ Import brought) (at_place : place brought.«import» ≡ n) (typed : function_type local ≡ brought.ty) (traps : body_of local ≡ trap_ops) (no_handlers : handlers_in local ≡ [])
     (set : hs ≡ slice_set gs j (Some (with_body local g))) (live : IsSome (item_at js n)) (gone : ks ≡ slice_set js n None) where
   by_import : import_place g.kind ≡ Some n
   by_import = ap import_place kind ∙ ap Some at_place
@@ -62,7 +62,7 @@ module _ (hits more : ℕ → Bool) (fs gs hs : List (Option FunctionValue)) (is
       ap (λ (x : Item). x.1) (sym one.2 ∙ ap (λ (x : ImportValue). imported x.kind) same ∙ two.2)
 
   trap_here : Traps g (item_at hs j)
-  trap_here = record { imported = brought; was = kind; function = local; is = ap (λ xs. item_at xs j) set ∙ set_here gs j (Some (with_body local g)) (some_there (item_at gs j) there); typed = typed; body = traps }
+  trap_here = record { imported = brought; was = kind; function = local; is = ap (λ xs. item_at xs j) set ∙ set_here gs j (Some (with_body local g)) (some_there (item_at gs j) there); typed = typed; body = traps; no_handlers = no_handlers }
 
   pub stubs_more : StubsWhere more fs hs is ks
   stubs_more = record {

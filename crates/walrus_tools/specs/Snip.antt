@@ -24,10 +24,11 @@ pub record Exports (name : List ℕ) (exports : List (Option ExportValue)) : Typ
   pub id : Id FunctionKey
   pub is_function : value.item ≡ Function id
 
--- Of these functions and exports those are left: a function was exported under this name that has a body; its export names another function
--- now, which came behind all others, takes the same parameters, is of the same type, and traps. Nothing else changed.
+-- Of these functions and exports those are left: a function was exported under this name, and under no other before, that has a body; its export
+-- names another function now, which came behind all others, takes the same parameters, is of the same type, and traps. Nothing else changed.
 pub record SnipsIn (name : List ℕ) (functions functions_left : List (Option FunctionValue)) (exports exports_left : List (Option ExportValue)) : Type 0 where
   pub export : Exports name exports
+  pub is_first : first (exports_item (function_item (place export.id))) exports ≡ Some (export.at, export.value)
   pub old : FunctionValue
   pub there : item_at functions (place export.id) ≡ Some old
   pub body : LocalFunction

@@ -1,10 +1,10 @@
 -- A module in which functions that imports brought are local, and trap ("Structure > Modules > Imports").
-use Rattle.std.specs.Prelude.{ℕ, Bool, true, false, List, Option, Some, None, option_and_then, is_some, bytes_eq, if◌then◌else◌, ◌≡◌}
+use Rattle.std.specs.Prelude.{ℕ, Bool, true, false, List, [], Option, Some, None, option_and_then, is_some, bytes_eq, if◌then◌else◌, ◌≡◌}
 use Rattle.walrus_base.specs.Arena.{item_at}
 use Rattle.walrus_base.specs.Id.{place}
 use Rattle.walrus_base.specs.declared.id.Id.{Id}
 use Rattle.walrus_base.specs.declared.keys.FunctionKey.{FunctionKey}
-use Rattle.walrus_items.specs.Function.{function_type, body_of}
+use Rattle.walrus_items.specs.Function.{body_of, function_type, handlers_in}
 use Rattle.walrus_items.specs.LocalFunction.{LocalFunction}
 use Rattle.walrus_items.specs.declared.function_kind.FunctionKind.{FunctionKind}
 use Rattle.walrus_items.specs.declared.function_kind.FunctionKind.TheVariants.{Import, Local, Uninitialized}
@@ -39,6 +39,7 @@ pub record Traps (f : FunctionValue) (slot : Option FunctionValue) : Type 0 wher
   pub is : slot ≡ Some (record f { kind = Local function })
   pub typed : function_type function ≡ imported.ty
   pub body : body_of function ≡ trap_ops
+  pub no_handlers : handlers_in function ≡ []
 
 -- Of these functions and imports those are left: each function that an import brought whose place `hits` traps, each other one is as it was;
 -- and those imports are gone, and no others.

@@ -22,7 +22,8 @@ use crate::wanted::Wanted;
 use std::alloc::Global;
 use std::test::Fail;
 use test_support::{bytes_of, demand, demand_bytes, is_text};
-use walrus::Result;
+use walrus::{Module, Result};
+use walrus_module::emitted_twice;
 
 // Fails where a caller refused, or answered with other bytes than these.
 fn demand_output(
@@ -53,6 +54,19 @@ const ONE: &str =
 fn one_of_two_functions_is_left(rt: HostRuntime) -> std::result::Result<(), Fail> {
     let bytes = bytes_of(rt.alloc(), TWO)?;
     demand_output(rt.alloc(), shrink(rt.alloc(), &bytes), ONE)
+}
+
+// The module as a first and as a second emission write it.
+fn emitted(alloc: Global, bytes: &[u8]) -> Result<(Vec<u8>, Vec<u8>)> {
+    let mut module = Module::from_buffer(alloc, bytes)?;
+    emitted_twice(alloc, &mut module)
+}
+
+#[test]
+fn a_second_emission_writes_the_same(rt: HostRuntime) -> std::result::Result<(), Fail> {
+    let (first, second) = emitted(rt.alloc(), &bytes_of(rt.alloc(), ONE)?)?;
+    demand_bytes(rt.alloc(), &first, ONE, "a first emission")?;
+    demand_bytes(rt.alloc(), &second, ONE, "a second emission")
 }
 
 // ---- gc, report and list under flags

@@ -2,12 +2,11 @@
 //! which traps.
 
 ghost use Rattle.std.specs.Prelude.{◌≡◌, ◌+◌};
-ghost use Rattle.walrus_base.specs.Arena.{item_at};
 ghost use Rattle.walrus_base.specs.Id.{place};
 ghost use Rattle.walrus_items.specs.Imports.{imports};
 ghost use Rattle.walrus_module.specs.Flags.{config_of, defaults};
-ghost use Rattle.walrus_module.specs.Replaced.{ReplacesImported};
-ghost use Rattle.walrus_tools.specs.Stub.{function_from};
+ghost use Rattle.walrus_module.specs.Replaced.{ReplacesImport};
+ghost use Rattle.walrus_tools.specs.Stub.{comes_from};
 ghost use Rattle.walrus_tools.specs.Stubbed.{AnswersStubbed, PutsTrap, StubsAll, StubsOne};
 
 use crate::ending::finished;
@@ -17,26 +16,26 @@ use walrus::{
     FunctionId, ImportId, ImportKind, InstrSeqBuilder, LocalId, Module, ModuleImports, Result,
 };
 
-// The function that the import of this id brings, if it is there and comes from this module.
-fn brought(all: &ModuleImports, at: ImportId, from: &str) -> Option<FunctionId>
-    ensures { result ≡ function_from from.now (item_at (imports all.now) (place at)) }
+// Whether the import of this id is there, comes from this module and brings a function.
+fn is_from(all: &ModuleImports, at: ImportId, from: &str) -> bool
+    ensures { result ≡ comes_from from.now (imports all.now) (place at) }
 {
     if !all.contains(at) || all.get(at).module.as_str() != from {
-        return None;
+        return false;
     }
     match all.get(at).kind {
-        ImportKind::Function(id) => Some(id),
-        _ => None,
+        ImportKind::Function(_) => true,
+        _ => false,
     }
 }
 
-// The imported function is local under its id, and traps.
-fn trap_import<S>(alloc: Global, module: &mut Module<S>, id: FunctionId) -> Result<FunctionId>
-    ensures { ReplacesImported PutsTrap id «module».old «module».new result }
+// The function that this import brings is local under its id, and traps.
+fn trap_import<S>(alloc: Global, module: &mut Module<S>, at: ImportId) -> Result<FunctionId>
+    ensures { ReplacesImport PutsTrap at «module».old «module».new result }
 {
-    module.replace_imported_func(
+    module.replace_import(
         alloc,
-        id,
+        at,
         |body: &mut InstrSeqBuilder, _args: &Vec<LocalId>| -> Result<()> { put_trap(body) },
     )
 }
@@ -45,10 +44,11 @@ fn trap_import<S>(alloc: Global, module: &mut Module<S>, id: FunctionId) -> Resu
 fn trap_at<S>(alloc: Global, module: &mut Module<S>, at: usize, from: &str) -> Result<()>
     ensures { StubsOne from.now at (at + 1) «module».old «module».new result }
 {
-    let Some(id) = brought(&module.imports, ImportId::at(at), from) else {
+    let import = ImportId::at(at);
+    if !is_from(&module.imports, import, from) {
         return Ok(());
-    };
-    trap_import(alloc, module, id)?;
+    }
+    trap_import(alloc, module, import)?;
     Ok(())
 }
 

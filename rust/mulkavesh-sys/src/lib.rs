@@ -142,10 +142,10 @@ extern "C" {
         length: *mut usize,
     ) -> u32;
 
-    /// The functions with a body that [`mulkavesh_gc`] keeps, by rising index: for each its index
-    /// in the input, the bytes of its body in the output, and the length of its name in the input
-    /// or [`MULKAVESH_NO_NAME`], as three numbers of 32 bits, little-endian, and then the name. Of
-    /// the flags [`MULKAVESH_NO_LEGACY`] alone has a say.
+    /// The functions with a body that [`mulkavesh_gc`] keeps, by rising index. For each: its index
+    /// in the input, the bytes of its body in the output, and the length of its name or
+    /// [`MULKAVESH_NO_NAME`], as three numbers of 32 bits, little-endian; and then the name as the
+    /// input's name section has it. Of the flags [`MULKAVESH_NO_LEGACY`] alone has a say.
     pub fn mulkavesh_list(
         input: *const u8,
         input_length: usize,
@@ -155,8 +155,10 @@ extern "C" {
         length: *mut usize,
     ) -> u32;
 
-    /// The module without its first custom section of this name; what nothing reaches stays.
-    /// [`MULKAVESH_NOT_FOUND`] where there is none.
+    /// The module without its first custom section of this name, or [`MULKAVESH_NOT_FOUND`]. What
+    /// nothing reaches stays, but all is written anew as by [`mulkavesh_gc`]: functions are ordered
+    /// by size, debug information is gone, and other custom sections are as they were, and so stale
+    /// where they hold indices. Names, producers and debug information aren't found by it.
     pub fn mulkavesh_strip(
         input: *const u8,
         input_length: usize,
@@ -169,8 +171,9 @@ extern "C" {
     ) -> u32;
 
     /// Why [`mulkavesh_gc`] keeps the function of this index: a line for each item of a chain of
-    /// references that leads to it, or one that it isn't reached. [`MULKAVESH_NOT_FOUND`] where the
-    /// module has no function of this index.
+    /// references that leads to it, or one that it isn't reached. Which chain it is isn't promised:
+    /// call again with more room until the room suffices. [`MULKAVESH_NOT_FOUND`] where the module
+    /// has no function of this index.
     pub fn mulkavesh_why(
         input: *const u8,
         input_length: usize,
@@ -181,9 +184,9 @@ extern "C" {
     ) -> u32;
 
     /// The module where the function that is exported under this name is replaced by one that
-    /// traps, without what nothing reaches then. [`MULKAVESH_NOT_FOUND`] where no function is
-    /// exported under the name, or where that one is imported or is exported under another name
-    /// before.
+    /// traps, without what nothing reaches then. The old function stays where calls, tables or
+    /// further exports reach it. [`MULKAVESH_NOT_FOUND`] where no function is exported under the
+    /// name, or where that one is imported or is exported under another name before.
     pub fn mulkavesh_snip(
         input: *const u8,
         input_length: usize,
@@ -195,8 +198,9 @@ extern "C" {
     ) -> u32;
 
     /// The module where each function that was imported from the module of this name is one of its
-    /// own, which traps, without what nothing reaches then. [`MULKAVESH_NOT_FOUND`] where the name
-    /// isn't UTF-8.
+    /// own, which traps, without what nothing reaches then. What it answers where no function is
+    /// imported from such a module is no promise. [`MULKAVESH_NOT_FOUND`] where the name isn't
+    /// UTF-8.
     pub fn mulkavesh_stub(
         input: *const u8,
         input_length: usize,

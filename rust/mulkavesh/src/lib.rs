@@ -1,6 +1,6 @@
 //! Drops from a WebAssembly module what nothing reaches, and says what was dropped and why the rest
-//! stays, or what is wrong with bytes that are no module. Bytes go in and bytes come out; nothing is kept from one call to the next, and calls in
-//! several threads at once are fine.
+//! stays, or what is wrong with bytes that are no module. Bytes go in and bytes come out; nothing
+//! is kept from one call to the next, and calls in several threads at once are fine.
 //!
 //! The library behind it is Mulkavesh, which is written in Rattle and proved. This crate isn't: it
 //! holds the bytes for the calls and reads their statuses, with `unsafe` in one file.
@@ -179,9 +179,12 @@ pub fn list(input: &[u8], flags: Flags) -> Result<Vec<Listed>, Error> {
     listed::entries(&list)
 }
 
-/// The module without its first custom section of this name; what nothing reaches stays.
+/// The module without its first custom section of this name.
 ///
-/// The name section and the producers aren't found by it: the flags say whether they are written.
+/// What nothing reaches stays, but all is written anew as by [`gc`]: functions are ordered by size,
+/// debug information is gone, and other custom sections are as they were, and so stale where they
+/// hold indices. Names, producers and debug information aren't found by it; the flags say whether
+/// names and producers are written.
 ///
 /// # Errors
 ///
@@ -204,7 +207,8 @@ pub fn strip(input: &[u8], flags: Flags, name: &str) -> Result<Vec<u8>, Error> {
 /// Why [`gc`] keeps the function of this index: a line for each item of a chain of references that
 /// leads to it, a root first, or the one that it isn't reached.
 ///
-/// Items are told by their kind and their index in the input, where imported ones come first.
+/// Items are told by their kind and their index in the input, where imported ones come first. Which
+/// chain it is isn't promised.
 ///
 /// # Errors
 ///
@@ -230,7 +234,8 @@ pub fn why(input: &[u8], function: u32) -> Result<String, Error> {
 }
 
 /// The module where the function that is exported under this name is replaced by one that traps,
-/// without what nothing reaches then.
+/// without what nothing reaches then. The old function stays where calls, tables or further exports
+/// reach it.
 ///
 /// # Errors
 ///
@@ -261,8 +266,8 @@ pub fn snip(input: &[u8], name: &str) -> Result<Vec<u8>, Error> {
 }
 
 /// The module where each function that was imported from the module of this name is one of its own,
-/// which traps, without what nothing reaches then. Where none is imported from it, that is what
-/// [`gc`] answers.
+/// which traps, without what nothing reaches then. What it answers where no function is imported
+/// from such a module is no promise.
 ///
 /// # Errors
 ///

@@ -10,7 +10,7 @@ pub struct Listed {
     pub index: u32,
     /// How many bytes its body has in the output, without the number in front that says so.
     pub size: u32,
-    /// Its name in the input, where it has one.
+    /// Its name as the input's name section has it, where it has one.
     pub name: Option<String>,
 }
 

@@ -1,23 +1,20 @@
 //! What a module uses: all that its roots reach.
 
-ghost use Rattle.std.specs.Prelude.{ℕ, ◌≡◌, ◌≤◌, ◌↔◌, ◌⊎◌, [], ◌∷◌, true, IfErr, IfOk, IsTrue, MatchResult, OnOk, map};
+ghost use Rattle.std.specs.Prelude.{ℕ, ◌≡◌, ◌↔◌, ◌⊎◌, [], ◌∷◌, true, IfOk, IsTrue, MatchResult, map};
 ghost use Rattle.walrus_base.specs.Id.{place};
 ghost use Rattle.walrus_base.specs.IdSet.{has_id};
 ghost use Rattle.walrus_base.specs.Marks.{is_marked};
 ghost use Rattle.walrus_code.specs.Code.{item_of};
-ghost use Rattle.walrus_model.specs.Kept.{ReachedCount};
 ghost use Rattle.walrus_model.specs.Live.{IsLive};
-ghost use Rattle.walrus_module.specs.Asked.{OneMayRefuse};
-ghost use Rattle.walrus_module.specs.View.{contents_of, meanings, view};
+ghost use Rattle.walrus_module.specs.View.{view};
 ghost use Rattle.walrus_base.specs.Operators.{Types};
 ghost use Rattle.walrus_contents.specs.Named.{NamesItself, export_names, group_names};
 ghost use Rattle.walrus_contents.specs.There.{IsRefusal, IsSound};
 ghost use Rattle.walrus_contents.specs.View.{parts_view};
 ghost use Rattle.walrus.specs.Asked.{searched_view};
-ghost use Rattle.walrus.specs.LiveCount.{live_count};
-ghost use Rattle.walrus.specs.Marked.{Finds, HoldsMarked, MarksAreKept, MarksKept, MarksFirst, MarksSpare, ReachesSound, ReachesUnsound};
+ghost use Rattle.walrus.specs.Marked.{Finds, HoldsMarked, MarksFirst, MarksSpare, ReachesUnsound};
 ghost use Rattle.walrus.specs.MarkedItems.{HavePlaces};
-ghost use Rattle.walrus.specs.Used.{Enters, EntersAll, Found, Follows, IsDead, NamesDead, NotesAll, OneDead, RefusesSearch};
+ghost use Rattle.walrus.specs.Used.{Enters, FindsCounted, FindsMarks, FindsUsed, Searches, EntersAll, Found, Follows, IsDead, NamesDead, NotesAll, OneDead};
 ghost use Rattle.walrus.specs.Worklist.{Keeps};
 
 use crate::passes::asked::push_asked;
@@ -62,12 +59,8 @@ impl Used {
     /// `DeadItem` where an item reached isn't live, where a function reached is uninitialised or uses a local that isn't there. What a custom
     /// section of a caller's own refuses with: `Caller`, where one may refuse. And `Memory`.
     pub fn new(alloc: Global, module: &Module) -> Result<Used>
-        ensures kept { IfOk result (MarksKept (view ⟦<dyn CustomSection as CustomSection>⟧ «module».now)) }
-        ensures sound { OnOk result
-            (ReachesSound (view ⟦<dyn CustomSection as CustomSection>⟧ «module».now)) }
-        ensures refused { IfErr result (RefusesSearch
-            (ReachesUnsound (view ⟦<dyn CustomSection as CustomSection>⟧ «module».now))
-            (OneMayRefuse (meanings ⟦<dyn CustomSection as CustomSection>⟧ «module».now))) }
+        ensures { Searches ⟦<dyn CustomSection as CustomSection>⟧ «module».now
+            (FindsUsed ⟦<dyn CustomSection as CustomSection>⟧ «module».now) result }
     {
         let marks = marked(alloc, module)?;
         Ok(Used::of(alloc, &marks)?)
@@ -80,16 +73,8 @@ impl Used {
     ///
     /// Those of [`Used::new`].
     pub fn counted(alloc: Global, module: &Module) -> Result<(Used, usize)>
-        ensures kept { IfOk result (λ found.
-            MarksKept (view ⟦<dyn CustomSection as CustomSection>⟧ «module».now) found.0) }
-        ensures count { IfOk result (λ found.
-            ReachedCount (view ⟦<dyn CustomSection as CustomSection>⟧ «module».now) found.1) }
-        ensures at_most { IfOk result (λ found. found.1 ≤ live_count (contents_of «module».now)) }
-        ensures sound { OnOk result
-            (ReachesSound (view ⟦<dyn CustomSection as CustomSection>⟧ «module».now)) }
-        ensures refused { IfErr result (RefusesSearch
-            (ReachesUnsound (view ⟦<dyn CustomSection as CustomSection>⟧ «module».now))
-            (OneMayRefuse (meanings ⟦<dyn CustomSection as CustomSection>⟧ «module».now))) }
+        ensures { Searches ⟦<dyn CustomSection as CustomSection>⟧ «module».now
+            (FindsCounted ⟦<dyn CustomSection as CustomSection>⟧ «module».now) result }
     {
         let (marks, count) = marked_and_counted(alloc, module)?;
         Ok((Used::of(alloc, &marks)?, count))
@@ -125,11 +110,8 @@ fn ids_of<K>(alloc: Global, marks: &Marks<K>) -> result::Result<IdHashSet<K>, Al
 
 // The items that a module's roots reach, and the memory that stays with data, marked. Refused as [`Used::new`] is.
 pub(crate) fn marked(alloc: Global, module: &Module) -> Result<MarkedItems>
-    ensures kept { IfOk result (MarksAreKept (view ⟦<dyn CustomSection as CustomSection>⟧ «module».now)) }
-    ensures sound { OnOk result (ReachesSound (view ⟦<dyn CustomSection as CustomSection>⟧ «module».now)) }
-    ensures refused { IfErr result (RefusesSearch
-        (ReachesUnsound (view ⟦<dyn CustomSection as CustomSection>⟧ «module».now))
-        (OneMayRefuse (meanings ⟦<dyn CustomSection as CustomSection>⟧ «module».now))) }
+    ensures { Searches ⟦<dyn CustomSection as CustomSection>⟧ «module».now
+        (FindsMarks ⟦<dyn CustomSection as CustomSection>⟧ «module».now) result }
 {
     let (marks, _count) = marked_and_counted(alloc, module)?;
     Ok(marks)
@@ -137,14 +119,8 @@ pub(crate) fn marked(alloc: Global, module: &Module) -> Result<MarkedItems>
 
 // The same, with the number of items that the roots reach.
 fn marked_and_counted(alloc: Global, module: &Module) -> Result<(MarkedItems, usize)>
-    ensures kept { IfOk result (λ found.
-        MarksAreKept (view ⟦<dyn CustomSection as CustomSection>⟧ «module».now) found.0) }
-    ensures count { IfOk result (λ found.
-        ReachedCount (view ⟦<dyn CustomSection as CustomSection>⟧ «module».now) found.1) }
-    ensures sound { OnOk result (ReachesSound (view ⟦<dyn CustomSection as CustomSection>⟧ «module».now)) }
-    ensures refused { IfErr result (RefusesSearch
-        (ReachesUnsound (view ⟦<dyn CustomSection as CustomSection>⟧ «module».now))
-        (OneMayRefuse (meanings ⟦<dyn CustomSection as CustomSection>⟧ «module».now))) }
+    ensures { Searches ⟦<dyn CustomSection as CustomSection>⟧ «module».now
+        (λ found. Finds (view ⟦<dyn CustomSection as CustomSection>⟧ «module».now) found.0 found.1) result }
 {
     let asked = module.section_roots(alloc)?;
     search(

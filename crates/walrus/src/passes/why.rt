@@ -1,19 +1,18 @@
 //! Why an item stays: a chain of references that leads to it from a root.
 
-ghost use Rattle.std.specs.Prelude.{ℕ, ◌≡◌, ◌<◌, ◌++◌, [], ◌∷◌, ◌-◌, ◌+◌, IfErr, IfOk, MatchResult, OnOk, map, option_map, position, replicate, vec_len};
+ghost use Rattle.std.specs.Prelude.{◌≡◌, ◌<◌, ◌++◌, [], ◌∷◌, ◌-◌, ◌+◌, IfOk, MatchResult, OnOk, map, option_map, position, replicate, vec_len};
 ghost use Rattle.walrus_code.specs.Code.{item_of};
 ghost use Rattle.walrus_contents.specs.Named.{items_in};
 ghost use Rattle.walrus_contents.specs.There.{IsRefusal};
 ghost use Rattle.walrus_contents.specs.View.{parts_view};
 ghost use Rattle.walrus_model.specs.Live.{IsLive};
 ghost use Rattle.walrus_model.specs.Roots.{IsRoot};
-ghost use Rattle.walrus_module.specs.Asked.{OneMayRefuse};
-ghost use Rattle.walrus_module.specs.View.{meanings, view};
+ghost use Rattle.walrus_module.specs.View.{view};
 ghost use Rattle.walrus_items.specs.Items.{is_item};
 ghost use Rattle.walrus.specs.Asked.{searched_view};
 ghost use Rattle.walrus.specs.Marked.{ReachesUnsound};
 ghost use Rattle.walrus.specs.Traced.{IsTraced, LeadsBack, Names, PointsBack, Traces};
-ghost use Rattle.walrus.specs.Used.{Follows, NamesDead, RefusesSearch};
+ghost use Rattle.walrus.specs.Used.{Follows, NamesDead, Searches};
 ghost use Rattle.walrus.specs.Why.{Explains};
 ghost use Rattle.walrus.specs.Worklist.{Keeps, entered_items};
 
@@ -32,12 +31,9 @@ use walrus_module::{CustomSection, Error, ItemId, Module, Result};
 ///
 /// Those of [`Used::new`](crate::passes::used::Used::new).
 pub fn chain_to(alloc: Global, module: &Module, item: ItemId) -> Result<Option<Vec<ItemId>>>
-    ensures found { IfOk result (λ chain. Explains
-        (view ⟦<dyn CustomSection as CustomSection>⟧ «module».now) (item_of item)
-        (option_map items_in chain)) }
-    ensures refused { IfErr result (RefusesSearch
-        (ReachesUnsound (view ⟦<dyn CustomSection as CustomSection>⟧ «module».now))
-        (OneMayRefuse (meanings ⟦<dyn CustomSection as CustomSection>⟧ «module».now))) }
+    ensures { Searches ⟦<dyn CustomSection as CustomSection>⟧ «module».now (λ chain.
+        Explains (view ⟦<dyn CustomSection as CustomSection>⟧ «module».now)
+        (item_of item) (option_map items_in chain)) result }
 {
     let asked = module.section_roots(alloc)?;
     chain_in(

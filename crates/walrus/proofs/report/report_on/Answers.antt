@@ -2,8 +2,8 @@ use Rattle.walrus_module.specs.View.{contents_of, view}
 use Rattle.walrus.proofs.ReportLemmas.{report_is}
 use Rattle.walrus.proofs.report.report_on.Goals as goal
 
-pub returns-clause-report : goal.returns-clause-report
-returns-clause-report g c =
+pub returns : goal.returns
+returns g c =
     let old = c.args.module.now in
     let G = λ (i : g.dyn-1.0.I). (g.dyn-1.0.entry i).1 in
     let v = view G old in

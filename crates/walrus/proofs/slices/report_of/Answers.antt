@@ -10,4 +10,4 @@ pub returns : goal.returns
 returns g c =
     let read = c.in_ok-module.module in
     reported (config_of (flags c.args.config.now)) (λ text. text.items) (OneMayRefuse (meanings _ read)) (none_refuses _ read c.in_ok-module.ensures.kept.raws c.in_ok-module.ensures.kept.are)
-    _ _ refl _ c.report_on.result c.in_ok-module.ensures.found c.report_on.ensures.report c.report_on.ensures.refused
+    _ _ refl _ c.report_on.result c.in_ok-module.ensures.found c.report_on.ensures

@@ -24,8 +24,8 @@ returns g c =
     let kept = c.run.new.module in
     let left = c.emit_whole.new.self in
     let raws = c.in_ok-module.ensures.kept.raws in
-    let are = ap sections c.in_ok-run.ensures.others.2 ∙ c.in_ok-module.ensures.kept.are in
+    let are = ap sections c.in_ok-run.ensures.others.customs ∙ c.in_ok-module.ensures.kept.are in
     let same = c.emit_whole.ensures.raw (all_raw kept.customs raws are) in
-    let keeps = c.in_ok-run.ensures.others.3 ∙ c.in_ok-module.ensures.configured in
+    let keeps = c.in_ok-run.ensures.others.settings ∙ c.in_ok-module.ensures.configured in
     answers_kept (λ output. output.items) (OneMayRefuseThen _ kept.customs left.customs) (none_refuses_then _ kept left same (none_asked_refuses _ kept raws are)) _ _ keeps _ _ refl _ _ _ c.emit_whole.result
     c.in_ok-module.ensures.found c.in_ok-run.ensures.collected (leaves_whole _ kept left same (told c.emit_whole.result) c.emit_whole.ensures.left) c.emit_whole.ensures.emitted c.emit_whole.ensures.refused

@@ -14,6 +14,6 @@ pub returns : goal.returns
 returns g c = λ ready.
     let kept = c.run.new.module in
     let left = c.emit_wasm.new.self in
-    finished _ c.args.module ready kept left c.in_ok-run.ensures.collected c.in_ok-run.ensures.others.2
-    (sections_stay _ _ _ kept.customs left.customs c.emit_wasm.result (settings kept).preserve_code_transform (ap (λ (f : Flags). f.preserve_code_transform) c.in_ok-run.ensures.others.3 ∙ ready.still) c.emit_wasm.ensures.customs)
-    (settings kept) c.in_ok-run.ensures.others.3 c.emit_wasm.result c.emit_wasm.ensures.left c.emit_wasm.ensures.well_made
+    finished _ c.args.module ready kept left c.in_ok-run.ensures.collected c.in_ok-run.ensures.others.customs
+    (sections_stay _ _ _ kept.customs left.customs c.emit_wasm.result (settings kept).preserve_code_transform (ap (λ (f : Flags). f.preserve_code_transform) c.in_ok-run.ensures.others.settings ∙ ready.still) c.emit_wasm.ensures.customs)
+    (settings kept) c.in_ok-run.ensures.others.settings c.emit_wasm.result c.emit_wasm.ensures.left c.emit_wasm.ensures.well_made

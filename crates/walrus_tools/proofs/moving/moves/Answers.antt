@@ -1,4 +1,4 @@
-use Rattle.std.proofs.Common.{ℕ, Result, Ok, Err, refl, ap, ◌∙◌}
+use Rattle.std.proofs.Common.{ℕ, Result, Ok, Err, refl, ap, ◌∙◌, inr}
 use Rattle.std.proofs.lemmas.Result.{err_from_is_err_and}
 use Rattle.std.specs.Global.{Vec}
 use Rattle.walrus_items.specs.declared.error.Error.{Error}
@@ -26,13 +26,13 @@ returns-in_err-output-clause-written c =
     let left = c.emit_wasm_with_transform.new.self in
     let raws = c.in_ok-module.ensures.kept.raws in
     let same = same_config _ _ c.new-config.ensures.value c.preserve_code_transform.ensures.value in
-    let stays = c.in_ok-run.ensures.others.2 in
-    let raw = c.emit_wasm_with_transform.ensures.raw (all_raw kept.customs raws (ap sections stays ∙ c.in_ok-module.ensures.kept.are)) in
+    let stays = c.in_ok-run.ensures.others.customs in
+    let raw = c.emit_wasm_with_transform.ensures.emits.raw (all_raw kept.customs raws (ap sections stays ∙ c.in_ok-module.ensures.kept.are)) in
     let answer : Result (Vec ℕ × CodeTransform) Error = Err c.in_err-output.field-0.0 in
     let p = err_from_is_err_and c.from_residual-in_err-output.result c.from_residual-in_err-output.ensures.1 in
     rw (p.1, p.2) (also_refused (config_of defaults) c.args.bytes.now (λ (r : Vec ℕ × CodeTransform). r.0.items) (λ (r : Vec ℕ × Vec (ℕ × ℕ)). r.0.items) c.in_err-output.field-0.0
-    (emission_answers _ c.args.bytes.now (flags c.preserve_code_transform.result.now) same read c.in_ok-module.ensures.found raws c.in_ok-module.ensures.kept.are kept left stays raw (c.in_ok-run.ensures.others.3 ∙ c.in_ok-module.ensures.configured)
-    (λ (r : Vec ℕ × CodeTransform). r.0.items) answer c.in_ok-run.ensures.collected c.in_err-output.ensures.left c.in_err-output.ensures.emitted c.in_err-output.ensures.refused))
+    (emission_answers _ c.args.bytes.now (flags c.preserve_code_transform.result.now) same read c.in_ok-module.ensures.found raws c.in_ok-module.ensures.kept.are kept left stays raw (c.in_ok-run.ensures.others.settings ∙ c.in_ok-module.ensures.configured)
+    (λ (r : Vec ℕ × CodeTransform). r.0.items) answer c.in_ok-run.ensures.collected c.in_err-output.ensures.emits.left c.in_err-output.ensures.emits.emitted c.in_err-output.ensures.emits.refused))
 
 pub returns-clause-written : goal.returns-clause-written
 returns-clause-written c =
@@ -41,11 +41,11 @@ returns-clause-written c =
     let left = c.emit_wasm_with_transform.new.self in
     let raws = c.in_ok-module.ensures.kept.raws in
     let same = same_config _ _ c.new-config.ensures.value c.preserve_code_transform.ensures.value in
-    let stays = c.in_ok-run.ensures.others.2 in
-    let raw = c.emit_wasm_with_transform.ensures.raw (all_raw kept.customs raws (ap sections stays ∙ c.in_ok-module.ensures.kept.are)) in
+    let stays = c.in_ok-run.ensures.others.customs in
+    let raw = c.emit_wasm_with_transform.ensures.emits.raw (all_raw kept.customs raws (ap sections stays ∙ c.in_ok-module.ensures.kept.are)) in
     let answer : Result (Vec ℕ × CodeTransform) Error = Ok (c.in_ok-output.output, c.in_ok-output.transform) in
-    emission_answers _ c.args.bytes.now (flags c.preserve_code_transform.result.now) same read c.in_ok-module.ensures.found raws c.in_ok-module.ensures.kept.are kept left stays raw (c.in_ok-run.ensures.others.3 ∙ c.in_ok-module.ensures.configured)
-    (λ (r : Vec ℕ × CodeTransform). r.0.items) answer c.in_ok-run.ensures.collected c.in_ok-output.ensures.left c.in_ok-output.ensures.emitted c.in_ok-output.ensures.refused
+    emission_answers _ c.args.bytes.now (flags c.preserve_code_transform.result.now) same read c.in_ok-module.ensures.found raws c.in_ok-module.ensures.kept.are kept left stays raw (c.in_ok-run.ensures.others.settings ∙ c.in_ok-module.ensures.configured)
+    (λ (r : Vec ℕ × CodeTransform). r.0.items) answer c.in_ok-run.ensures.collected c.in_ok-output.ensures.emits.left c.in_ok-output.ensures.emits.emitted c.in_ok-output.ensures.emits.refused
 
 pub returns-clause-moved : goal.returns-clause-moved
 returns-clause-moved c =
@@ -54,11 +54,11 @@ returns-clause-moved c =
     let left = c.emit_wasm_with_transform.new.self in
     let raws = c.in_ok-module.ensures.kept.raws in
     let same = same_config _ _ c.new-config.ensures.value c.preserve_code_transform.ensures.value in
-    let stays = c.in_ok-run.ensures.others.2 in
-    let raw = c.emit_wasm_with_transform.ensures.raw (all_raw kept.customs raws (ap sections stays ∙ c.in_ok-module.ensures.kept.are)) in
+    let stays = c.in_ok-run.ensures.others.customs in
+    let raw = c.emit_wasm_with_transform.ensures.emits.raw (all_raw kept.customs raws (ap sections stays ∙ c.in_ok-module.ensures.kept.are)) in
     let answer : Result (Vec ℕ × CodeTransform) Error = Ok (c.in_ok-output.output, c.in_ok-output.transform) in
-    moves_answered _ _ c.args.bytes.now read kept left _ (flags c.preserve_code_transform.result.now) same (keeps_transform _ _ c.new-config.ensures.value c.preserve_code_transform.ensures.value) (c.in_ok-run.ensures.others.3 ∙ c.in_ok-module.ensures.configured) refl
+    moves_answered _ _ c.args.bytes.now read kept left _ (flags c.preserve_code_transform.result.now) same (keeps_transform _ _ c.new-config.ensures.value c.preserve_code_transform.ensures.value) (c.in_ok-run.ensures.others.settings ∙ c.in_ok-module.ensures.configured) refl
     c.in_ok-output.output.items (transform_of c.in_ok-output.transform) c.in_ok-places.places.items c.in_ok-module.ensures.found c.in_ok-run.ensures.collected
-    (leaves_whole _ kept left raw (told answer) c.in_ok-output.ensures.left) c.in_ok-run.ensures.functions (ap (λ m. m.funcs) c.in_ok-output.ensures.others)
+    (leaves_whole _ kept left raw (told answer) c.in_ok-output.ensures.emits.left) c.in_ok-run.ensures.items.functions (ap (λ m. m.funcs) c.in_ok-output.ensures.emits.others)
     (located_by_place _ c.args.bytes.now read.funcs (c.preserve_code_transform.ensures.hook ∙ c.new-config.ensures.hook) c.in_ok-module.ensures.located)
-    c.in_ok-output.ensures.refused c.in_ok-output.ensures.transform (c.in_ok-places.ensures.told ∙ ap (map location_of) c.deref.ensures.value)
+    c.in_ok-output.ensures.emits.refused (c.in_ok-output.ensures.transform (inr refl)) (c.in_ok-places.ensures.told ∙ ap (map location_of) c.deref.ensures.value)

@@ -1,4 +1,4 @@
-use Rattle.std.proofs.Common.{ap, refl, ◌∙◌}
+use Rattle.std.proofs.Common.{ap, refl, ◌∙◌, inr}
 use Rattle.std.specs.Prelude.{option_map}
 use Rattle.std.proofs.lemmas.Result.{err_from_is_err_and}
 use Rattle.walrus_module.proofs.RawStays.{all_raw}
@@ -20,7 +20,7 @@ pub returns-in_err-chain : goal.returns-in_err-chain
 returns-in_err-chain c =
     let p = err_from_is_err_and c.from_residual-in_err-chain.result c.from_residual-in_err-chain.ensures.1 in
     rw (p.1, p.2) (search_lacks _ (LacksFunction c.args.function) defaults refl c.args.bytes.now c.in_ok-module.module c.in_ok-module.ensures.found c.in_ok-module.ensures.kept.raws c.in_ok-module.ensures.kept.are
-    c.in_ok-module.ensures.configured _ c.in_err-chain.ensures.refused)
+    c.in_ok-module.ensures.configured _ c.in_err-chain.ensures)
 
 pub returns-in_err-run : goal.returns-in_err-run
 returns-in_err-run c =
@@ -36,9 +36,9 @@ returns-in_err-output c =
     let kept = c.run.new.module in
     let left = c.emit_wasm_with_transform.new.self in
     let ran = c.in_ok-run.ensures in
-    let same = c.in_err-output.ensures.raw (all_raw kept.customs raw.raws (ap sections ran.others.2 ∙ raw.are)) in
-    rw (p.1, p.2) (emission_lacks _ (LacksFunction c.args.function) defaults refl c.args.bytes.now read c.in_ok-module.ensures.found raw.raws raw.are c.in_ok-module.ensures.configured kept ran.collected ran.others.2 left same
-    (settings kept) ran.others.3 c.in_err-output.field-0.0 c.in_err-output.ensures.left c.in_err-output.ensures.well_made)
+    let same = c.in_err-output.ensures.emits.raw (all_raw kept.customs raw.raws (ap sections ran.others.customs ∙ raw.are)) in
+    rw (p.1, p.2) (emission_lacks _ (LacksFunction c.args.function) defaults refl c.args.bytes.now read c.in_ok-module.ensures.found raw.raws raw.are c.in_ok-module.ensures.configured kept ran.collected ran.others.customs left same
+    (settings kept) ran.others.settings c.in_err-output.field-0.0 c.in_err-output.ensures.emits.left c.in_err-output.ensures.emits.well_made)
 
 pub returns : goal.returns
 returns c =
@@ -48,8 +48,8 @@ returns c =
     let left = c.emit_wasm_with_transform.new.self in
     let ran = c.in_ok-run.ensures in
     let wrote = c.in_ok-output.ensures in
-    let same = wrote.raw (all_raw kept.customs raw.raws (ap sections ran.others.2 ∙ raw.are)) in
-    let m = measured _ (LacksFunction c.args.function) defaults refl c.args.bytes.now read c.in_ok-module.ensures.found raw.raws raw.are c.in_ok-module.ensures.configured kept ran.collected ran.others.2 left same
-    wrote.left (settings kept) (ran.others.3 ∙ c.in_ok-module.ensures.configured) c.in_ok-output.output c.in_ok-output.transform wrote.well_made wrote.transform in
+    let same = wrote.emits.raw (all_raw kept.customs raw.raws (ap sections ran.others.customs ∙ raw.are)) in
+    let m = measured _ (LacksFunction c.args.function) defaults refl c.args.bytes.now read c.in_ok-module.ensures.found raw.raws raw.are c.in_ok-module.ensures.configured kept ran.collected ran.others.customs left same
+    wrote.emits.left (settings kept) (ran.others.settings ∙ c.in_ok-module.ensures.configured) c.in_ok-output.output c.in_ok-output.transform wrote.emits.well_made (wrote.transform (inr refl)) in
     reason_told _ (config_of defaults) c.args.bytes.now read c.in_ok-module.ensures.found c.args.function (place c.in_ok-function_at.field-0) c.in_ok-function_at.ensures.0 c.in_ok-function_at.ensures.1
-    (option_map items_in c.in_ok-chain.chain) c.in_ok-chain.ensures.found _ _ m refl refl c.in_ok-report.field-0 c.in_ok-report.ensures
+    (option_map items_in c.in_ok-chain.chain) c.in_ok-chain.ensures _ _ m refl refl c.in_ok-report.field-0 c.in_ok-report.ensures

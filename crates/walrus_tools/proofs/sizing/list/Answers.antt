@@ -1,4 +1,4 @@
-use Rattle.std.proofs.Common.{ap, refl, ◌∙◌, subst}
+use Rattle.std.proofs.Common.{ap, refl, ◌∙◌, subst, inr}
 use Rattle.std.proofs.lemmas.Result.{err_from_is_err_and}
 use Rattle.std.specs.Prelude.{Err, map}
 use Rattle.walrus_items.specs.Functions.{functions}
@@ -31,10 +31,10 @@ returns-in_err-output c =
     let kept = c.run.new.module in
     let left = c.emit_wasm_with_transform.new.self in
     let ran = c.in_ok-run.ensures in
-    let stay = c.in_err-output.ensures.raw (all_raw kept.customs raw.raws (ap sections ran.others.2 ∙ raw.are)) in
+    let stay = c.in_err-output.ensures.emits.raw (all_raw kept.customs raw.raws (ap sections ran.others.customs ∙ raw.are)) in
     rw (p.1, p.2) (subst (λ (f : Flags). AnswersListed (config_of f) c.args.bytes.now (Err c.in_err-output.field-0.0)) same
     (way_refused _ c.args.bytes.now _ (emission_lacks _ Never (flags c.legacy_exceptions-config.result.now) (ap (λ (f : Flags). f.preserve_code_transform) same) c.args.bytes.now read c.in_ok-module.ensures.found
-    raw.raws raw.are c.in_ok-module.ensures.configured kept ran.collected ran.others.2 left stay (settings kept) ran.others.3 c.in_err-output.field-0.0 c.in_err-output.ensures.left c.in_err-output.ensures.well_made)))
+    raw.raws raw.are c.in_ok-module.ensures.configured kept ran.collected ran.others.customs left stay (settings kept) ran.others.settings c.in_err-output.field-0.0 c.in_err-output.ensures.emits.left c.in_err-output.ensures.emits.well_made)))
 
 pub returns : goal.returns
 returns c =
@@ -45,9 +45,9 @@ returns c =
     let left = c.emit_wasm_with_transform.new.self in
     let ran = c.in_ok-run.ensures in
     let wrote = c.in_ok-output.ensures in
-    let stay = wrote.raw (all_raw kept.customs raw.raws (ap sections ran.others.2 ∙ raw.are)) in
+    let stay = wrote.emits.raw (all_raw kept.customs raw.raws (ap sections ran.others.customs ∙ raw.are)) in
     let m = measured _ Never (flags c.legacy_exceptions-config.result.now) (ap (λ (f : Flags). f.preserve_code_transform) same) c.args.bytes.now read c.in_ok-module.ensures.found
-    raw.raws raw.are c.in_ok-module.ensures.configured kept ran.collected ran.others.2 left stay wrote.left (settings kept) (ran.others.3 ∙ c.in_ok-module.ensures.configured) c.in_ok-output.output c.in_ok-output.transform
-    wrote.well_made wrote.transform in
+    raw.raws raw.are c.in_ok-module.ensures.configured kept ran.collected ran.others.customs left stay wrote.emits.left (settings kept) (ran.others.settings ∙ c.in_ok-module.ensures.configured) c.in_ok-output.output c.in_ok-output.transform
+    wrote.emits.well_made (wrote.transform (inr refl)) in
     subst (λ (f : Flags). AnswersListed (config_of f) c.args.bytes.now c.entries.result) same
     (list_answers _ c.args.bytes.now _ _ m (names_in (functions left.funcs)) refl c.entries.result _ (ap (map range_of) c.deref.ensures.value) c.entries.ensures.value c.entries.ensures.fits c.entries.ensures.refused)

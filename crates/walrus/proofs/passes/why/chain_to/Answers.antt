@@ -4,27 +4,19 @@ use Rattle.walrus_contents.specs.View.{parts_view}
 use Rattle.walrus_module.specs.Asked.{OneMayRefuse}
 use Rattle.walrus_module.specs.View.{meanings, view}
 use Rattle.walrus.specs.Marked.{ReachesUnsound}
-use Rattle.walrus.proofs.ReachedLemmas.{asked_refused}
-use Rattle.walrus.proofs.SameChains.{chain_refused, explained_by, explained_of}
+use Rattle.walrus.proofs.ReachedLemmas.{asked_refused, or_by_a_section}
+use Rattle.walrus.proofs.SameChains.{explained_of}
 use Rattle.walrus.proofs.passes.why.chain_to.Goals as goal
 
-pub returns-in_err-asked-clause-refused : goal.returns-in_err-asked-clause-refused
-returns-in_err-asked-clause-refused g c =
+pub returns-in_err-asked : goal.returns-in_err-asked
+returns-in_err-asked g c =
     let p = err_from_is_err_and c.from_residual.result c.from_residual.ensures.1 in
     let G = λ (i : g.dyn-1.0.I). (g.dyn-1.0.entry i).1 in
     let m = c.args.module.now in
     rw (p.1, p.2) (asked_refused (ReachesUnsound (view G m)) (OneMayRefuse (meanings G m)) c.in_err-asked.field-0.0 c.in_err-asked.ensures.fails)
 
-pub returns-clause-found : goal.returns-clause-found
-returns-clause-found g c =
+pub returns : goal.returns
+returns g c =
     let G = λ (i : g.dyn-1.0.I). (g.dyn-1.0.entry i).1 in
     let m = c.args.module.now in
-    let x = item_of c.args.item in
-    explained_by (view G m) x c.chain_in.result (explained_of G m c.in_ok-asked.asked c.in_ok-asked.ensures.value (parts_view c.parts.result) c.parts.ensures x c.chain_in.result c.chain_in.ensures)
-
-pub returns-clause-refused : goal.returns-clause-refused
-returns-clause-refused g c =
-    let G = λ (i : g.dyn-1.0.I). (g.dyn-1.0.entry i).1 in
-    let m = c.args.module.now in
-    let x = item_of c.args.item in
-    chain_refused (view G m) x (OneMayRefuse (meanings G m)) c.chain_in.result (explained_of G m c.in_ok-asked.asked c.in_ok-asked.ensures.value (parts_view c.parts.result) c.parts.ensures x c.chain_in.result c.chain_in.ensures)
+    or_by_a_section _ (OneMayRefuse (meanings G m)) _ c.chain_in.result (explained_of G m c.in_ok-asked.asked c.in_ok-asked.ensures.value (parts_view c.parts.result) c.parts.ensures (item_of c.args.item) c.chain_in.result c.chain_in.ensures)
