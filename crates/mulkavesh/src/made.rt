@@ -2,7 +2,7 @@
 
 ghost use Rattle.std.specs.Prelude.{◌≡◌, false};
 ghost use Rattle.mulkavesh.specs.Entries.{TellsList};
-ghost use Rattle.mulkavesh.specs.Made.{AnswersOrder, AnswersText, AnswersWhy, FindsMeant, IsSame, NotesNothing, WritesQuietly, operand_bytes, vec_bytes};
+ghost use Rattle.mulkavesh.specs.Made.{AnswersOrder, AnswersText, AnswersWhy, FindsMeant, IsSame, NotesNothing, Writes, WritesQuietly, operand_bytes, vec_bytes};
 ghost use Rattle.walrus_tools.specs.Handed.{ReportsOn, RunsOn, config_of, defaults};
 ghost use Rattle.walrus_tools.specs.Sized.{AnswersListed};
 ghost use Rattle.walrus_tools.specs.Wanted.{config_wanted};
@@ -11,7 +11,7 @@ use crate::notes::note_of;
 use crate::order::{Order, Work};
 use crate::{chains, entries, reports, verdicts};
 use std::alloc::Global;
-use walrus_tools::{Error, chain, find, gc, list, report, snip, strip, stub};
+use walrus_tools::{Error, Wanted, chain, find, gc, list, report, snip, strip, stub};
 
 /// What a subcommand makes.
 #[derive(Drop)]
@@ -64,16 +64,23 @@ pub(crate) fn make(alloc: Global, order: &Order, bytes: &[u8]) -> Result<Made, E
     }
 }
 
-// The module without what nothing reaches, and what is said of that.
+// The module without what nothing reaches; and what is said of that, where the order isn't quiet.
 fn smaller(alloc: Global, order: &Order, bytes: &[u8]) -> Result<Made, Error>
     ensures { WritesQuietly order.now.is_quiet
         (RunsOn (config_wanted order.now.wanted) bytes.now vec_bytes) result }
 {
-    let output = gc(alloc, bytes, order.wanted)?;
     if order.is_quiet {
-        return Ok(only(alloc, output));
+        return Ok(only(alloc, gc(alloc, bytes, order.wanted)?));
     }
-    let note = note_of(alloc, bytes, &output, &report(alloc, bytes, order.wanted)?)?;
+    noted(alloc, order.wanted, bytes)
+}
+
+// The module without what nothing reaches, and what is said of that.
+fn noted(alloc: Global, wanted: Wanted, bytes: &[u8]) -> Result<Made, Error>
+    ensures { Writes (RunsOn (config_wanted wanted) bytes.now vec_bytes) result }
+{
+    let output = gc(alloc, bytes, wanted)?;
+    let note = note_of(alloc, bytes, &output, &report(alloc, bytes, wanted)?)?;
     Ok(Made {
         output,
         note,
