@@ -1,4 +1,4 @@
-use Rattle.std.proofs.Common.{ℕ, List, ◌++◌, ap, codes}
+use Rattle.std.proofs.Common.{◌++◌, codes}
 use Rattle.std.proofs.KnownBytes.{Appends-trans}
 use Rattle.walrus_tools.proofs.DeviceLemmas.{on_err, on_ok_map, on_err_map, front_of_first, front_of_second}
 use Rattle.mulkavesh.specs.Shown.{shown}

@@ -2,8 +2,6 @@ use Rattle.std.proofs.Common.{◌≡◌, ℕ, List, ◌++◌, append_assoc, sym,
 use Rattle.std.proofs.KnownBytes.{Appends-trans}
 use Rattle.walrus_tools.proofs.DeviceLemmas.{on_err, front_of_first, front_of_second}
 use Rattle.mulkavesh.specs.Shown.{shown}
-use Rattle.walrus_tools.specs.Handed.{WroteFront}
-use Rattle.std.proofs.Common.{subst}
 use Rattle.mulkavesh.proofs.message.write_shown.Goals as goal
 
 pub returns-in_err-write_all-clause-begun : goal.returns-in_err-write_all-clause-begun
