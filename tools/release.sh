@@ -106,10 +106,12 @@ make_proved() {
   web_is_made || make_web
 }
 
-# Whether the programs are what rt built and proved of the sources as they are: by rt's own sums, each of them summed up once.
+# Whether the programs are what rt built and proved of the sources as they are: by rt's own sums, of which those of programs are of their files args and
+# status too.
 are_proved() {
   python3 - "$top" "$kit" "$@" << 'PY'
-import functools
+import importlib.machinery
+import importlib.util
 import sys
 
 top, kit, *names = sys.argv[1:]
@@ -117,10 +119,13 @@ sys.dont_write_bytecode = True
 sys.path.insert(0, f"{kit}/bin")
 import rtlib
 
-rtlib.Crate.stamp = functools.cache(rtlib.Crate.stamp)
+loader = importlib.machinery.SourceFileLoader("rt", f"{kit}/bin/rt")
+rt = importlib.util.module_from_spec(importlib.util.spec_from_loader("rt", loader))
+loader.exec_module(rt)
 for name in names:
-    program = f"{top}/crates/{name}/out/{name}"
-    if rtlib.text_of(f"{program}.stamp") != rtlib.Crate(f"{top}/crates/{name}", top, {}).stamp() + rtlib.sum_of(program):
+    program, crate = f"{top}/crates/{name}/out/{name}", rtlib.Crate(f"{top}/crates/{name}", top, {})
+    rt.read_files(crate)
+    if rtlib.text_of(f"{program}.stamp") != crate.stamp() + rtlib.sum_of(program):
         sys.exit(f"release: {program} isn't what its stamp names; once it is removed, tools/build.sh {name} builds it")
 PY
 }
