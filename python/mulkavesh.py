@@ -11,9 +11,9 @@ A module or a name may be `bytes`, a `bytearray` or a `memoryview`. `bytes` are 
 first, so that nothing can change them during the call. Other threads go on meanwhile, and may call too. In a child that was forked from
 a process with threads no call may be made (`multiprocessing` with the start method "fork").
 
-Each call with a module raises `InvalidModule` where the bytes are no module that keeps the rules, `TooLarge` where what is to be written
-has a count or a size past 32 bits, and `MemoryError`. `strip`, `why`, `snip` and `stub` also raise `NotFound`. `diagnose` never raises
-`InvalidModule`: it says what is wrong with such bytes.
+Each call with a module raises `InvalidModule` where the bytes are no module that keeps the rules, with what is wrong as its `fault`;
+`TooLarge` where what is to be written has a count or a size past 32 bits; and `MemoryError`. `strip`, `why`, `snip` and `stub` also raise
+`NotFound`. `diagnose` never raises `InvalidModule`: it answers the fault.
 """
 import ctypes
 import ctypes.util
@@ -51,7 +51,15 @@ class MulkaveshError(Exception):
 
 
 class InvalidModule(MulkaveshError):
-    """The input is no module that keeps the rules."""
+    """The input is no module that keeps the rules.
+
+    `fault` is what `diagnose` tells of it under the same choice of `legacy`, and `str` says it; or None, where memory ran out while it was
+    looked for, or a place in it passes 32 bits.
+    """
+
+    def __init__(self, text: str = "", fault: Optional["Fault"] = None) -> None:
+        super().__init__(text if fault is None else f"{text}: {fault}")
+        self.fault = fault
 
 
 class TooLarge(MulkaveshError):
@@ -205,8 +213,8 @@ _FAULT = struct.Struct("<II")
 _NO_NAMES, _NO_PRODUCERS, _NO_LEGACY = 1, 2, 4
 # The numbers in front of each name in a list, and what stands there for the length of a name that isn't there.
 _ENTRY, _NO_NAME = struct.Struct("<III"), 2**32 - 1
+_INVALID = "the input is no module that keeps the rules"
 _REFUSALS: Dict[int, Tuple[Type[Exception], str]] = {
-    Status.INVALID: (InvalidModule, "the input is no module that keeps the rules"),
     Status.TOO_LARGE: (TooLarge, "a count or a size passes 32 bits"),
     Status.NO_MEMORY: (MemoryError, "out of memory"),
     Status.UNKNOWN_FLAG: (MulkaveshError, "the library doesn't know a flag"),
@@ -235,14 +243,36 @@ def _tried(call: str, data: bytes, words: Tuple[Any, ...], room: int) -> Tuple[i
     return status, output, length.value
 
 
-def _answer(call: str, module: Bytes, *words: Any, room: int = 0, missing: str = "") -> bytes:
-    """What a call answers: in a guessed room, and again in more until that suffices. `missing` says what wasn't found."""
+def _fault_of(told: bytes) -> Optional[Fault]:
+    """What the eight bytes say that the library answers."""
+    kind, number = _FAULT.unpack(told)
+    if kind == 0:
+        return None
+    return Fault(FaultKind(kind), Rule(number) if kind == FaultKind.RULE else number)
+
+
+def _invalid(data: bytes, legacy: bool) -> InvalidModule:
+    """The refusal of these bytes, with what is wrong with them, which a second call tells."""
+    try:
+        status, told, _ = _tried("diagnose", data, (_flags(True, True, legacy),), _FAULT.size)
+    except MemoryError:
+        return InvalidModule(_INVALID)
+    return InvalidModule(_INVALID, _fault_of(told) if status == Status.DONE else None)
+
+
+def _answer(call: str, module: Bytes, *words: Any, room: int = 0, missing: str = "", legacy: bool = True) -> bytes:
+    """What a call answers: in a guessed room, and again in more until that suffices. `missing` says what wasn't found, and `legacy` whether
+    the call takes legacy exceptions.
+    """
     data = _whole(module)
     status, output, length = _tried(call, data, words, room or len(data) + _MARGIN)
     while status == Status.NO_ROOM:
         status, output, length = _tried(call, data, words, length)
     if status == Status.DONE:
         return bytes(memoryview(output)[:length])
+    if status == Status.INVALID:
+        del output
+        raise _invalid(data, legacy)
     if status == Status.NOT_FOUND:
         raise NotFound(missing)
     kind, text = _REFUSALS.get(status, (MulkaveshError, f"the library answered status {status}"))
@@ -273,28 +303,25 @@ def gc(module: Bytes, *, names: bool = True, producers: bool = True, legacy: boo
 
     Where `names` or `producers` is false, none are written; where `legacy` is false, bodies with legacy exceptions are refused.
     """
-    return _answer("gc", module, _flags(names, producers, legacy))
+    return _answer("gc", module, _flags(names, producers, legacy), legacy=legacy)
 
 
 def report(module: Bytes, *, legacy: bool = True) -> str:
     """How many items of each kind `gc` keeps and drops, in seven lines as `functions kept 19 dropped 1`. Imported ones count too."""
-    return _answer("report", module, _flags(True, True, legacy), room=_ROOM_OF_A_REPORT).decode()
+    return _answer("report", module, _flags(True, True, legacy), room=_ROOM_OF_A_REPORT, legacy=legacy).decode()
 
 
 def diagnose(module: Bytes, *, legacy: bool = True) -> Optional[Fault]:
-    """What is wrong with bytes that the other calls refuse as `InvalidModule`, or None exactly where they are accepted.
+    """What is wrong with bytes, which is the `fault` of `InvalidModule` too, or None exactly where the other calls accept them.
 
     Where several things are wrong, one of them is told. `TooLarge` where a place or an index passes 32 bits.
     """
-    kind, number = _FAULT.unpack(_answer("diagnose", module, _flags(True, True, legacy), room=_FAULT.size))
-    if kind == 0:
-        return None
-    return Fault(FaultKind(kind), Rule(number) if kind == FaultKind.RULE else number)
+    return _fault_of(_answer("diagnose", module, _flags(True, True, legacy), room=_FAULT.size))
 
 
 def list_functions(module: Bytes, *, legacy: bool = True) -> List[Function]:
     """The functions with a body that `gc` keeps, by rising index."""
-    return list(_functions(_answer("list", module, _flags(True, True, legacy))))
+    return list(_functions(_answer("list", module, _flags(True, True, legacy), legacy=legacy)))
 
 
 def strip(module: Bytes, name: Name, *, names: bool = True, producers: bool = True, legacy: bool = True) -> bytes:
@@ -306,7 +333,7 @@ def strip(module: Bytes, name: Name, *, names: bool = True, producers: bool = Tr
     """
     word = _bytes_of(name)
     missing = f"the module has no custom section {name!r} that could be taken away"
-    return _answer("strip", module, _flags(names, producers, legacy), word, len(word), missing=missing)
+    return _answer("strip", module, _flags(names, producers, legacy), word, len(word), missing=missing, legacy=legacy)
 
 
 def why(module: Bytes, function: int) -> str:

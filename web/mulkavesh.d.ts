@@ -41,7 +41,7 @@ export interface Mulkavesh {
   gc(input: Bytes, options?: Options): Uint8Array;
   /** How many items of each kind `gc` keeps and drops, in seven lines. */
   report(input: Bytes, options?: Options): string;
-  /** What is wrong with bytes that the others refuse as invalid, or null exactly where they are accepted. */
+  /** What is wrong with bytes, as in the `fault` of InvalidModule, or null exactly where the others accept them. */
   diagnose(input: Bytes, options?: Options): Fault | null;
   /** The functions with a body that `gc` keeps, by rising index. */
   list(input: Bytes, options?: Options): Listed[];
@@ -77,7 +77,10 @@ export class MulkaveshError extends Error {
   readonly code: Code;
 }
 /** The input is no module that keeps the rules. */
-export class InvalidModule extends MulkaveshError {}
+export class InvalidModule extends MulkaveshError {
+  /** What `diagnose` tells of it under the same choice of `legacy`; the message says it. Null where memory ran out while it was looked for. */
+  readonly fault: Fault | null;
+}
 /** What is to be written has a count or a size past 32 bits. */
 export class TooLarge extends MulkaveshError {}
 /** Memory ran out. */

@@ -14,8 +14,13 @@ export class MulkaveshError extends Error {
     this.code = code;
   }
 }
-/** The input is no module that keeps the rules. */
-export class InvalidModule extends MulkaveshError {}
+/** The input is no module that keeps the rules; `fault` is what is wrong with it, as `diagnose` tells it, or null where that could not be found out. */
+export class InvalidModule extends MulkaveshError {
+  constructor(code, message, fault = null) {
+    super(code, fault === null ? message : `${message}: ${fault.text}`);
+    this.fault = fault;
+  }
+}
 /** What is to be written has a count or a size past 32 bits. */
 export class TooLarge extends MulkaveshError {}
 /** Memory ran out. */
@@ -25,9 +30,10 @@ export class NotFound extends MulkaveshError {}
 /** The library stopped in the midst of a call, which is a mistake in it or a host with too little stack. Later calls have a fresh instance. */
 export class Trapped extends MulkaveshError {}
 
+const INVALID = 1;
 const NO_ROOM = 4;
 const REFUSALS = new Map([
-  [1, () => new InvalidModule('INVALID', 'the input is no module that keeps the rules')],
+  [INVALID, (fault) => new InvalidModule('INVALID', 'the input is no module that keeps the rules', fault)],
   [2, () => new TooLarge('TOO_LARGE', 'a count or a size passes 32 bits')],
   [3, () => new OutOfMemory('NO_MEMORY', 'out of memory')],
   [6, () => new NotFound('NOT_FOUND', 'there is nothing of this name or index')],
@@ -101,26 +107,49 @@ class Call {
     while (this.held.length > 0) this.exports.give_back(this.held.pop());
   }
 
-  // Calls with this much room, and where that is too little with as much as is asked for. Views are made anew behind each call, in which memory may have grown.
-  answer(name, words, guess) {
+  // One call with this much room, which is given back: the status, how much the answer has or wants, and the answer, where there is one. Views are made behind
+  // the call, in which memory may have grown.
+  tried(name, words, room, length) {
+    const at = this.hold(room);
+    const status = this.exports[`mulkavesh_${name}`](...words, at, BigInt(room), length);
+    const { buffer } = this.exports.memory;
+    const count = Number(new DataView(buffer).getBigUint64(length, true));
+    const answer = status === 0 ? new Uint8Array(buffer, at, count).slice() : null;
+    this.exports.give_back(this.held.pop());
+    return { status, count, answer };
+  }
+
+  // What is wrong with the input that is lent; null where there is no room to find that out.
+  fault(lent, flags, length) {
+    try {
+      const { answer } = this.tried('diagnose', [...lent, flags], ROOM_OF_A_FAULT, length);
+      return answer && faultOf(answer);
+    } catch (error) {
+      if (error instanceof OutOfMemory) return null;
+      throw error;
+    }
+  }
+
+  // Calls with this much room, and where that is too little with as much as is asked for. Where the input is invalid, a second call tells why.
+  answer(name, lent, flags, words, guess) {
     const length = this.hold(8);
     for (let room = guess; ; ) {
-      const at = this.hold(room);
-      const status = this.exports[`mulkavesh_${name}`](...words, at, BigInt(room), length);
-      const { buffer } = this.exports.memory;
-      const count = Number(new DataView(buffer).getBigUint64(length, true));
-      if (status === 0) return new Uint8Array(buffer, at, count).slice();
-      if (status !== NO_ROOM) throw REFUSALS.get(status)?.() ?? new MulkaveshError('UNKNOWN_STATUS', `the library answers status ${status}`);
-      this.exports.give_back(this.held.pop());
+      const { status, count, answer } = this.tried(name, [...lent, ...words], room, length);
+      if (status === 0) return answer;
+      if (status !== NO_ROOM) {
+        const fault = status === INVALID ? this.fault(lent, flags, length) : null;
+        throw REFUSALS.get(status)?.(fault) ?? new MulkaveshError('UNKNOWN_STATUS', `the library answers status ${status}`);
+      }
       room = count;
     }
   }
 
   // Lends what is given, and answers or refuses; either way all is given back. Where the library stops nothing is, since its memory may be in disorder then.
-  run(name, input, between, guess) {
+  // A call that takes no flags has null for them, and goes by none.
+  run(name, input, flags, between, guess) {
     try {
-      const words = [...this.lend(input), ...between.flatMap((it) => (typeof it === 'number' ? [it] : this.lend(it)))];
-      const answer = this.answer(name, words, guess);
+      const lent = this.lend(input), words = between.flatMap((it) => (typeof it === 'number' ? [it] : this.lend(it)));
+      const answer = this.answer(name, lent, flags ?? 0, flags === null ? words : [flags, ...words], guess);
       this.giveBack();
       return answer;
     } catch (error) {
@@ -176,11 +205,11 @@ function faultOf(bytes) {
 function caller(module) {
   let exports = null;
   const begin = () => new WebAssembly.Instance(module, {}).exports;
-  return function call(name, input, between, guess) {
+  return function call(name, input, flags, between, guess) {
     const one = new Call(exports ?? begin());
     exports = null;
     try {
-      return one.run(name, input, between, guess);
+      return one.run(name, input, flags, between, guess);
     } catch (error) {
       if (error instanceof MulkaveshError) throw error;
       void error.stack;
@@ -195,18 +224,17 @@ function caller(module) {
 
 function callsOver(module) {
   const call = caller(module);
-  const near = (input) => input.length + MARGIN;
-  const whole = (name, input, between) => call(name, input, between, near(input));
+  const whole = (name, input, flags, ...between) => call(name, input, flags, between, input.length + MARGIN);
   const version = new WebAssembly.Instance(module, {}).exports.mulkavesh_version();
   return Object.freeze({
-    gc: (input, options) => whole('gc', bytesOf(input), [flagsOf(options)]),
-    report: (input, options) => decoder.decode(call('report', bytesOf(input), [flagsOf(options)], ROOM_OF_A_REPORT)),
-    diagnose: (input, options) => faultOf(call('diagnose', bytesOf(input), [flagsOf(options)], ROOM_OF_A_FAULT)),
-    list: (input, options) => listOf(whole('list', bytesOf(input), [flagsOf(options)])),
-    strip: (input, name, options) => whole('strip', bytesOf(input), [flagsOf(options), nameOf(name)]),
-    why: (input, index) => decoder.decode(call('why', bytesOf(input), [indexOf(index)], ROOM_OF_A_CHAIN)),
-    snip: (input, name) => whole('snip', bytesOf(input), [nameOf(name)]),
-    stub: (input, from) => whole('stub', bytesOf(input), [nameOf(from)]),
+    gc: (input, options) => whole('gc', bytesOf(input), flagsOf(options)),
+    report: (input, options) => decoder.decode(call('report', bytesOf(input), flagsOf(options), [], ROOM_OF_A_REPORT)),
+    diagnose: (input, options) => faultOf(call('diagnose', bytesOf(input), flagsOf(options), [], ROOM_OF_A_FAULT)),
+    list: (input, options) => listOf(whole('list', bytesOf(input), flagsOf(options))),
+    strip: (input, name, options) => whole('strip', bytesOf(input), flagsOf(options), nameOf(name)),
+    why: (input, index) => decoder.decode(call('why', bytesOf(input), null, [indexOf(index)], ROOM_OF_A_CHAIN)),
+    snip: (input, name) => whole('snip', bytesOf(input), null, nameOf(name)),
+    stub: (input, from) => whole('stub', bytesOf(input), null, nameOf(from)),
     version: () => `${version >>> 16}.${(version >>> 8) & 255}.${version & 255}`,
   });
 }

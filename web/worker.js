@@ -78,15 +78,6 @@ async function why({ index }, tell) {
   tell('why', { index, reached, first: first.map(named), left: Math.max(0, left), behind: behind.map(named), last: true });
 }
 
-// What is wrong with a module that is refused, in words; nothing where that can't be told.
-async function faultWith(options) {
-  try {
-    return (await library).diagnose(bytes, { legacy: options?.legacy })?.text ?? null;
-  } catch {
-    return null;
-  }
-}
-
 const ANSWERS = { take, rows, why };
 
 self.onmessage = async ({ data }) => {
@@ -95,8 +86,8 @@ self.onmessage = async ({ data }) => {
     await ANSWERS[data.word](data, tell);
   } catch (error) {
     const code = error instanceof MulkaveshError ? error.code : error.name;
-    const fault = code === 'INVALID' ? await faultWith(data.options) : null;
-    tell('refused', { code, message: error.message, first: bytes?.slice(0, BYTES_TO_LOOK_AT) ?? null, fault, last: true });
+    const first = bytes?.slice(0, BYTES_TO_LOOK_AT) ?? null, fault = error.fault?.text ?? null;
+    tell('refused', { code, message: error.message, first, fault, last: true });
     // Nothing more is asked of a file that is refused.
     if (data.word === 'take') forget();
   }

@@ -6,6 +6,7 @@ import hashlib
 import inspect
 import os
 import pathlib
+import pickle
 import re
 import shutil
 import subprocess
@@ -65,9 +66,6 @@ class Answers(unittest.TestCase):
 
     def test_gc_and_legacy_exceptions(self) -> None:
         self.assertEqual(mulkavesh.gc(worked.LEGACY, names=False, producers=False), worked.LEGACY_LEFT)
-        for call in (mulkavesh.gc, mulkavesh.report, mulkavesh.list_functions):
-            self.assertRaises(InvalidModule, call, worked.LEGACY, legacy=False)
-        self.assertRaises(InvalidModule, mulkavesh.strip, worked.LEGACY, "a", legacy=False)
 
     def test_report(self) -> None:
         self.assertEqual(mulkavesh.report(worked.TWO), worked.REPORT)
@@ -153,6 +151,63 @@ class Answers(unittest.TestCase):
 class Refusals(unittest.TestCase):
     """What each call refuses."""
 
+    def assert_invalid(self, fault: Fault, call: Callable[..., Any], *words: Any, **choices: bool) -> None:
+        with self.assertRaises(InvalidModule) as raised:
+            call(*words, **choices)
+        self.assertEqual(raised.exception.fault, fault)
+
+    def test_faults_of_refusals(self) -> None:
+        count = 0
+        for flags, kind, number, module, words in worked.faults():
+            if not kind:
+                continue
+            fault, legacy = Fault(FaultKind(kind), number), not flags & 4
+            with self.subTest(words, module=module.hex(" ")):
+                self.assert_invalid(fault, mulkavesh.gc, module, names=not flags & 1, producers=not flags & 2, legacy=legacy)
+                self.assert_invalid(fault, mulkavesh.report, module, legacy=legacy)
+                self.assert_invalid(fault, mulkavesh.list_functions, module, legacy=legacy)
+                self.assert_invalid(fault, mulkavesh.strip, module, "a", legacy=legacy)
+                if legacy:
+                    self.assert_invalid(fault, mulkavesh.why, bytearray(module), 0)
+                    self.assert_invalid(fault, mulkavesh.snip, module, "a")
+                    self.assert_invalid(fault, mulkavesh.stub, module, "env")
+            count += 1
+        self.assertGreater(count, 13)
+
+    def test_faults_of_legacy_exceptions(self) -> None:
+        for call in (mulkavesh.gc, mulkavesh.report, mulkavesh.list_functions):
+            self.assert_invalid(Fault(FaultKind.BODY, 0), call, worked.LEGACY, legacy=False)
+        self.assert_invalid(Fault(FaultKind.BODY, 0), mulkavesh.strip, worked.LEGACY, "a", legacy=False)
+
+    def test_what_a_refusal_says(self) -> None:
+        with self.assertRaises(InvalidModule) as raised:
+            mulkavesh.why(b"no module", 0)
+        text = "the input is no module that keeps the rules: the bytes don't begin as a WebAssembly module"
+        self.assertEqual(str(raised.exception), text)
+        copied = pickle.loads(pickle.dumps(raised.exception))
+        self.assertEqual((type(copied), str(copied), copied.fault), (InvalidModule, text, Fault(FaultKind.HEADER, 0)))
+
+    def test_no_memory_for_the_fault(self) -> None:
+        tried = mulkavesh._tried
+
+        def full(call: str, *words: Any) -> Any:
+            if call == "diagnose":
+                raise MemoryError
+            return tried(call, *words)
+
+        library = types.SimpleNamespace(mulkavesh_gc=lambda *words: 1, mulkavesh_diagnose=lambda *words: 3)
+        for patched in (mock.patch.object(mulkavesh, "_library", library), mock.patch.object(mulkavesh, "_tried", full)):
+            with patched, self.assertRaises(InvalidModule) as raised:
+                mulkavesh.gc(b"")
+            self.assertEqual((raised.exception.fault, str(raised.exception)), (None, "the input is no module that keeps the rules"))
+
+    def test_only_a_refusal_is_looked_into(self) -> None:
+        with mock.patch.object(mulkavesh, "_tried", wraps=mulkavesh._tried) as tried:
+            self.assertEqual(mulkavesh.gc(worked.TWO, producers=False), worked.ONE)
+            self.assertRaises(NotFound, mulkavesh.why, worked.TWO, 2)
+            self.assertRaises(InvalidModule, mulkavesh.gc, b"")
+        self.assertEqual([call.args[0] for call in tried.call_args_list], ["gc", "why", "gc", "diagnose"])
+
     def test_invalid_modules(self) -> None:
         for name, call in CALLS.items():
             for module in (b"", bytearray(), memoryview(b""), b"\0asm", b"no module at all", worked.TWO[:-1], worked.TWO + b"\0"):
@@ -196,7 +251,7 @@ class Refusals(unittest.TestCase):
         """What each status raises; those that only huge modules come to are told by a library that answers nothing else."""
         wanted = {1: InvalidModule, 2: TooLarge, 3: MemoryError, 5: MulkaveshError, 6: NotFound, 7: MulkaveshError}
         for status, kind in wanted.items():
-            library = types.SimpleNamespace(mulkavesh_gc=lambda *words, status=status: status)
+            library = types.SimpleNamespace(**{f"mulkavesh_{call}": lambda *words, status=status: status for call in ("gc", "diagnose")})
             with mock.patch.object(mulkavesh, "_library", library), self.assertRaises(Exception) as raised:
                 mulkavesh.gc(worked.TWO)
             self.assertIs(type(raised.exception), kind)

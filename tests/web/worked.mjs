@@ -1,7 +1,7 @@
 // Compares what each call from JavaScript answers with answers that were worked out by hand, and the memory behind a large call with that behind a small one.
 // node tests/web/worked.mjs FOLDER, that of mulkavesh.js. tests/web.sh calls it.
-// The modules are those of crates/walrus_tools/src/samples.rt and python/tests/worked.py, for `diagnose` those of tests/faults.txt. Tried are also an error of
-// each kind and each way to load. Prints the count and a line for each find.
+// The modules are those of crates/walrus_tools/src/samples.rt and python/tests/worked.py, for `diagnose` and refusals those of tests/faults.txt. Tried are also
+// an error of each kind and each way to load. Prints the count and a line for each find.
 import assert from 'node:assert/strict';
 import { readFileSync } from 'node:fs';
 import { join } from 'node:path';
@@ -91,14 +91,14 @@ function faults() {
   });
 }
 
-// A library whose call `gc` answers nothing but this status.
+// A library whose calls `gc` and `diagnose` answer nothing but this status.
 function answering(status) {
   const name = (text) => [text.length, ...new TextEncoder().encode(text)];
-  const shown = [['memory', 2, 0], ['mulkavesh_version', 0, 0], ['room', 0, 1], ['give_back', 0, 2], ['mulkavesh_gc', 0, 3]];
+  const shown = [['memory', 2, 0], ['mulkavesh_version', 0, 0], ['room', 0, 1], ['give_back', 0, 2], ['mulkavesh_gc', 0, 3], ['mulkavesh_diagnose', 0, 3]];
   const constant = (low, high) => [4 + (high === undefined ? 0 : 1), 0, 0x41, low, ...(high === undefined ? [] : [high]), 11];
   return Uint8Array.from([
     ...module(), ...section(1, [4, 0x60, 0, 1, 0x7F, 0x60, 1, 0x7F, 1, 0x7F, 0x60, 1, 0x7F, 0, 0x60, 6, 0x7F, 0x7E, 0x7F, 0x7F, 0x7E, 0x7F, 1, 0x7F]),
-    ...section(3, [4, 0, 1, 2, 3]), ...section(5, [1, 0, 1]), ...section(7, [5, ...shown.flatMap(([text, kind, index]) => [...name(text), kind, index])]),
+    ...section(3, [4, 0, 1, 2, 3]), ...section(5, [1, 0, 1]), ...section(7, [6, ...shown.flatMap(([text, kind, index]) => [...name(text), kind, index])]),
     ...section(10, [4, ...constant(0x80, 2), ...constant(16), 2, 0, 11, ...constant(status)]),
   ]);
 }
@@ -122,6 +122,22 @@ function withMost(pages) {
       return Uint8Array.from([...wasm.subarray(0, begin), ...section(5, [1, 1, ...number(read()), ...number(pages)]), ...wasm.subarray(end)]);
     }
     at = end;
+  }
+}
+
+// Does this with instances that have room for each second piece of so many bytes refused.
+async function withNoSecond(size, run) {
+  const { Instance: before } = WebAssembly;
+  let times = 0;
+  WebAssembly.Instance = function short(...words) {
+    const { exports } = new before(...words);
+    return { exports: { ...exports, room: (count) => (count === size && ++times % 2 === 0 ? 0 : exports.room(count)) } };
+  };
+  try {
+    await run();
+    assert.ok(times > 1);
+  } finally {
+    WebAssembly.Instance = before;
   }
 }
 
@@ -167,6 +183,11 @@ const alone = { producers: false };
 const equals = (found, wanted) => assert.equal(Buffer.from(found).toString('hex'), Buffer.from(wanted).toString('hex'));
 const refuses = (kind, code, call) =>
   assert.throws(call, (error) => error.constructor === kind && error instanceof MulkaveshError && error.code === code && error.message !== '');
+const refusesFor = (fault, ...calls) => calls.forEach((call) => {
+  const error = errorOf(call);
+  assert.equal(error?.constructor, InvalidModule);
+  assert.deepEqual(error.fault, fault);
+});
 
 // Ways in which a call ends: the library, what is thrown, and the call of it on a module of about so many bytes. There is no room at all for one of 128 MB in
 // 94 MB of memory, which so stays small; one of 64 MB comes in, and then there is none for the answer.
@@ -216,8 +237,23 @@ const TRIES = {
     faults().forEach(({ options, fault, bytes }) => assert.deepEqual(diagnose(bytes, options), fault));
     assert.ok(faults().length > 13);
   },
-  'what gc refuses is diagnosed': () => faults().filter(({ fault }) => fault !== null).forEach(({ options, bytes }) => {
-    refuses(InvalidModule, 'INVALID', () => gc(bytes, options));
+  'a refusal has the fault': () => faults().filter(({ fault }) => fault !== null).forEach(({ options, fault, bytes }) => {
+    refusesFor(fault, () => gc(bytes, options), () => report(bytes, options), () => list(bytes, options), () => strip(bytes, 'a', options));
+    if (options.legacy) refusesFor(fault, () => why(bytes, 0), () => snip(bytes, 'a'), () => stub(bytes, 'env'));
+  }),
+  'a refusal says the fault': () => {
+    const { name, code, message } = errorOf(() => why(hex('00 61'), 0));
+    const wanted = "the input is no module that keeps the rules: the bytes don't begin as a WebAssembly module";
+    assert.deepEqual({ name, code, message }, { name: 'InvalidModule', code: 'INVALID', message: wanted });
+  },
+  'a fault that is not found out': async () => {
+    const other = await load(answering(1)), { fault, message } = errorOf(() => other.gc(TWO));
+    assert.deepEqual({ fault, message }, { fault: null, message: 'the input is no module that keeps the rules' });
+  },
+  'no room for a fault': () => withNoSecond(8, async () => {
+    const other = await load(wasm);
+    refusesFor(null, () => other.gc(junk(1)));
+    equals(other.gc(TWO, alone), ONE);
   }),
   list: () => assert.deepEqual(list(TWO), [{ index: 1, size: 2, name: null }]),
   'list with a name': () => assert.deepEqual(list(TWO_NAMED), [{ index: 1, size: 2, name: 'é' }]),
@@ -260,6 +296,14 @@ const TRIES = {
       const other = await load(answering(status));
       refuses(kind, code, () => other.gc(TWO));
     }
+  },
+  'a trap as a fault is looked for': async () => {
+    const other = await load(snip(wasm, 'mulkavesh_diagnose'));
+    for (let times = 0; times < 3; times++) {
+      refuses(Trapped, 'TRAPPED', () => other.gc(junk(1)));
+      equals(other.gc(TWO, alone), ONE);
+    }
+    assert.throws(() => other.why(TWO, 2), NotFound);
   },
   'a trap, and a fresh instance': async () => {
     const other = await load(snip(wasm, 'mulkavesh_gc'));

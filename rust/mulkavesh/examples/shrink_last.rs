@@ -7,7 +7,7 @@
 //! or the other. Prints both sizes; where anything fails, the file is as it was, and what is wrong
 //! with it is told.
 
-use mulkavesh::{diagnose, gc, Flags};
+use mulkavesh::{gc, Flags};
 use std::error::Error;
 use std::fs::{self, OpenOptions};
 use std::io::{self, Write};
@@ -58,20 +58,12 @@ fn replace(file: &Path, bytes: &[u8]) -> io::Result<()> {
     replaced
 }
 
-/// Why the input is refused, with what is wrong with it where it is no module.
-fn reason(input: &[u8], flags: Flags, error: mulkavesh::Error) -> String {
-    match diagnose(input, flags) {
-        Ok(Some(fault)) => format!("{error}: {fault}"),
-        _ => error.to_string(),
-    }
-}
-
 /// Makes the module in the file smaller, and gives both sizes.
 fn shrink(file: &Path, flags: Flags) -> Result<(usize, usize), Box<dyn Error>> {
     // What a link leads to is replaced, and not the link.
     let file = fs::canonicalize(file)?;
     let input = fs::read(&file)?;
-    let output = gc(&input, flags).map_err(|error| reason(&input, flags, error))?;
+    let output = gc(&input, flags)?;
     replace(&file, &output)?;
     Ok((input.len(), output.len()))
 }

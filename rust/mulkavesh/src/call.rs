@@ -1,6 +1,6 @@
 //! The one place where the library is called, and so the one with `unsafe`.
 
-use crate::{Error, Flags};
+use crate::{diagnose, Error, Flags};
 use mulkavesh_sys as library;
 
 type Numbered = unsafe extern "C" fn(*const u8, usize, u32, *mut u8, usize, *mut usize) -> u32;
@@ -28,40 +28,54 @@ enum Form<'a> {
 
 /// What the library is asked, but for the input. None is made outside this file, so that each
 /// function in one is of the library, and keeps what its header promises.
-pub(crate) struct Call<'a>(Form<'a>);
+pub(crate) struct Call<'a> {
+    form: Form<'a>,
+    /// Those that the call goes by: the default where it takes none.
+    flags: Flags,
+}
 
 impl<'a> Call<'a> {
+    fn flagged(call: Numbered, flags: Flags) -> Self {
+        let form = Form::Numbered(call, flags.bits());
+        Call { form, flags }
+    }
+
+    fn unflagged(form: Form<'a>) -> Self {
+        let flags = Flags::default();
+        Call { form, flags }
+    }
+
     pub(crate) fn gc(flags: Flags) -> Self {
-        Call(Form::Numbered(library::mulkavesh_gc, flags.bits()))
+        Call::flagged(library::mulkavesh_gc, flags)
     }
 
     pub(crate) fn report(flags: Flags) -> Self {
-        Call(Form::Numbered(library::mulkavesh_report, flags.bits()))
+        Call::flagged(library::mulkavesh_report, flags)
     }
 
     pub(crate) fn diagnose(flags: Flags) -> Self {
-        Call(Form::Numbered(library::mulkavesh_diagnose, flags.bits()))
+        Call::flagged(library::mulkavesh_diagnose, flags)
     }
 
     pub(crate) fn list(flags: Flags) -> Self {
-        Call(Form::Numbered(library::mulkavesh_list, flags.bits()))
+        Call::flagged(library::mulkavesh_list, flags)
     }
 
     pub(crate) fn strip(flags: Flags, name: &'a str) -> Self {
-        let strip = library::mulkavesh_strip;
-        Call(Form::NumberedAndNamed(strip, flags.bits(), name))
+        let form = Form::NumberedAndNamed(library::mulkavesh_strip, flags.bits(), name);
+        Call { form, flags }
     }
 
     pub(crate) fn why(function: u32) -> Self {
-        Call(Form::Numbered(library::mulkavesh_why, function))
+        Call::unflagged(Form::Numbered(library::mulkavesh_why, function))
     }
 
     pub(crate) fn snip(name: &'a str) -> Self {
-        Call(Form::Named(library::mulkavesh_snip, name))
+        Call::unflagged(Form::Named(library::mulkavesh_snip, name))
     }
 
     pub(crate) fn stub(from: &'a str) -> Self {
-        Call(Form::Named(library::mulkavesh_stub, from))
+        Call::unflagged(Form::Named(library::mulkavesh_stub, from))
     }
 
     /// The answer for this input. One call serves where this much room, in bytes, is enough; where
@@ -74,12 +88,24 @@ impl<'a> Call<'a> {
             match status {
                 library::MULKAVESH_DONE => return Ok(output),
                 library::MULKAVESH_NO_ROOM => room = length,
-                library::MULKAVESH_INVALID => return Err(Error::Invalid),
+                library::MULKAVESH_INVALID => {
+                    drop(output);
+                    return Err(self.refusal(input));
+                }
                 library::MULKAVESH_TOO_LARGE => return Err(Error::TooLarge),
                 library::MULKAVESH_NO_MEMORY => return Err(Error::NoMemory),
                 library::MULKAVESH_NOT_FOUND => return Err(Error::NotFound),
                 other => unreachable!("the library answers with status {other}"),
             }
+        }
+    }
+
+    /// Why this input is invalid, which a second call finds out, under the same flags.
+    fn refusal(&self, input: &[u8]) -> Error {
+        match diagnose(input, self.flags) {
+            Ok(Some(fault)) => Error::Invalid(fault),
+            Ok(None) => unreachable!("the library finds nothing wrong with what it refuses"),
+            Err(error) => error,
         }
     }
 
@@ -95,7 +121,7 @@ impl<'a> Call<'a> {
         // pointers is null. The library reads no byte of the room that it hasn't written, and
         // keeps no pointer.
         let status = unsafe {
-            match self.0 {
+            match self.form {
                 Form::Numbered(call, number) => call(start, size, number, to, room, told),
                 Form::Named(call, name) => {
                     call(start, size, name.as_ptr(), name.len(), to, room, told)
@@ -132,6 +158,7 @@ pub(crate) fn version() -> u32 {
 #[cfg(test)]
 mod tests {
     use super::*;
+    use crate::Fault;
 
     // Three custom sections, each of a byte: `a`, `a` and `b`.
     const SECTIONS: &[u8] = b"\0asm\x01\0\0\0\0\x03\x01a\x01\0\x03\x01a\x02\0\x03\x01b\x03";
@@ -157,7 +184,8 @@ mod tests {
         let strip = Call::strip(NO_PRODUCERS, "c");
         assert_eq!(strip.answer(SECTIONS, 0), Err(Error::NotFound));
         assert_eq!(Call::why(0).answer(SECTIONS, 0), Err(Error::NotFound));
-        assert_eq!(Call::stub("a").answer(b"", 0), Err(Error::Invalid));
+        let invalid = Err(Error::Invalid(Fault::Header));
+        assert_eq!(Call::stub("a").answer(b"", 0), invalid);
         let told = Call::diagnose(NO_PRODUCERS).answer(b"", 0);
         assert_eq!(told.as_deref(), Ok(&[1, 0, 0, 0, 0, 0, 0, 0][..]));
     }

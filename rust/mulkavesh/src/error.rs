@@ -1,13 +1,25 @@
 //! Why a call has no answer.
 
+use crate::Fault;
 use std::{error, fmt};
 
 /// Why a call has no answer. Nothing is left of a call that was refused.
+///
+/// ```
+/// use mulkavesh::{gc, Error, Fault, Flags};
+///
+/// let error = gc(b"no module", Flags::default()).unwrap_err();
+/// assert_eq!(error, Error::Invalid(Fault::Header));
+/// let text = "the input WebAssembly is invalid: the bytes don't begin as a WebAssembly module";
+/// assert_eq!(error.to_string(), text);
+/// ```
 #[derive(Debug, Clone, Copy, PartialEq, Eq, Hash)]
 pub enum Error {
-    /// The input is no module that keeps the rules of the format.
-    Invalid,
-    /// What is to be written has a count or a size past 32 bits.
+    /// The input is no module that keeps the rules of the format; this is wrong with it, as
+    /// [`diagnose`](crate::diagnose) tells it. Where there is no memory to find that out, the error
+    /// is [`Error::NoMemory`], and where a place in it passes 32 bits [`Error::TooLarge`].
+    Invalid(Fault),
+    /// What is to be written, or told, has a count, a size or a place past 32 bits.
     TooLarge,
     /// Memory ran out.
     NoMemory,
@@ -15,20 +27,14 @@ pub enum Error {
     NotFound,
 }
 
-impl Error {
-    fn text(self) -> &'static str {
-        match self {
-            Error::Invalid => "the input WebAssembly is invalid",
-            Error::TooLarge => "a count or size passes 32 bits",
-            Error::NoMemory => "out of memory",
-            Error::NotFound => "there is nothing of this name or index",
-        }
-    }
-}
-
 impl fmt::Display for Error {
     fn fmt(&self, formatter: &mut fmt::Formatter<'_>) -> fmt::Result {
-        formatter.write_str(self.text())
+        match self {
+            Error::Invalid(fault) => write!(formatter, "the input WebAssembly is invalid: {fault}"),
+            Error::TooLarge => formatter.write_str("a count or size passes 32 bits"),
+            Error::NoMemory => formatter.write_str("out of memory"),
+            Error::NotFound => formatter.write_str("there is nothing of this name or index"),
+        }
     }
 }
 

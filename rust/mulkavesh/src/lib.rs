@@ -67,11 +67,11 @@ fn text(bytes: Vec<u8>) -> String {
 ///
 /// # Errors
 ///
-/// [`Error::Invalid`] where the input is no module that keeps the rules, [`Error::TooLarge`] where
-/// what stays has a count or a size past 32 bits, and [`Error::NoMemory`].
+/// [`Error::Invalid`] where the input is no module that keeps the rules, with what is wrong with it,
+/// [`Error::TooLarge`] where what stays has a count or a size past 32 bits, and [`Error::NoMemory`].
 ///
 /// ```
-/// use mulkavesh::{gc, Error, Flags};
+/// use mulkavesh::{gc, Error, Fault, Flags};
 ///
 /// // Two functions, of which the second is exported as `f`.
 /// let module = [
@@ -87,7 +87,7 @@ fn text(bytes: Vec<u8>) -> String {
 /// ].concat();
 /// let flags = Flags { no_producers: true, ..Flags::default() };
 /// assert_eq!(gc(&module, flags), Ok(smaller));
-/// assert_eq!(gc(b"no module", flags), Err(Error::Invalid));
+/// assert_eq!(gc(b"no module", flags), Err(Error::Invalid(Fault::Header)));
 /// ```
 pub fn gc(input: &[u8], flags: Flags) -> Result<Vec<u8>, Error> {
     Call::gc(flags).answer(input, input.len() + MORE)

@@ -1,7 +1,7 @@
 //! What is wrong with bytes, as it was worked out by hand in the file tests/faults.txt of the
 //! repository, and the words for it.
 
-use mulkavesh::{diagnose, gc, Error, Fault, Flags, Rule};
+use mulkavesh::{diagnose, gc, list, report, snip, strip, stub, why, Error, Fault, Flags, Rule};
 
 /// The lines, of which those that begin with `#` say why.
 const LINES: &str = include_str!("../../../tests/faults.txt");
@@ -74,12 +74,48 @@ fn faults_are_told() {
     }
 }
 
+/// The error, but where it is only that there is nothing of a name or index.
+fn refusal<T>(answer: Result<T, Error>) -> Option<Error> {
+    answer.err().filter(|error| *error != Error::NotFound)
+}
+
 #[test]
-fn gc_refuses_where_there_is_a_fault() {
+fn a_refusal_has_the_fault() {
     for it in lines() {
-        let refused = gc(&it.bytes, it.flags).err();
-        assert_eq!(refused, it.fault.map(|_| Error::Invalid));
+        let wanted = it.fault.map(Error::Invalid);
+        let found = [
+            refusal(gc(&it.bytes, it.flags)),
+            refusal(report(&it.bytes, it.flags)),
+            refusal(list(&it.bytes, it.flags)),
+            refusal(strip(&it.bytes, it.flags, "a")),
+        ];
+        assert_eq!(found, [wanted; 4], "of {:02X?}", it.bytes);
     }
+}
+
+/// The calls without flags refuse as under none.
+#[test]
+fn a_refusal_without_flags_has_the_fault() {
+    for it in lines().iter().filter(|it| !it.flags.no_legacy) {
+        let wanted = it.fault.map(Error::Invalid);
+        let found = [
+            refusal(why(&it.bytes, 0)),
+            refusal(snip(&it.bytes, "a")),
+            refusal(stub(&it.bytes, "env")),
+        ];
+        assert_eq!(found, [wanted; 3], "of {:02X?}", it.bytes);
+    }
+}
+
+#[test]
+fn a_refusal_says_the_fault() {
+    // A memory of at least two pages and at most one.
+    let refused = why(b"\0asm\x01\0\0\0\x05\x04\x01\x01\x02\x01", 0);
+    let text = "the input WebAssembly is invalid: the limits of a table or a memory aren't allowed";
+    assert_eq!(
+        refused.map_err(|error| error.to_string()),
+        Err(text.to_string())
+    );
 }
 
 #[test]

@@ -13,6 +13,9 @@ use std::thread;
 
 const VARIABLE: &str = "MULKAVESH_PROGRAM";
 
+/// What the program tells where the input is no module.
+const INVALID: &str = "walrus-gc: The input WebAssembly is invalid\n";
+
 /// Of larger modules no mutants are made.
 const MOST_BYTES_OF_A_MUTANT: usize = 3_000;
 
@@ -72,12 +75,12 @@ fn run(program: &Path, words: &[&str], input: &[u8]) -> Output {
     })
 }
 
-/// What the library has to answer, by what the program did.
-fn wanted(output: Output) -> Result<Vec<u8>, Error> {
+/// What the library has to answer, by what the program did, and by the fault where it refuses.
+fn wanted(output: Output, fault: Option<Fault>) -> Result<Vec<u8>, Error> {
     let told = String::from_utf8(output.stderr).expect("a line of text");
     let refusal = match (output.status.code(), told.as_str()) {
         (Some(0), "") => return Ok(output.stdout),
-        (Some(1), "walrus-gc: The input WebAssembly is invalid\n") => Error::Invalid,
+        (Some(1), INVALID) => Error::Invalid(fault.expect("a fault")),
         (Some(1), "walrus-gc: a count or size passes 32 bits\n") => Error::TooLarge,
         (Some(1), "walrus-gc: out of memory\n") => Error::NoMemory,
         other => panic!("the program ended with {other:?}"),
@@ -94,8 +97,8 @@ fn difference(found: &[u8], wanted: &[u8]) -> String {
 }
 
 /// Compares an answer with what the program did.
-fn compare(found: Result<Vec<u8>, Error>, output: Output, what: &str) {
-    match (found, wanted(output)) {
+fn compare(found: Result<Vec<u8>, Error>, output: Output, fault: Option<Fault>, what: &str) {
+    match (found, wanted(output, fault)) {
         (Ok(found), Ok(wanted)) => {
             assert!(found == wanted, "{what}: {}", difference(&found, &wanted))
         }
@@ -103,11 +106,12 @@ fn compare(found: Result<Vec<u8>, Error>, output: Output, what: &str) {
     }
 }
 
-/// Nothing is wrong exactly where the program accepts the input.
-fn compare_faults(fault: Result<Option<Fault>, Error>, output: &Output, what: &str) {
-    let accepted = output.stderr != b"walrus-gc: The input WebAssembly is invalid\n";
-    let fault = fault.expect("enough memory");
+/// What is wrong with the input: nothing, exactly where the program accepts it.
+fn fault_of(input: &[u8], flags: Flags, output: &Output, what: &str) -> Option<Fault> {
+    let accepted = output.stderr != INVALID.as_bytes();
+    let fault = diagnose(input, flags).expect("enough memory");
     assert_eq!(fault.is_none(), accepted, "{what}: {fault:?}");
+    fault
 }
 
 /// Compares the calls under these flags.
@@ -115,11 +119,11 @@ fn compare_all(program: &Path, input: &[u8], flags: Flags, what: &str) {
     let mut words = words(flags);
     let what = format!("{what} {words:?}");
     let output = run(program, &words, input);
-    compare_faults(diagnose(input, flags), &output, &what);
-    compare(gc(input, flags), output, &what);
+    let fault = fault_of(input, flags, &output, &what);
+    compare(gc(input, flags), output, fault, &what);
     words.push("--report");
     let lines = report(input, flags).map(String::into_bytes);
-    compare(lines, run(program, &words, input), &what);
+    compare(lines, run(program, &words, input), fault, &what);
 }
 
 #[test]

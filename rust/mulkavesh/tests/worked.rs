@@ -1,6 +1,6 @@
 //! Each call on small modules, whose bytes were worked out by hand.
 
-use mulkavesh::{gc, list, report, snip, strip, stub, version, why, Error, Flags, Listed};
+use mulkavesh::{gc, list, report, snip, strip, stub, version, why, Error, Fault, Flags, Listed};
 
 /// The bytes that the text says.
 fn bytes(text: &str) -> Vec<u8> {
@@ -99,9 +99,11 @@ fn flags_are_heard() {
         no_legacy: true,
         ..ALL
     };
-    assert_eq!(gc(&module, new), Err(Error::Invalid));
-    assert_eq!(report(&module, new), Err(Error::Invalid));
-    assert_eq!(list(&module, new), Err(Error::Invalid));
+    let invalid = Error::Invalid(Fault::Body(0));
+    assert_eq!(gc(&module, new), Err(invalid));
+    assert_eq!(report(&module, new), Err(invalid));
+    assert_eq!(list(&module, new), Err(invalid));
+    assert_eq!(strip(&module, new, "a"), Err(invalid));
 }
 
 // ---- strip
@@ -209,10 +211,19 @@ fn refusals(input: &[u8]) -> [Option<Error>; 7] {
 #[test]
 fn other_bytes_are_invalid() {
     let module = bytes(TWO);
+    // The section of code, which begins ten bytes from the end, is cut.
     let cut = &module[..module.len() - 1];
-    let inputs: [&[u8]; 5] = [b"", b"\0asm", b"\0asm\x02\0\0\0", b"no module at all", cut];
-    for input in inputs {
-        assert_eq!(refusals(input), [Some(Error::Invalid); 7], "for {input:?}");
+    let section = Fault::Section(module.len() as u32 - 10);
+    let inputs: [(&[u8], Fault); 5] = [
+        (b"", Fault::Header),
+        (b"\0asm", Fault::Header),
+        (b"\0asm\x02\0\0\0", Fault::Header),
+        (b"no module at all", Fault::Header),
+        (cut, section),
+    ];
+    for (input, fault) in inputs {
+        let invalid = Some(Error::Invalid(fault));
+        assert_eq!(refusals(input), [invalid; 7], "for {input:?}");
     }
 }
 
