@@ -302,6 +302,10 @@ def faults():
             yield not flags & 4, KINDS[kind], number, bytes.fromhex(data), re.sub(r" \(0x[0-9A-F]+\)", "", words)
 
 
+# The names of the rules, by their numbers in docs/FORMATS.md.
+RULES = {int(number): name for name, number in re.findall(r"^\| 3 `(\w+)` \| (\d+) \|", (TOP / "docs" / "FORMATS.md").read_text(), re.M)}
+
+
 def try_check(work):
     same("check", run("check", data=TWO), (0, b"accepted\n", ""))
     same("check of legacy exceptions", run("check", data=LEGACY)[:2], (0, b"accepted\n"))
@@ -312,7 +316,7 @@ def try_check(work):
         told = (1, f"{words}\n".encode(), refused) if kind else (0, b"accepted\n", "")
         same(f"check of {data.hex()}", run("check", *flags, data=data), told)
         status, text, said = run("check", "--json", *flags, data=data)
-        where = {"section": {"place": number}, "body": {"index": number}}.get(kind, {})
+        where = {"section": {"place": number}, "body": {"index": number}, "rule": {"rule": RULES.get(number)}}.get(kind, {})
         wanted = {"accepted": False, "reason": words, "kind": kind, **where} if kind else {"accepted": True}
         same(f"check --json of {data.hex()}", (status, json.loads(text), said), (told[0], wanted, told[2]))
     out = work / "verdict"

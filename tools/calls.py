@@ -1,13 +1,17 @@
 #!/usr/bin/env python3
 """Prints the public calls of a crate; and makes docs/CALLS.md, those of the crate `walrus` in a line each, which `tools/form.py` compares.
 
-    tools/calls.py CRATE    prints the public calls of a crate of crates.txt, with the text of their clauses
+    tools/calls.py CRATE    prints the public calls of a crate of crates.txt, with the text of their clauses, and the records that these name
     tools/calls.py          prints docs/CALLS.md
     tools/calls.py --write  writes it
 
 Of a crate are printed, file by file and as they stand there: the public functions, those of public types and of public traits, and laws, each
 with its comment, its signature and its clauses. Of a program these are the functions that its modules hand on (`pub(crate)` too) and that have a
 clause. What a crate hands on of others stands with those. A name that isn't in crates.txt is refused in a line, with status 2.
+
+Where a clause has no name and begins with a word of specs, the page says the word, and the fields of the records that it comes to (clauses.py): those
+of what holds, and behind `refused:` those of what holds of a refusal. Of a crate, such a word and its records are printed below the call as they
+stand, with the records that their fields are: each once.
 
 A call of the page is a public function of what `crates/walrus/src/lib.rt` hands on, of its public modules and of the types there, followed down the
 `pub use` lines to where it stands; and of types that have no name there but come from such a call. The sources are taken apart with
@@ -20,16 +24,23 @@ import re
 import sys
 import textwrap
 
+sys.dont_write_bytecode = True
+import clauses
+from specs import uses_of_source
+from specs import whole as whole_definitions
+
 TOP = pathlib.Path(__file__).resolve().parent.parent
 CRATES = TOP / "crates"
 PAGE = TOP / "docs" / "CALLS.md"
 HEAD = """# The calls of `walrus`
 
 Made by `tools/calls.py --write` from the sources: each public call with its signature, the first sentence of what its source says of it, in words
-what it asks of its caller, and the names of the clauses that it ensures, where they have names. docs/PROMISES.md has what the main ones say,
-docs/DEFINITIONS.md the words in them. A type stands once, where it is first handed on, or behind what names it where it has no name there
-(unnamed). Public fields stand in front of a type's calls (`.name`), cases of an enum behind `|`. Names of traits stand for the calls that they bring.
-What callers need first stands first; what lies below a module stands in front of the laws, which end the page.
+what it asks of its caller, and the names of the clauses that it ensures, where they have names. Where a clause has none and is a word of `specs`, the
+word stands for it, with the fields of its record, if it has one, and behind `refused:` what holds of a refusal. `tools/calls.py CRATE` prints clauses
+and fields. docs/PROMISES.md has what the main ones say, docs/DEFINITIONS.md the words in them. A type stands once, where it is first handed on, or
+behind what names it where it has no name there (unnamed). Public fields stand in front of a type's calls (`.name`), cases of an enum behind `|`. Names
+of traits stand for the calls that they bring. What callers need first stands first; what lies below a module stands in front of the laws, which end
+the page.
 """
 # The parts of what `walrus` itself hands on, by the crates in which it stands.
 GROUPS = {
@@ -184,13 +195,35 @@ def in_words(clause):
     raise SystemExit(f"tools/calls.py: ASKED has no words for the clause {clause}")
 
 
-class Call:
-    """A function: its signature, the first sentence on it, and the names of its clauses."""
+ENSURES = re.compile(r"^\s*ensures\*? (?:(\w+) )?\{(.*?)\}\s*(?=^\s*(?:ensures|requires)\b|\Z)", re.M | re.S)
 
-    def __init__(self, text, head):
-        end = re.compile(rf"^{head[1]}(?=\{{)|(?=\{{$)|(?=;$)", re.M).search(text, head.end()).end()
+
+def fields_of(case):
+    """What a word comes to: the names of the fields of a record, or another word."""
+    return ", ".join(case.found.members()) if clauses.is_record(case.found) else f"`{case.found.name}`"
+
+
+def told_of_word(word, cases):
+    """A word that stands for a clause, and the fields of its records, if it comes to some."""
+    if not any(clauses.is_record(it.found) for it in cases):
+        return f"`{word.name}`"
+    held, refused = ("; ".join(fields_of(it) for it in cases if it.refused == which) for which in (False, True))
+    return f"`{word.name}`: {'; '.join(filter(None, (held, refused and f'refused: {refused}')))}"
+
+
+def ensured_in(text, path):
+    """Each clause that a function of this file ensures: its name; and where it has none, its word and what that comes to, if it is one."""
+    for name, clause in ENSURES.findall(text):
+        yield name, None if name else clauses.cases_of_text(clause, uses_of_source(path))
+
+
+class Call:
+    """A function: its signature, the first sentence on it, and its clauses."""
+
+    def __init__(self, text, head, path):
+        end = end_of_head(text, head.end())
         rest = text[head.start():end]
-        self.ensured = re.findall(r"^\s*ensures\*? (\w*) ?\{", rest, re.M)
+        self.ensured = [told_of_word(*word) if word else name for name, word in ensured_in(rest, path)]
         self.asked = [" ".join(it.split()) for it in re.findall(r"^\s*requires\*? (?:\w+ )?\{(.*?)\}\s*(?=^\s*(?:ensures|requires)\b|\Z)", rest, re.M | re.S)]
         line = " ".join(re.split(r"^\s*(?:requires|ensures)\b", rest, maxsplit=1, flags=re.M)[0].split())
         self.signature = line.removeprefix("pub ").removeprefix("fn ").replace("( ", "(").replace(", )", ")").rstrip(" ,")
@@ -203,10 +236,10 @@ class Call:
         return f"- `{self.signature}` {self.said}" + (f" *{'; '.join(clauses)}*" if clauses else "")
 
 
-def calls_in(text, is_trait=False):
+def calls_in(text, path, is_trait=False):
     for head in FUNCTION.finditer(text):
         if head[2] or is_trait:
-            yield Call(text, head)
+            yield Call(text, head, path)
 
 
 @functools.cache
@@ -272,7 +305,8 @@ class Page:
         text, at, mine = whole(place)
         target = re.search(r"= (.*);", mine)[1] if kind == "type" else name
         blocks = [it for it in impls() if (it[4] == target if kind == "type" else find(it[0], it[1], it[5]) == place)]
-        own = [it for it in blocks if it[3] is None and any(calls_in(it[6])) and (kind == "type" or "<" not in it[4] or "impl<" in it[2])]
+        inherent = [it for it in blocks if it[3] is None and (kind == "type" or "<" not in it[4] or "impl<" in it[2])]
+        own = [it for it in inherent if any(calls_in(it[6], file_of(it[0], it[1])))]
         self.reach("\n".join(re.findall(r"^pub type.*|^    pub \w+:.*|^    \w+\(.*", mine, re.M)), crate, module)
         unnamed = "" if place in self.named else " (unnamed)"
         traits = traits_of(place, blocks, self.named)
@@ -286,12 +320,12 @@ class Page:
             self.plain.append(f"- `{shown}`{unnamed}: {traits}")
         self.lines += parts
         if kind == "trait":
-            self.add_calls(calls_in(mine, True), crate, module)
+            self.add_calls(calls_in(mine, file_of(crate, module), True), crate, module)
         heads = [it[2] for it in own]
         for block, before in zip(own, [None, *heads]):
             if len({*heads}) > 1 and block[2] != before:
                 self.lines.append(f"\n{told_of(block)}\n")
-            self.add_calls(calls_in(block[6]), block[0], block[1], f"{shown}::")
+            self.add_calls(calls_in(block[6], file_of(block[0], block[1])), block[0], block[1], f"{shown}::")
 
     def add(self, shown, place):
         if place is None or place in self.seen:
@@ -300,8 +334,9 @@ class Page:
         if place[2] != "fn":
             self.add_type(shown, place)
             return
-        text = source(file_of(place[0], place[1]))
-        call = Call(text, next(it for it in FUNCTION.finditer(text) if it[2] and it[3] == place[3]))
+        path = file_of(place[0], place[1])
+        text = source(path)
+        call = Call(text, next(it for it in FUNCTION.finditer(text) if it[2] and it[3] == place[3]), path)
         call.signature = call.signature.replace(place[3], shown, 1)
         self.add_calls([call], place[0], place[1])
 
@@ -443,14 +478,33 @@ def as_it_stands(text, head):
     return "\n".join([*said, text[head.start():end].rstrip(), *([head[1] + "{}"] if text.startswith("{}", end) else [])])
 
 
+def needed(records):
+    """What a reader needs of the records that a word comes to: these, the word and those between, and the records that fields are."""
+    for case in records:
+        yield from (*case.through, case.found, *clauses.records_of_fields(case.found))
+
+
+def fields_below(text, path, told):
+    """The words of a function's clauses as they stand in specs, file by file, with their records, but for those that were told."""
+    for _, opened in ensured_in(text, path):
+        records = [it for it in opened[1] if clauses.is_record(it.found)] if opened else []
+        yield from (f"the fields of {it.found.name}: see above" for it in records if it.found in told)
+        fresh = [it for it in dict.fromkeys(needed(records)) if it not in told]
+        told.update(fresh)
+        for file in dict.fromkeys(it.file for it in fresh):
+            those = sorted((it for it in fresh if it.file is file), key=lambda it: it.number)
+            yield f"{', '.join(it.name for it in those)} ({file.title()}):"
+            yield from ("    " + line if line else "" for line in whole_definitions(those))
+
+
 def head_of_block(text, block):
     """What begins a block of methods; of a trait with its ghost members, since its clauses name them."""
     inner = text[block.end():text.index("\n}", block.end())]
     return "\n\n".join([block[1], *re.findall(r"^    ghost \w+:[^;]*;", inner, re.M)])
 
 
-def handed_by(path, hidden, is_program):
-    """The functions that a file hands on, as they stand, and the heads of blocks of methods in front of theirs."""
+def handed_by(path, hidden, is_program, told):
+    """The functions that a file hands on, as they stand, with the fields below; and the heads of blocks of methods in front of theirs."""
     text, last = source(path), None
     blocks = list(BLOCK.finditer(text))
     for head in HANDED.finditer(text):
@@ -464,7 +518,8 @@ def handed_by(path, hidden, is_program):
         if block and block is not last:
             yield head_of_block(text, block)
         last = block
-        yield shown
+        fields = fields_below(text[head.start():end_of_head(text, head.end())], path, told)
+        yield "\n".join([shown, *(head[1] + " " * 8 + line if line else "" for line in fields)])
 
 
 def calls_of(crate):
@@ -474,9 +529,10 @@ def calls_of(crate):
     which = f"functions of the program `{crate}` that its modules hand on and that have a clause" if is_program else f"public calls of `{crate}`"
     lines = [f"# The {which}, as they stand in its sources\n",
              "What stands behind `requires` is the caller's to show, and what stands behind `ensures` is proved. docs/DEFINITIONS.md leads through the words.",
-             "A call that ends with `{}` is a law: it does nothing, and its clauses are statements. What is handed on of other crates stands with those."]
-    hidden = hidden_types(paths)
-    parts = [(path, list(handed_by(path, hidden, is_program))) for path in paths]
+             "A call that ends with `{}` is a law: it does nothing, and its clauses are statements. What is handed on of other crates stands with those.",
+             "Below a call stand the words of its clauses that come to records, with these: as they stand in specs, once."]
+    hidden, told = hidden_types(paths), set()
+    parts = [(path, list(handed_by(path, hidden, is_program, told))) for path in paths]
     lines += [it for path, found in parts if found for it in (f"\n## {path.relative_to(TOP)}", *(f"\n{it}" for it in found))]
     return "\n".join(lines if any(found for _, found in parts) else [*lines, "\nThere are none."]) + "\n"
 

@@ -3,14 +3,15 @@
 
     tools/form.py           prints what is wrong, a line each, and ends with status 1 where there is any
 
-Refused are: a file of src that doesn't begin with `//!`, or has more than 800 lines; a line of a clause of more than 110 columns;
-a body of a function of more than 40 lines; a bare hexadecimal number in src or specs outside the files that name such numbers; a
-README.md of more than 112 lines, or with one of more than 100 columns; documents of too many words or with too many long sentences, and
-a link or a path in one that isn't there (prose.py); a crate that crates.txt lists for another one whose files don't name it; more ways
-down the crates than rt can sum up in a few minutes; more lines of lemmas above the crate that has their words; more wrong edits in the
-gate than its time allows; a wrong edit, of the gate or of tests/edits, whose old text doesn't stand exactly once in its file; a page
-docs/CALLS.md that isn't what tools/calls.py makes of the sources; a name that docs/DIFFERENCES.md calls absent and that is there; and a
-file that isn't in the layout of `rt fmt`.
+Refused are: a file of src that doesn't begin with `//!`, or has more than 800 lines; a line of a clause of more than 110 columns; a
+function with more than 12 lines of clauses in the crates that users meet, or 16 elsewhere; a body of a function of more than 40 lines; a
+bare hexadecimal number in src or specs outside the files that name such numbers; a README.md of more than 112 lines, or with one of more
+than 100 columns; documents of too many words or with too many long sentences, and a link or a path in one that isn't there (prose.py); a
+crate that crates.txt lists for another one whose files don't name it; more ways down the crates than rt can sum up in a few minutes; more
+lines of lemmas above the crate that has their words; more wrong edits in the gate than its time allows; a wrong edit, of the gate or of
+tests/edits, whose old text doesn't stand exactly once in its file; a page docs/CALLS.md or docs/THEOREM.md that isn't what tools/calls.py
+or tools/theorem.py makes of the sources; a definition of the latter without a comment; a name that docs/DIFFERENCES.md calls absent and
+that is there; and a file that isn't in the layout of `rt fmt`.
 """
 import collections
 import concurrent.futures
@@ -22,6 +23,7 @@ import subprocess
 import sys
 
 sys.dont_write_bytecode = True
+import theorem
 from prose import wrong_in_documents
 
 TOP = pathlib.Path(__file__).resolve().parent.parent
@@ -30,6 +32,10 @@ CRATES = TOP / "crates"
 MOST_LINES_OF_A_FILE = 800
 MOST_LINES_OF_A_BODY = 40
 WIDEST_CLAUSE = 110
+MOST_LINES_OF_CLAUSES = 16
+# The crates whose contracts users read, and which have to be shorter.
+CRATES_OF_USERS = ("walrus", "walrus_module", "walrus_plan", "walrus_tools", "mulkavesh")
+MOST_LINES_OF_CLAUSES_OF_USERS = 12
 MOST_LINES_OF_THE_README = 112
 MOST_COLUMNS_OF_THE_README = 100
 # Ways down the crates, from each crate to each that it lists, and on from there.
@@ -103,6 +109,23 @@ def wrong_in_clauses():
         for number, line in lines_of_clauses(lines_of(path)):
             if len(line) > WIDEST_CLAUSE:
                 yield f"{name_of(path)}:{number}: {len(line)} columns of a clause, more than {WIDEST_CLAUSE}"
+
+
+def clauses_of_functions(lines):
+    """The number of the line, the name, and the count of lines of clauses, of each function: up to the head of the next one."""
+    heads = [(number, head[1]) for number, line in enumerate(lines, 1)
+             if (head := re.match(r'\s*(?:pub(?:\([a-z]+\))? )?(?:const |unsafe )*(?:extern "C" )?fn (\w+)', line))]
+    numbers = [number for number, _ in lines_of_clauses(lines)]
+    for (number, name), (end, _) in zip(heads, [*heads[1:], (len(lines) + 1, "")]):
+        yield number, name, sum(number <= it < end for it in numbers)
+
+
+def wrong_in_counts_of_clauses():
+    for path in sources():
+        most = MOST_LINES_OF_CLAUSES_OF_USERS if path.relative_to(CRATES).parts[0] in CRATES_OF_USERS else MOST_LINES_OF_CLAUSES
+        for number, name, count in clauses_of_functions(lines_of(path)):
+            if count > most:
+                yield f"{name_of(path)}:{number}: {name} has {count} lines of clauses, more than {most}"
 
 
 def bodies(lines):
@@ -270,6 +293,16 @@ def wrong_in_pages():
         yield "docs/CALLS.md isn't what tools/calls.py prints: tools/calls.py --write writes it anew"
 
 
+def wrong_in_theorem():
+    """A page of the main theorem that the sources have left behind, and definitions of it without a comment."""
+    try:
+        if not theorem.PAGE.is_file() or theorem.page() != theorem.PAGE.read_text(encoding="utf-8"):
+            yield "docs/THEOREM.md isn't what tools/theorem.py prints: tools/theorem.py --write writes it anew"
+        yield from theorem.without_comment()
+    except SystemExit as why:
+        yield str(why)
+
+
 def absent_names():
     """The names of the first column of the table "Absent by name": `name`, `Type::call`, `Type.field`, and `Type: Debug`."""
     table = (TOP / "docs" / "DIFFERENCES.md").read_text(encoding="utf-8").partition("\n## Absent by name\n")[2]
@@ -322,8 +355,9 @@ def wrong_in_layout():
 
 def main():
     checks = (
-        wrong_in_sources, wrong_in_clauses, wrong_in_bodies, wrong_in_numbers, wrong_in_readme, wrong_in_crates, wrong_in_ways, wrong_in_lemmas, wrong_in_gate,
-        wrong_in_edits, wrong_in_pages, wrong_in_documents, wrong_in_differences, wrong_in_layout)
+        wrong_in_sources, wrong_in_clauses, wrong_in_counts_of_clauses, wrong_in_bodies, wrong_in_numbers, wrong_in_readme, wrong_in_crates,
+        wrong_in_ways, wrong_in_lemmas, wrong_in_gate, wrong_in_edits, wrong_in_pages, wrong_in_theorem, wrong_in_documents,
+        wrong_in_differences, wrong_in_layout)
     wrong = [line for check in checks for line in check()]
     for line in wrong:
         print(line)

@@ -1,20 +1,20 @@
 -- What is told of an order that was refused.
 use Rattle.std.proofs.Common.{◌≡◌, ℕ, Bool, true, false, List, sym, subst}
-use Rattle.std.specs.Prelude.{Option, Err}
-use Rattle.walrus_tools.specs.Handed.{Error, Module, Read, ToolError}
+use Rattle.std.specs.Prelude.{Err}
+use Rattle.walrus_tools.specs.Handed.{Error, Module, Read, Stream, ToolError}
 use Rattle.mulkavesh.specs.declared.order.Work.{Work}
-use Rattle.mulkavesh.specs.Command.{TellsResult, TellsLine, TellsMade, Words, refusal_text, refused_text}
+use Rattle.mulkavesh.specs.Command.{Device, TellsResult, TellsLine, TellsMade, refusal_text, refused_text}
 
-module _ (w : Work) (from to : Words) (status : ℕ) (old new : Option (List ℕ)) (failures_old failures_new : ℕ) where
+module _ (w : Work) (from to : Device) (errors : Stream) (status : ℕ) where
   abbrev pub Line : List ℕ → Type 0
-  Line text = TellsLine w from to status old new failures_old failures_new from.name text
+  Line text = TellsLine w from to errors status from.name text
 
-  pub tells_refused : (is_refused : Bool) (note : List ℕ) → is_refused ≡ true → Line refused_text → TellsMade w from to status old new failures_old failures_new is_refused note
+  pub tells_refused : (is_refused : Bool) (note : List ℕ) → is_refused ≡ true → Line refused_text → TellsMade w from to errors status is_refused note
   tells_refused true note is told = told
   tells_refused false note is told = absurd (cc)
 
-  pub tells_read : (e : ToolError) → e ≡ Read → Line from.trouble → TellsResult w from to status old new failures_old failures_new (Err e)
-  tells_read e is told = subst (λ (f : ToolError). TellsResult w from to status old new failures_old failures_new (Err f)) (sym is) told
+  pub tells_read : (e : ToolError) → e ≡ Read → Line from.trouble → TellsResult w from to errors status (Err e)
+  tells_read e is told = subst (λ (f : ToolError). TellsResult w from to errors status (Err f)) (sym is) told
 
-  pub tells_module : (e : ToolError) (m : Error) → e ≡ Module m → Line (refusal_text w m) → TellsResult w from to status old new failures_old failures_new (Err e)
-  tells_module e m is told = subst (λ (f : ToolError). TellsResult w from to status old new failures_old failures_new (Err f)) (sym is) told
+  pub tells_module : (e : ToolError) (m : Error) → e ≡ Module m → Line (refusal_text w m) → TellsResult w from to errors status (Err e)
+  tells_module e m is told = subst (λ (f : ToolError). TellsResult w from to errors status (Err f)) (sym is) told

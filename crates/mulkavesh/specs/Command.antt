@@ -1,7 +1,7 @@
 -- What one order comes to, for all that was read and all that was written, and what is told of it.
 use Rattle.std.specs.Prelude.{ℕ, Bool, true, false, List, Option, Result, Ok, Err, OnOk, codes, ◌≡◌, ⊤}
 use Rattle.std.specs.Io.KnownBytes.{Appends, Keeps}
-use Rattle.walrus_tools.specs.Handed.{CountsReads, CountsWrites, Error, InvalidWasm, Memory, Module, NotFound, NotReplaceable, Read, ReadsWhole, Tells, ToolError, Write, WroteFront, error_text}
+use Rattle.walrus_tools.specs.Handed.{CountsReads, CountsWrites, Error, InvalidWasm, IsUntouched, Memory, Module, NotFound, NotReplaceable, Read, ReadsWhole, Stream, Tells, ToolError, Write, WroteFront, error_text, stream_of}
 use Rattle.mulkavesh.specs.declared.made.Made.{Made}
 use Rattle.mulkavesh.specs.declared.order.Work.{Work}
 use Rattle.mulkavesh.specs.declared.order.Work.TheVariants as work
@@ -49,51 +49,62 @@ refusal_text w NotFound = absent_text w
 refusal_text w NotReplaceable = codes "this function is imported, or exported before under another name"
 refusal_text w e = error_text e
 
--- the words of a source or a sink: its name, why its last call failed, and whether its reader went away
-pub record Words : Type 0 where
+-- a source or a sink: its stream, its name, why its last call failed, and whether its reader went away
+pub record Device : Type 0 where
+  pub stream : Stream
   pub name : List ℕ
   pub trouble : List ℕ
   pub is_left : Bool
 
--- nothing is said
-abbrev pub IsSilent : (old new : Option (List ℕ)) → (failures_old failures_new : ℕ) → Type 0
-IsSilent old new failures_old failures_new = Keeps old new × (failures_new ≡ failures_old)
+-- what its state says of that, before a call and behind it
+abbrev pub device_of : {A : Type 0} → (bytes : A → Option (List ℕ)) → (failures : A → ℕ) → (name trouble : A → List ℕ) → (is_left : A → Bool)
+    → (before behind : A) → Device
+device_of bytes failures name trouble is_left before behind = record {
+  stream = stream_of bytes failures before behind;
+  name = name behind;
+  trouble = trouble behind;
+  is_left = is_left behind;
+}
 
--- the sink failed: nothing is said where its reader went away, and else the line says why
-abbrev pub TellsUnlessLeft : (is_left : Bool) → (text : List ℕ) → (old new : Option (List ℕ)) → (failures_old failures_new : ℕ) → Type 0
-TellsUnlessLeft true text old new failures_old failures_new = IsSilent old new failures_old failures_new
-TellsUnlessLeft false text old new failures_old failures_new = Tells old new failures_old failures_new text
+-- nothing is said where the sink's reader went away, and else this text
+abbrev pub TellsUnlessLeft : (is_left : Bool) → (text : List ℕ) → (errors : Stream) → Type 0
+TellsUnlessLeft true text errors = IsUntouched errors
+TellsUnlessLeft false text errors = Tells errors text
 
-abbrev pub TellsUnwritten : Words → (old new : Option (List ℕ)) → (failures_old failures_new : ℕ) → Type 0
+-- what is said where the sink failed
+abbrev pub TellsUnwritten : Device → (errors : Stream) → Type 0
 TellsUnwritten to = TellsUnlessLeft to.is_left (line to.name to.trouble)
 
 -- what came of an order, as the program tells it: the status, and on the error stream a note, or the refusal in a line
-module _ (w : Work) (from to : Words) (status : ℕ) (old new : Option (List ℕ)) (failures_old failures_new : ℕ) where
+module _ (w : Work) (from to : Device) (errors : Stream) (status : ℕ) where
+  -- the status is 1, and a line says this text of this name
   abbrev pub TellsLine : List ℕ → List ℕ → Type 0
-  TellsLine name text = (status ≡ 1) × Tells old new failures_old failures_new (line name text)
+  TellsLine name text = (status ≡ 1) × Tells errors (line name text)
 
   -- a module that isn't accepted is a refusal
   abbrev pub TellsMade : (is_refused : Bool) → (note : List ℕ) → Type 0
   TellsMade true note = TellsLine from.name refused_text
-  TellsMade false note = (status ≡ 0) × Tells old new failures_old failures_new note
+  TellsMade false note = (status ≡ 0) × Tells errors note
 
+  -- what comes of each answer
   abbrev pub TellsResult : Result Made ToolError → Type 0
   TellsResult (Ok made) = TellsMade made.is_refused made.note.items
   TellsResult (Err Read) = TellsLine from.name from.trouble
-  TellsResult (Err Write) = (status ≡ 1) × TellsUnwritten to old new failures_old failures_new
+  TellsResult (Err Write) = (status ≡ 1) × TellsUnwritten to errors
   TellsResult (Err (Module e)) = TellsLine from.name (refusal_text w e)
 
 -- The order was carried out or refused; its two devices counted the failure of which it answers and no other; what was written whole is flushed, also
 -- where it says that a module isn't accepted; and its answer was told.
-pub record RunsAndTells (Answers : List ℕ → Result Made Error → Type 0) (w : Work) (from_old from_new to_old to_new : Option (List ℕ)) (is_flushed : Bool) (reads_old reads_new writes_old writes_new : ℕ) (from to : Words) (status : ℕ) (old new : Option (List ℕ)) (failures_old failures_new : ℕ) : Type 0 where
+pub record RunsAndTells (Answers : List ℕ → Result Made Error → Type 0) (w : Work) (from to : Device) (errors : Stream) (status : ℕ)
+    (is_flushed : Bool) : Type 0 where
   pub answer : Result Made ToolError
-  pub ran : Carries Answers from_old from_new to_old to_new answer
-  pub reads : CountsReads reads_old reads_new answer
-  pub writes : CountsWrites writes_old writes_new answer
+  pub ran : Carries Answers from.stream.old from.stream.new to.stream.old to.stream.new answer
+  pub reads : CountsReads from.stream.failures_old from.stream.failures_new answer
+  pub writes : CountsWrites to.stream.failures_old to.stream.failures_new answer
   pub flushed : OnOk answer (is_flushed ≡ true)
-  pub told : TellsResult w from to status old new failures_old failures_new answer
+  pub told : TellsResult w from to errors status answer
 
--- a text was written and the status is 0; or the sink failed, which it counted, and a beginning of the text was written
-pub data Prints (text : List ℕ) (to_old to_new : Option (List ℕ)) (to : Words) (status : ℕ) (old new : Option (List ℕ)) (failures_old failures_new : ℕ) : Type 0 where
-  said : status ≡ 0 → Appends to_old to_new text → IsSilent old new failures_old failures_new → Prints text to_old to_new to status old new failures_old failures_new
-  failed : status ≡ 1 → WroteFront to_old to_new text → TellsUnwritten to old new failures_old failures_new → Prints text to_old to_new to status old new failures_old failures_new
+-- a text was written and the status is 0; or the sink failed, and a beginning of the text was written
+pub data Prints (text : List ℕ) (to : Device) (errors : Stream) (status : ℕ) : Type 0 where
+  said : status ≡ 0 → Appends to.stream.old to.stream.new text → IsUntouched errors → Prints text to errors status
+  failed : status ≡ 1 → WroteFront to.stream.old to.stream.new text → TellsUnwritten to errors → Prints text to errors status

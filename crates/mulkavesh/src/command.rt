@@ -1,9 +1,10 @@
 //! One order from its source to its sink, and what is told of it.
 
 ghost use Rattle.std.specs.Prelude.{◌≡◌, OnOk, true};
-ghost use Rattle.mulkavesh.specs.Command.{Carries, RunsAndTells, Prints, TellsUnwritten, absent_text, refusal_text};
+ghost use Rattle.mulkavesh.specs.Command.{Carries, RunsAndTells, Prints, TellsUnlessLeft, absent_text, device_of, refusal_text};
 ghost use Rattle.mulkavesh.specs.Made.{AnswersOrder};
-ghost use Rattle.walrus_tools.specs.Handed.{CountsReads, CountsWrites};
+ghost use Rattle.mulkavesh.specs.Message.{line};
+ghost use Rattle.walrus_tools.specs.Handed.{CountsReads, CountsWrites, stream_of};
 
 use crate::explains::Explains;
 use crate::made::{Made, make};
@@ -70,10 +71,9 @@ fn absent(work: Work) -> &'static str
 
 /// Writes a text to the sink, and answers the status: 0, or 1 where that failed, which is told unless its reader went away.
 pub(crate) fn say<W: Sink + Explains, E: Sink>(output: &mut W, errors: &mut E, text: &str) -> u8
-    ensures { Prints text.now (W.held output.old) (W.held output.new)
-        (record { name = W.name output.new; trouble = W.trouble output.new; is_left = W.is_left output.new })
-        result (E.held errors.old) (E.held errors.new) (E.write_failures errors.old)
-        (E.write_failures errors.new) }
+    ensures { Prints text.now
+        (device_of W.held W.write_failures W.name W.trouble W.is_left output.old output.new)
+        (stream_of E.held E.write_failures errors.old errors.new) result }
 {
     match write_all(output, text.as_bytes()) {
         Ok(()) => 0,
@@ -84,10 +84,8 @@ pub(crate) fn say<W: Sink + Explains, E: Sink>(output: &mut W, errors: &mut E, t
 // Tells that the sink failed, unless its reader went away.
 fn unwritten<W: Explains, E: Sink>(output: &W, errors: &mut E) -> u8
     ensures status { result ≡ 1 }
-    ensures told { TellsUnwritten
-        (record { name = W.name output.now; trouble = W.trouble output.now; is_left = W.is_left output.now })
-        (E.held errors.old) (E.held errors.new) (E.write_failures errors.old)
-        (E.write_failures errors.new) }
+    ensures told { TellsUnlessLeft (W.is_left output.now) (line (W.name output.now) (W.trouble output.now))
+        (stream_of E.held E.write_failures errors.old errors.new) }
 {
     if output.is_left() {
         return 1;
@@ -106,13 +104,9 @@ pub(crate) fn command<R: Source + Explains, W: Sink + Explains, E: Sink>(
     errors: &mut E,
 ) -> u8
     ensures runs { RunsAndTells (AnswersOrder order.now) order.now.work
-        (R.left input.old) (R.left input.new) (W.held output.old) (W.held output.new)
-        (W.is_flushed output.new) (R.read_failures input.old) (R.read_failures input.new)
-        (W.write_failures output.old) (W.write_failures output.new)
-        (record { name = R.name input.new; trouble = R.trouble input.new; is_left = R.is_left input.new })
-        (record { name = W.name output.new; trouble = W.trouble output.new; is_left = W.is_left output.new })
-        result (E.held errors.old) (E.held errors.new) (E.write_failures errors.old)
-        (E.write_failures errors.new) }
+        (device_of R.left R.read_failures R.name R.trouble R.is_left input.old input.new)
+        (device_of W.held W.write_failures W.name W.trouble W.is_left output.old output.new)
+        (stream_of E.held E.write_failures errors.old errors.new) result (W.is_flushed output.new) }
     ensures flushed { result ≡ 0 → W.is_flushed output.new ≡ true }
 {
     match carry(alloc, order, input, output) {

@@ -4,7 +4,7 @@ ghost use Rattle.std.specs.Prelude.{◌≡◌, OnErr, OnOk};
 ghost use Rattle.std.specs.Io.KnownBytes.{Appends};
 ghost use Rattle.mulkavesh.specs.Message.{line};
 ghost use Rattle.mulkavesh.specs.Shown.{shown};
-ghost use Rattle.walrus_tools.specs.Handed.{Counts, Tells, WroteFront};
+ghost use Rattle.walrus_tools.specs.Handed.{Counts, Tells, WroteFront, stream_of};
 
 use crate::shown::front_shown;
 use walrus_tools::{DeviceFailed, Sink, write_all};
@@ -42,8 +42,7 @@ fn write_line<E: Sink>(errors: &mut E, of: &str, text: &str) -> Result<(), Devic
 /// Tells of a refusal in one line, and answers the status of a refused run. Where the line can't be written, the status is the same.
 pub fn refuse<E: Sink>(errors: &mut E, of: &str, text: &str) -> u8
     ensures status { result ≡ 1 }
-    ensures told { Tells (E.held errors.old) (E.held errors.new) (E.write_failures errors.old)
-        (E.write_failures errors.new) (line of.now text.now) }
+    ensures told { Tells (stream_of E.held E.write_failures errors.old errors.new) (line of.now text.now) }
 {
     let _told = write_line(errors, of, text);
     1

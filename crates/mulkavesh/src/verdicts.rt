@@ -8,7 +8,7 @@ use crate::json::add_string;
 use crate::made::Made;
 use crate::order::Order;
 use std::alloc::{AllocError, Global};
-use walrus_tools::{Error, Fault, diagnose, fault_words};
+use walrus_tools::{BrokenRule, Error, Fault, diagnose, fault_words};
 
 /// What is said of bytes that aren't accepted.
 pub(crate) const REFUSED: &str = "the input WebAssembly is invalid";
@@ -63,7 +63,26 @@ fn place_of(alloc: Global, fault: Fault) -> Result<String, AllocError> {
     match fault {
         Fault::Header => String::from_str(alloc, ",\"kind\":\"header\""),
         Fault::Section(place) => format!(in alloc; ",\"kind\":\"section\",\"place\":{place}"),
-        Fault::Rule(_) => String::from_str(alloc, ",\"kind\":\"rule\""),
+        Fault::Rule(rule) => {
+            let name = rule_name(rule);
+            format!(in alloc; ",\"kind\":\"rule\",\"rule\":\"{name}\"")
+        }
         Fault::Body(index) => format!(in alloc; ",\"kind\":\"body\",\"index\":{index}"),
+    }
+}
+
+// The name of a rule, as docs/FORMATS.md lists them.
+fn rule_name(rule: BrokenRule) -> &'static str {
+    match rule {
+        BrokenRule::Order => "Order",
+        BrokenRule::Types => "Types",
+        BrokenRule::Indices => "Indices",
+        BrokenRule::FunctionTypes => "FunctionTypes",
+        BrokenRule::Limits => "Limits",
+        BrokenRule::Counts => "Counts",
+        BrokenRule::ExportNames => "ExportNames",
+        BrokenRule::Start => "Start",
+        BrokenRule::Offsets => "Offsets",
+        BrokenRule::Locals => "Locals",
     }
 }

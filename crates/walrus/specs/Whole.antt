@@ -13,12 +13,6 @@ use Rattle.walrus_module.specs.declared.entry.SectionEntry.{SectionEntry}
 use Rattle.walrus_module.specs.declared.module.Module.{Module}
 
 module _ {V : Type 0} {O : V → Type 0} (G : (v : V) → Ghosts (O v)) where
-  -- what a call of parsing says of the module that it answered: its clauses of these names
-  pub record Parses (f : Flags) (bytes : List ℕ) (m : Module (SectionEntry V O)) : Type 0 where
-    pub found : IsParsed (config_of f) bytes (view G m)
-    pub configured : settings m ≡ f
-    pub kept : KeepsRead bytes m
-
-  -- what was parsed, and is emitted as it is, comes whole
+  -- what was parsed, and is emitted as it is, comes whole: of `HoldsParsed` this takes what was found, how it is configured, and that custom sections are kept
   abbrev pub ParsedIsWritten : Type 0
-  ParsedIsWritten = (f : Flags) (bytes : List ℕ) (old new : Module (SectionEntry V O)) (output : Vec ℕ) → Parses f bytes old → EmitsBytes G old new (Ok output) → ComesWhole (config_of f) bytes output.items
+  ParsedIsWritten = (f : Flags) (bytes : List ℕ) (old new : Module (SectionEntry V O)) (output : Vec ℕ) → IsParsed (config_of f) bytes (view G old) → settings old ≡ f → KeepsRead bytes old → EmitsBytes G old new (Ok output) → ComesWhole (config_of f) bytes output.items

@@ -1,9 +1,8 @@
 //! The program as a function of its words and its three streams.
 
-ghost use Rattle.std.specs.Prelude.{◌≡◌, OnOk, codes, false, true};
-ghost use Rattle.std.specs.Io.KnownBytes.{Keeps};
-ghost use Rattle.walrus.specs.Command.{RunsAndTells, are_known, asks_for_report, is_known, flags_for, stands_in};
-ghost use Rattle.walrus.specs.Message.{Tells, line};
+ghost use Rattle.std.specs.Prelude.{◌≡◌, OnOk, true};
+ghost use Rattle.walrus.specs.Command.{RunsProgram, are_known, asks_for_report, is_known, flags_for, stands_in};
+ghost use Rattle.walrus.specs.Message.{stream_of};
 ghost use Rattle.walrus.specs.Reported.{ReportsOrRuns};
 ghost use Rattle.walrus.specs.Tool.{CountsReads, CountsWrites};
 ghost use Rattle.walrus_module.specs.Flags.{config_of};
@@ -72,19 +71,9 @@ pub fn command<R: Source, W: Sink, E: Sink>(
     output: &mut W,
     errors: &mut E,
 ) -> u8
-    ensures unknown { are_known words.now ≡ false → (result ≡ 2) × Keeps (R.left input.old) (R.left input.new)
-        × (R.read_failures input.new ≡ R.read_failures input.old) × Keeps (W.held output.old)
-        (W.held output.new)
-        × (W.write_failures output.new ≡ W.write_failures output.old)
-        × Tells (E.held errors.old) (E.held errors.new) (E.write_failures errors.old)
-        (E.write_failures errors.new) (line (codes "unknown word")) }
-    ensures known { are_known words.now ≡ true → RunsAndTells (asks_for_report words.now)
-        (config_of (flags_for words.now))
-        (R.left input.old) (R.left input.new) (W.held output.old) (W.held output.new)
-        (R.read_failures input.old) (R.read_failures input.new) (W.write_failures output.old)
-        (W.write_failures output.new) result (E.held errors.old) (E.held errors.new)
-        (E.write_failures errors.old) (E.write_failures errors.new) }
-    ensures flushed { result ≡ 0 → W.is_flushed output.new ≡ true }
+    ensures { RunsProgram words.now (stream_of R.left R.read_failures input.old input.new)
+        (stream_of W.held W.write_failures output.old output.new)
+        (stream_of E.held E.write_failures errors.old errors.new) result (W.is_flushed output.new) }
 {
     if !all_known(words) {
         let _told = write_line(errors, "unknown word");

@@ -3,7 +3,7 @@
 ghost use Rattle.std.specs.Prelude.{◌≡◌, OnOk, OnErr, ◌++◌, codes};
 ghost use Rattle.std.specs.Io.KnownBytes.{Appends};
 ghost use Rattle.walrus.specs.Device.{Counts, WroteFront};
-ghost use Rattle.walrus.specs.Message.{Tells, line};
+ghost use Rattle.walrus.specs.Message.{Tells, line, stream_of};
 ghost use Rattle.walrus.specs.Text.{tool_text};
 
 use crate::device::{DeviceFailed, Sink};
@@ -36,8 +36,7 @@ pub fn text_of(error: &ToolError) -> &str
 /// is the same.
 pub fn refuse<E: Sink>(errors: &mut E, text: &str) -> u8
     ensures status { result ≡ 1 }
-    ensures told { Tells (E.held errors.old) (E.held errors.new) (E.write_failures errors.old)
-        (E.write_failures errors.new) (line text.now) }
+    ensures told { Tells (stream_of E.held E.write_failures errors.old errors.new) (line text.now) }
 {
     let _told = write_line(errors, text);
     1

@@ -34,7 +34,7 @@ function_of params results = record { params = map val_type params; results = ma
 abbrev pub function_type : DeclaredFunctionType → FunctionType
 function_type f = function_of f.params.items f.results.items
 
--- the same as a composite type
+-- a function type, as a composite type
 abbrev pub function_comp : FunctionType → CompType ℕ
 function_comp f = Func f.params f.results
 

@@ -10,6 +10,7 @@ use Rattle.walrus_bodies.specs.declared.blocks.Opened.TheVariants.{Plain, If, Tr
 -- An open block is an If, which may still have its else; a Try, which may have handlers; a Handled, a try behind its catch_all, which
 -- is its last handler; or a Plain, as all others, the function itself among them.
 
+-- whether no block is open any more, the function itself included
 abbrev pub is_none_open : List Opened → Bool
 is_none_open [] = true
 is_none_open (block ∷ around) = false
@@ -18,7 +19,7 @@ is_none_open (block ∷ around) = false
 abbrev pub opens_plain : ℕ → Bool
 opens_plain op = nat_eq op BLOCK || nat_eq op LOOP || nat_eq op TRY_TABLE
 
--- else stands directly in an if that has none yet
+-- the blocks open behind else: it stands directly in an if that has none yet; none where it may not stand
 abbrev pub behind_else : List Opened → Option (List Opened)
 behind_else [] = None
 behind_else (If ∷ around) = Some (Plain ∷ around)
@@ -26,7 +27,7 @@ behind_else (Plain ∷ around) = None
 behind_else (Try ∷ around) = None
 behind_else (Handled ∷ around) = None
 
--- catch stands directly in a try, before any catch_all
+-- the blocks open behind catch: it stands directly in a try, before any catch_all; none where it may not stand
 abbrev pub behind_catch : List Opened → Option (List Opened)
 behind_catch [] = None
 behind_catch (Try ∷ around) = Some (Try ∷ around)
@@ -34,7 +35,7 @@ behind_catch (Plain ∷ around) = None
 behind_catch (If ∷ around) = None
 behind_catch (Handled ∷ around) = None
 
--- so does catch_all
+-- the blocks open behind catch_all: it stands directly in a try, before any other; none where it may not stand
 abbrev pub behind_catch_all : List Opened → Option (List Opened)
 behind_catch_all [] = None
 behind_catch_all (Try ∷ around) = Some (Handled ∷ around)
@@ -42,7 +43,7 @@ behind_catch_all (Plain ∷ around) = None
 behind_catch_all (If ∷ around) = None
 behind_catch_all (Handled ∷ around) = None
 
--- delegate closes a try
+-- the blocks open behind delegate, which closes a try; none where it may not stand
 abbrev pub behind_delegate : List Opened → Option (List Opened)
 behind_delegate [] = None
 behind_delegate (Try ∷ around) = Some around
@@ -50,7 +51,7 @@ behind_delegate (Handled ∷ around) = Some around
 behind_delegate (Plain ∷ around) = None
 behind_delegate (If ∷ around) = None
 
--- end closes any block
+-- the blocks open behind end, which closes any block; none where none is open
 abbrev pub behind_end : List Opened → Option (List Opened)
 behind_end [] = None
 behind_end (block ∷ around) = Some around
@@ -89,10 +90,11 @@ label_below count (Heap h) = true
 label_below count (Block b) = true
 label_below count (Access flags memory offset) = true
 
+-- each label among the arguments of an operator is below this count of blocks, and so means an open one
 abbrev pub labels_below : ℕ → List Arg → Bool
 labels_below count args = list_all (label_below count) args
 
--- the same for an operator that stands in an open block with its labels in range; none where it stands in no block
+-- the blocks open behind an operator with its labels in range; none where it stands in no block, or may not stand there
 abbrev pub blocks_after : ℕ → List Arg → List Opened → Option (List Opened)
 blocks_after op args [] = None
 blocks_after op args (block ∷ around) = if labels_below (blocks_meant op (block ∷ around)) args then blocks_behind op (block ∷ around) else None
@@ -110,6 +112,7 @@ are_nested ops = nests (Some (Plain ∷ [])) ops
 
 -- ---- the types of blocks are function types
 
+-- an argument that is the type of a block, given by the number of a type, means a function type; any other argument is fine
 abbrev pub block_holds : (ℕ → Bool) → Arg → Bool
 block_holds is_function_type (Block (OfType t)) = is_function_type t
 block_holds is_function_type (Block NoResult) = true
@@ -128,8 +131,10 @@ block_holds is_function_type (Value v) = true
 block_holds is_function_type (Heap h) = true
 block_holds is_function_type (Access flags memory offset) = true
 
+-- among the arguments of an operator, the type of a block, where it is given by the number of a type, is a function type
 abbrev pub args_hold : (ℕ → Bool) → List Arg → Bool
 args_hold is_function_type args = list_all (block_holds is_function_type) args
 
+-- the type of each block that the operators open, where it is given by the number of a type, is a function type
 abbrev pub blocks_hold : (ℕ → Bool) → List Op → Bool
 blocks_hold is_function_type ops = list_all (λ o. args_hold is_function_type o.args) ops

@@ -23,6 +23,7 @@ pub record Context : Type 0 where
   pub is_function_type : ℕ → Bool
   pub features : Features
 
+-- what the operators of a body may name and use, of its three parts: the look-up of items, which types are function types, and the proposals
 abbrev pub context : Lookup → (ℕ → Bool) → Features → Context
 context names is_function_type features = record { names = names; is_function_type = is_function_type; features = features }
 
@@ -46,6 +47,7 @@ Located IsGiven place bytes (loc ∷ locs) = (text : wire.Op) × ((front : List 
 
 -- ---- local declarations ("Code Section"): each a count and a type
 
+-- how the binary format spells the local declarations of a body: a vector of counts (u32), each with its value type; their sum isn't limited here
 unfoldable pub declarations : Form (List (ℕ × RawVal))
 declarations = Vector (U32 then value_type)
 

@@ -19,5 +19,6 @@ is_wide_arithmetic op = nat_le (opcode_behind PREFIX_FC I64_ADD128) op && nat_le
 abbrev pub is_allowed : Features → ℕ → Bool
 is_allowed features op = (not (is_legacy op) || features.legacy_exceptions) && not (is_wide_arithmetic op && features.only_stable)
 
+-- each of the operators may be used: none of legacy exceptions unless these are asked for, none of wide arithmetic where only what is stable is taken
 abbrev pub are_allowed : Features → List Op → Bool
 are_allowed features ops = list_all (λ o. is_allowed features o.op) ops

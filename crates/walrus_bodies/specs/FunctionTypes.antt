@@ -6,11 +6,13 @@ use Rattle.walrus_base.specs.ModuleTypes.{type_slots}
 use Rattle.walrus_base.specs.TypeDef.{TypeDef}
 use Rattle.walrus_base.specs.declared.module_types.ModuleTypes.{ModuleTypes}
 
+-- whether a composite type is a function type, rather than a structure or array type
 abbrev pub is_function_comp : CompType ℕ → Bool
 is_function_comp (Func params results) = true
 is_function_comp (Struct fields) = false
 is_function_comp (Array element) = false
 
+-- whether there is a type at all, and its composite type is a function type
 abbrev pub is_function_def : Option TypeDef → Bool
 is_function_def None = false
 is_function_def (Some x) = is_function_comp x.sub.comp

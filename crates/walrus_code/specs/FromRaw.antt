@@ -13,7 +13,7 @@ use Rattle.wasm_operators.specs.Operators as wire
 use Rattle.walrus_base.specs.Types.{AbstractHeap, FuncHeap, ExternHeap, AnyHeap, EqHeap, I31Heap, StructHeap, ArrayHeap, ExnHeap, NoneHeap, NoExternHeap, NoFuncHeap, NoExnHeap, HeapType, OfHeap, Concrete, ValType, I32, I64, F32, F64, V128, Ref}
 use Rattle.walrus_base.specs.Operators.{Types, Functions, Tables, Memories, Tags, Globals, Elements, DataSegments, BlockType, NoResult, OneResult, OfType, Arg, Index, Label, Local, Number, Count, Byte, S32, S64, Bits32, Bits64, Value, Heap, Block, Access, Op}
 
--- the abstract heap type of a byte from 69 to 74 ("Binary Format > Types > Heap Types")
+-- the abstract heap type of a byte from 69 to 74, in hexadecimal digits ("Binary Format > Types > Heap Types")
 abbrev pub abstract_of : ℕ → AbstractHeap
 abstract_of b =
     if nat_eq b HEAP_EXN then ExnHeap
@@ -29,10 +29,12 @@ abstract_of b =
     else if nat_eq b HEAP_NO_FUNC then NoFuncHeap
     else NoExnHeap
 
+-- a heap type as bytes spell it, as one of the standard: an abstract one, or a type by its index; never an exact one
 abbrev pub heap_of : RawHeap → HeapType ℕ
 heap_of (raw_heap.Abstract b) = OfHeap (abstract_of b)
 heap_of (raw_heap.Index t) = Concrete t
 
+-- a value type as bytes spell it, as one of the standard over type indices
 abbrev pub val_of : RawVal → ValType ℕ
 val_of raw_val.I32 = I32
 val_of raw_val.I64 = I64
@@ -41,11 +43,13 @@ val_of raw_val.F64 = F64
 val_of raw_val.V128 = V128
 val_of (raw_val.Ref r) = Ref (record { nullable = r.nullable; heap = heap_of r.heap })
 
+-- the type of a block as bytes spell it, as one of the standard: nothing, one result, or a function type by its index
 abbrev pub block_of : RawBlock → BlockType
 block_of raw_block.NoResult = NoResult
 block_of (raw_block.OneResult v) = OneResult (val_of v)
 block_of (raw_block.OfType t) = OfType t
 
+-- an argument of an operator as bytes spell it, as one over indices: the index of an item has its index space beside it, all else stays what it is
 abbrev pub arg_of : RawArg → Arg
 arg_of (raw.Function n) = Index (Functions, n)
 arg_of (raw.«Type» n) = Index (Types, n)
@@ -69,8 +73,10 @@ arg_of (raw.Heap h) = Heap (heap_of h)
 arg_of (raw.Block b) = Block (block_of b)
 arg_of (raw.Access flags memory offset) = Access flags memory offset
 
+-- an operator as bytes spell it, as one of the standard over indices: the same operator, with each of its arguments so understood
 abbrev pub op_of : wire.Op → Op
 op_of o = record { op = o.op; args = map arg_of o.args }
 
+-- a list of operators as bytes spell them, as operators of the standard over indices, in the same order
 abbrev pub ops_of : List wire.Op → List Op
 ops_of ops = map op_of ops

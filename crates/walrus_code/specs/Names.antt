@@ -12,16 +12,18 @@ Lookup = Space → ℕ → Option ℕ
 abbrev pub LeadsBack : Lookup → Lookup → Type 0
 LeadsBack there back = (space : Space) (number found : ℕ) → there space number ≡ Some found → back space found ≡ Some number
 
--- the same for the locals of a function
+-- each local that one look-up finds leads back by the other
 abbrev pub LocalsLeadBack : (ℕ → Option ℕ) → (ℕ → Option ℕ) → Type 0
 LocalsLeadBack there back = (number found : ℕ) → there number ≡ Some found → back found ≡ Some number
 
 module _ (names : Lookup) where
+  -- a heap type with the number of the type that it names, where it names one, put through the look-up; none where that number isn't found
   abbrev pub named_heap : HeapType ℕ → Option (HeapType ℕ)
   named_heap (OfHeap h) = Some (OfHeap h)
   named_heap (Concrete t) = names Types t >>= λ found. Some (Concrete found)
   named_heap (Exact t) = names Types t >>= λ found. Some (Exact found)
 
+  -- a value type with the number of the type that it names, where it names one, put through the look-up; none where that number isn't found
   abbrev pub named_val : ValType ℕ → Option (ValType ℕ)
   named_val (Ref r) = named_heap r.heap >>= λ heap. Some (Ref (record { nullable = r.nullable; heap = heap }))
   named_val I32 = Some I32
@@ -30,6 +32,7 @@ module _ (names : Lookup) where
   named_val F64 = Some F64
   named_val V128 = Some V128
 
+  -- the type of a block with the number of the type that it names, where it names one, put through the look-up; none where that number isn't found
   abbrev pub named_block : BlockType → Option BlockType
   named_block NoResult = Some NoResult
   named_block (OneResult v) = named_val v >>= λ found. Some (OneResult found)
@@ -53,10 +56,12 @@ module _ (names : Lookup) where
     named_arg (Bits32 n) = Some (Bits32 n)
     named_arg (Bits64 n) = Some (Bits64 n)
 
+    -- the arguments with each number of an item or a local in them looked up; none where one isn't found
     abbrev pub named_args : List Arg → Option (List Arg)
     named_args [] = Some []
     named_args (arg ∷ rest) = named_arg arg >>= λ found. named_args rest >>= λ others. Some (found ∷ others)
 
+    -- the operator with each number of an item or a local in its arguments looked up; none where one isn't found
     abbrev pub named_op : Op → Option Op
     named_op o = named_args o.args >>= λ args. Some (record { op = o.op; args = args })
 

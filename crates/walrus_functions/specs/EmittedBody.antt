@@ -46,6 +46,7 @@ comp_takes (Func params results) = Some params
 comp_takes (Struct fields) = None
 comp_takes (Array element) = None
 
+-- what a function of the type, where there is one, takes as parameters; none where there is none or it is no function type
 abbrev pub takes : Option TypeDef → Option (List (ValType ℕ))
 takes None = None
 takes (Some x) = comp_takes x.sub.comp
@@ -57,17 +58,19 @@ pub record FitsType (def : Option TypeDef) (slots : List (Option (ValType ℕ)))
   pub typed : map (item_at slots) parameters ≡ map Some types
   pub distinct : AllPairs (λ (x : ℕ) (y : ℕ). x ≢ y) parameters
 
--- a count and a type
+-- the bytes of a declaration of locals: how many they are, and their value type ("Code Section")
 abbrev pub declaration_bytes : ℕ × RawVal → List ℕ
 declaration_bytes d = number_bytes d.0 ++ value_bytes d.1
 
+-- the bytes of a body's local declarations: how many these are, and then each as a count of locals and their value type ("Code Section")
 abbrev pub declarations_bytes : List (ℕ × RawVal) → List ℕ
 declarations_bytes ds = vector_bytes declaration_bytes ds
 
--- a declaration over indices, and one over ids put through the look-up: how many locals, and their type over indices
+-- a declaration over indices: how many locals, and their type
 abbrev pub spelled_as : ℕ × RawVal → ℕ × Option (ValType ℕ)
 spelled_as d = (d.0, Some (val_of d.1))
 
+-- a declaration over ids put through the look-up: how many locals, and their type over indices, or none where it names a type that isn't found
 abbrev pub looked_up : Lookup → ℕ × ValType ℕ → ℕ × Option (ValType ℕ)
 looked_up names g = (g.0, named_val names g.1)
 

@@ -1,7 +1,7 @@
 //! The program `walrus-gc`: a WebAssembly module on standard input, and on standard output the same module without what nothing reaches.
 //!
 //! Read first: `src/main.rt` (words and streams) and `../walrus/src/command.rt` (what the program does with them).
-//! Main clause: `main` has no contract. It calls `command` of `../walrus/src/command.rt`, which promises `RunsAndTells`.
+//! Main clause: `main` has no contract. It calls `command` of `../walrus/src/command.rt`, which promises `RunsProgram`.
 //! This says, where all words are known, that the run or the report was done, and that its answer was told.
 #![tactic(auto)]
 

@@ -13,19 +13,23 @@ use Rattle.walrus_code.specs.FromRaw.{val_of}
 use Rattle.walrus_code.specs.declared.error.IrError.{IrError}
 use Rattle.walrus_code.specs.declared.error.IrError.TheVariants.{Malformed, Memory, NoIndex, NotWritable, TooLarge}
 
+-- what a field holds by the type section, as a storage type of the standard: a value type over type indices, or a packed integer
 abbrev pub storage_of : RawStorage → StorageType ℕ
 storage_of (storages.Val v) = Unpacked (val_of v)
 storage_of storages.I8 = I8
 storage_of storages.I16 = I16
 
+-- the type of a field or an element in the type section, as a field type of the standard over type indices
 abbrev pub field_of : RawFieldType → FieldType ℕ
 field_of f = record { storage = storage_of f.storage; mutable = f.mutable }
 
+-- a function, structure or array type in the type section, as a composite type of the standard over type indices
 abbrev pub comp_of : Comp → CompType ℕ
 comp_of (Function t) = types.Func (map val_of t.params) (map val_of t.results)
 comp_of (Struct fields) = types.Struct (map field_of fields)
 comp_of (Array field) = types.Array (field_of field)
 
+-- a member of a group in the type section, as a sub type of the standard: whether it is final, the indices of its supertypes, and its composite type
 abbrev pub sub_of : Sub → SubType ℕ
 sub_of s = record { is_final = s.is_final; supertypes = s.supers; comp = comp_of s.comp }
 

@@ -14,5 +14,6 @@ Has m Globals i = IsSome (m.globals i)
 Has m Elements i = IsSome (m.elements i)
 Has m DataSegments i = IsSome (m.data_segments i)
 
+-- the module has this item: there is one of its number in its index space
 abbrev pub IsLive : Abstract → Item → Type 0
 IsLive m x = Has m x.0 x.1

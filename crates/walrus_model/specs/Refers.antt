@@ -13,6 +13,7 @@ named_by names (Some x) = names x
 abbrev pub used_locals : Body → List ℕ
 used_locals b = locals_of b.operators
 
+-- an operator of the body names local x; to be a parameter isn't enough
 abbrev pub IsUsed : Body → ℕ → Type 0
 IsUsed b x = Contains (used_locals b) x
 
@@ -20,9 +21,11 @@ IsUsed b x = Contains (used_locals b) x
 abbrev pub local_names : Body → ℕ → List Item
 local_names b x = named_by (λ v. map type_item (val_names v)) (b.local_type x)
 
+-- the items that a body names: those that its operators name, and the concrete types of the locals that it uses
 abbrev pub body_names : Body → List Item
 body_names b = names_of b.operators ++ flat_map (local_names b) (used_locals b)
 
+-- the items that the body of a local function names; a function without a body names none here
 abbrev pub kind_names : FunctionKind → List Item
 kind_names (LocalFunction b) = body_names b
 kind_names (ImportedFunction i) = []
@@ -52,11 +55,13 @@ tag_names t = type_item t.ty ∷ []
 abbrev pub global_names : Global → List Item
 global_names g = map type_item (val_names g.ty.value) ++ named_by names_of g.initialiser
 
+-- the items that stand in how an element segment is used: the table of an active one, and what its offset names
 abbrev pub element_kind_names : ElementKind → List Item
 element_kind_names PassiveElements = []
 element_kind_names DeclaredElements = []
 element_kind_names (ActiveElements table offset) = (Tables, table) ∷ names_of offset
 
+-- the items that stand in what an element segment holds: its functions, or its concrete element type and what its expressions name
 abbrev pub element_item_names : ElementItems → List Item
 element_item_names (ListedFunctions fs) = map function_item fs
 element_item_names (Expressions ty es) = map type_item (heap_names ty.heap) ++ flat_map names_of es
@@ -65,6 +70,7 @@ element_item_names (Expressions ty es) = map type_item (heap_names ty.heap) ++ f
 abbrev pub element_names : Element → List Item
 element_names e = element_kind_names e.kind ++ element_item_names e.items
 
+-- the items that stand in how a data segment is used: the memory of an active one, and what its offset names
 abbrev pub data_kind_names : DataKind → List Item
 data_kind_names PassiveData = []
 data_kind_names (ActiveData memory offset) = (Memories, memory) ∷ names_of offset

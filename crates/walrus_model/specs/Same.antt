@@ -22,6 +22,7 @@ pub record SameBody (r : Renaming) (i : ℕ) (a b : Body) : Type 0 where
   pub types : (x : ℕ) → IsUsed a x → b.local_type (r.locals i x) ≡ option_map (map_val (r.numbers Types)) (a.local_type x)
   pub parameters : (x : ℕ) → IsUsed a x → place_in b.parameters (r.locals i x) ≡ place_in a.parameters x
 
+-- what function i is, under r: the same import, or the same body (SameBody); an uninitialised function matches nothing, not even another one
 abbrev pub SameKind : Renaming → ℕ → FunctionKind → FunctionKind → Type 0
 SameKind r i (ImportedFunction p) (ImportedFunction q) = q ≡ r.imports p
 SameKind r i (ImportedFunction p) (LocalFunction b) = ⊥
@@ -31,6 +32,7 @@ SameKind r i (LocalFunction a) (ImportedFunction q) = ⊥
 SameKind r i (LocalFunction a) Uninitialised = ⊥
 SameKind r i Uninitialised kind = ⊥
 
+-- function i of one module is g in the other: its type is put through r, and its import or body is the same under r
 pub record SameFunction (r : Renaming) (i : ℕ) (f g : Function) : Type 0 where
   pub ty : g.ty ≡ r.numbers Types f.ty
   pub kind : SameKind r i f.kind g.kind

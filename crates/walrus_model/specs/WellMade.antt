@@ -7,11 +7,13 @@ use Rattle.walrus_model.specs.Refers.{used_locals}
 
 -- ---- imports
 
+-- the import that brings a function of this kind, if one does
 abbrev pub kind_import : FunctionKind → Option ℕ
 kind_import (ImportedFunction i) = Some i
 kind_import (LocalFunction b) = None
 kind_import Uninitialised = None
 
+-- the import that brings an item of this origin, if one does
 abbrev pub origin_import : Origin → Option ℕ
 origin_import (ImportedBy i) = Some i
 origin_import Defined = None

@@ -8,6 +8,7 @@ pub mod OwnSections
 pub mod WellWritten
 pub mod CountedBodies
 pub mod ReplacedLemmas
+mod WrittenForms
 pub mod WrittenSections
 pub mod EditedCustoms
 pub mod EditedDeleted

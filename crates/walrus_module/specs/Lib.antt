@@ -14,11 +14,13 @@ pub mod Located
 pub mod LendsSection
 pub mod Meaning
 pub mod OnParse
+pub mod Parsing
 pub mod Raws
 pub mod Replaced
 pub mod Settings
 pub mod Tested
 pub mod View
+pub mod Written
 pub mod OnlyMemory
 pub use Rattle.walrus_writing.specs.Emitted
 pub use Rattle.walrus_reading.specs.Parsed

@@ -15,12 +15,10 @@ use Rattle.walrus_items.specs.Tags.{tags}
 use Rattle.walrus_items.specs.declared.custom.CustomSection.{Ghosts}
 use Rattle.walrus_items.specs.declared.error.Error.{Error}
 use Rattle.walrus_items.specs.declared.error.Error.TheVariants.{Memory, InvalidWasm}
-use Rattle.walrus_reading.specs.Parsed.{AreLocated, HasTypesRead, IsParsed, ItemsAtOwnIds, RefusesBytes, TakenFrom}
-use Rattle.walrus_theorem.specs.Features.{features_of}
+use Rattle.walrus_reading.specs.Parsed.{HasTypesRead, RefusesBytes}
 use Rattle.walrus_module.specs.Flags.{Flags, config_of}
-use Rattle.walrus_module.specs.Raws.{KeepsRead}
-use Rattle.walrus_module.specs.Settings.{settings}
-use Rattle.walrus_module.specs.View.{contents_of, view}
+use Rattle.walrus_module.specs.Parsing.{HoldsParsed}
+use Rattle.walrus_module.specs.View.{contents_of}
 use Rattle.walrus_module.specs.declared.entry.SectionEntry.{SectionEntry}
 use Rattle.walrus_module.specs.declared.module.Module.{Module}
 use Rattle.walrus_base.specs.Operators.{Space, Types, Functions, Tables, Memories, Tags, Globals, Elements, DataSegments}
@@ -56,14 +54,9 @@ abbrev pub Effect : Type 1
 Effect = (V : Type 0) (O : V → Type 0) → ((v : V) → Ghosts (O v)) → IndicesToIds → (old new : Module (SectionEntry V O)) → Result (Unit {0}) Error → Type 0
 
 module _ {V : Type 0} {O : V → Type 0} (G : (v : V) → Ghosts (O v)) where
-  -- The bytes were read as this module, with these flags and its operators located so, and these are the ids of its items by their indices.
+  -- the bytes were read as this module, and these are the ids of its items by their indices
   pub record IsHanded (f : Flags) (Gives : ℕ → InstrLocId → Type 0) (bytes : List ℕ) (m : Module (SectionEntry V O)) (ids : IndicesToIds) : Type 0 where
-    pub parsed : IsParsed (config_of f) bytes (view G m)
-    pub configured : settings m ≡ f
-    pub taken : TakenFrom (features_of (config_of f)) bytes (contents_of m)
-    pub own_ids : ItemsAtOwnIds (contents_of m)
-    pub located : AreLocated Gives bytes m.funcs
-    pub kept : KeepsRead bytes m
+    pub read : HoldsParsed G f Gives bytes m
     pub types : ℕ
     pub counted : HasTypesRead bytes types
     pub numbered : IsNumbered types (contents_of m) ids

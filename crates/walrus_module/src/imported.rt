@@ -6,12 +6,11 @@ ghost use Rattle.walrus_items.specs.Functions.{functions};
 ghost use Rattle.walrus_items.specs.Imports.{imports};
 ghost use Rattle.walrus_items.specs.declared.function_kind.FunctionKind.TheVariants as functions;
 ghost use Rattle.walrus_items.specs.declared.kinds.ImportKind.TheVariants.{Function, Table, Memory, Global, Tag};
-ghost use Rattle.walrus_items.specs.Added.{no_segments};
 ghost use Rattle.walrus_items.specs.Tables.{tables};
 ghost use Rattle.walrus_items.specs.Memories.{memories};
 ghost use Rattle.walrus_items.specs.Tags.{tags};
 ghost use Rattle.walrus_items.specs.Globals.{globals};
-ghost use Rattle.walrus_module.specs.Imported.{AddsImported};
+ghost use Rattle.walrus_module.specs.Imported.{AddsImported, imported_global, imported_memory, imported_table};
 
 use crate::module::Module;
 use walrus_base::{
@@ -57,17 +56,7 @@ impl<S> Module<S> {
     ) -> Result<(TableId, ImportId)>
         ensures added { AddsImported result (tables self.old.tables) (tables self.new.tables)
             (imports self.old.imports) (imports self.new.imports) «module».now name.now
-            (λ own «import». record {
-              id = own;
-              table64 = table64;
-              initial = initial;
-              maximum = maximum;
-              element = ref_type ty;
-              initialiser = None;
-              imported_by = Some (place «import»);
-              segments = no_segments;
-              name = None;
-            }) Table }
+            (imported_table table64 initial maximum (ref_type ty)) Table }
         ensures others { self.new ≡ record self.old { imports = self.new.imports; tables = self.new.tables } }
     {
         self.tables.reserve(1)?;
@@ -92,17 +81,7 @@ impl<S> Module<S> {
     ) -> Result<(MemoryId, ImportId)>
         ensures added { AddsImported result (memories self.old.memories) (memories self.new.memories)
             (imports self.old.imports) (imports self.new.imports) «module».now name.now
-            (λ own «import». record {
-              id = own;
-              shared = shared;
-              memory64 = memory64;
-              initial = initial;
-              maximum = maximum;
-              page_size_log2 = page_size_log2;
-              imported_by = Some (place «import»);
-              segments = no_segments;
-              name = None;
-            }) Memory }
+            (imported_memory shared memory64 initial maximum page_size_log2) Memory }
         ensures others { self.new
             ≡ record self.old { imports = self.new.imports; memories = self.new.memories } }
     {
@@ -126,15 +105,7 @@ impl<S> Module<S> {
     ) -> Result<(GlobalId, ImportId)>
         ensures added { AddsImported result (globals self.old.globals) (globals self.new.globals)
             (imports self.old.imports) (imports self.new.imports) «module».now name.now
-            (λ own «import». record {
-              id = own;
-              ty = val_type ty;
-              mutable = mutable;
-              shared = shared;
-              imported_by = Some (place «import»);
-              initialiser = None;
-              name = None;
-            }) Global }
+            (imported_global (val_type ty) mutable shared) Global }
         ensures others { self.new
             ≡ record self.old { imports = self.new.imports; globals = self.new.globals } }
     {

@@ -1,6 +1,6 @@
 //! The module in memory.
 
-ghost use Rattle.std.specs.Prelude.{◌≡◌, IfOk, IfErr, IsOkUnless};
+ghost use Rattle.std.specs.Prelude.{◌≡◌, IfOk, IsOkUnless};
 ghost use Rattle.walrus_base.specs.Arena.{items};
 ghost use Rattle.walrus_items.specs.Errors.{out_of_memory};
 
@@ -66,13 +66,11 @@ impl<S> Module<S> {
 }
 
 impl Module {
-    ghost use Rattle.walrus_module.specs.Flags.{config_of, defaults, flags, flags_of};
-    ghost use Rattle.walrus_reading.specs.Parsed.{AreLocated, IsParsed, ItemsAtOwnIds, RefusesBytes, TakenFrom};
-    ghost use Rattle.walrus_theorem.specs.Features.{features_of};
+    ghost use Rattle.walrus_module.specs.Flags.{defaults, flags, flags_of};
     ghost use Rattle.walrus_module.specs.Located.{Gives, IsPlace};
+    ghost use Rattle.walrus_module.specs.Parsing.{Parses};
     ghost use Rattle.walrus_module.specs.Settings.{settings};
-    ghost use Rattle.walrus_module.specs.Raws.{KeepsRead};
-    ghost use Rattle.walrus_module.specs.View.{IsEmpty, contents_of, view};
+    ghost use Rattle.walrus_module.specs.View.{IsEmpty, contents_of};
 
     /// An empty module, to be written as the configuration says. Want of memory is the only refusal.
     pub fn with_config(alloc: Global, config: ModuleConfig) -> Result<Module>
@@ -117,15 +115,7 @@ impl Module {
 
     /// The module that the bytes are, under the default configuration. Refused as [`ModuleConfig::parse`] is.
     pub fn from_buffer(alloc: Global, bytes: &[u8]) -> Result<Module>
-        ensures found { IfOk result (λ m. IsParsed (config_of defaults) bytes.now
-            (view ⟦<dyn CustomSection as CustomSection>⟧ m)) }
-        ensures refused { IfErr result (RefusesBytes (config_of defaults) bytes.now) }
-        ensures configured { IfOk result (λ m. settings m ≡ defaults) }
-        ensures taken { IfOk result (λ m. TakenFrom (features_of (config_of defaults))
-            bytes.now (contents_of m)) }
-        ensures own_ids { IfOk result (λ m. ItemsAtOwnIds (contents_of m)) }
-        ensures located { IfOk result (λ m. AreLocated IsPlace bytes.now m.funcs) }
-        ensures kept { IfOk result (λ m. KeepsRead bytes.now m) }
+        ensures { Parses ⟦<dyn CustomSection as CustomSection>⟧ defaults IsPlace bytes.now result }
     {
         Module::from_buffer_with_config(alloc, bytes, &ModuleConfig::new())
     }
@@ -136,15 +126,8 @@ impl Module {
         bytes: &[u8],
         config: &ModuleConfig,
     ) -> Result<Module>
-        ensures found { IfOk result (λ m. IsParsed (config_of (flags config.now)) bytes.now
-            (view ⟦<dyn CustomSection as CustomSection>⟧ m)) }
-        ensures refused { IfErr result (RefusesBytes (config_of (flags config.now)) bytes.now) }
-        ensures configured { IfOk result (λ m. settings m ≡ flags config.now) }
-        ensures taken { IfOk result (λ m. TakenFrom (features_of (config_of (flags config.now)))
-            bytes.now (contents_of m)) }
-        ensures own_ids { IfOk result (λ m. ItemsAtOwnIds (contents_of m)) }
-        ensures located { IfOk result (λ m. AreLocated (Gives config.now) bytes.now m.funcs) }
-        ensures kept { IfOk result (λ m. KeepsRead bytes.now m) }
+        ensures { Parses ⟦<dyn CustomSection as CustomSection>⟧ (flags config.now) (Gives config.now)
+            bytes.now result }
     {
         config.parse(alloc, bytes)
     }

@@ -1,22 +1,17 @@
 //! The bytes of a module's parts with custom sections of its own, which follow the code before, where that is asked for.
-ghost use Rattle.std.specs.Prelude.{◌≡◌, ◌⊎◌, All, IfErr, IfOk, Err, true};
-ghost use Rattle.std.specs.Str.{IsUtf8};
+ghost use Rattle.std.specs.Prelude.{IfErr, IfOk, Err};
 ghost use Rattle.walrus_code.specs.Indices.{index_of};
-ghost use Rattle.walrus_contents.specs.View.{lent, parts_view};
+ghost use Rattle.walrus_contents.specs.View.{parts_view};
 ghost use Rattle.walrus_model.specs.Dead.{HasDead};
 ghost use Rattle.walrus_model.specs.Declared.{NothingUndeclared};
-ghost use Rattle.walrus_module.specs.Asked.{OneAskedMayRefuse, all_asked, asked_first};
-ghost use Rattle.walrus_module.specs.Customs.{sections};
+ghost use Rattle.walrus_module.specs.Asked.{OneAskedMayRefuse, asked_first};
 ghost use Rattle.walrus_module.specs.Flags.{choices_of, config_of, flags_of};
-ghost use Rattle.walrus_module.specs.Following.{AreRaw, IsToldOf, LeavesCustoms, OneMayRefuseThen};
 ghost use Rattle.walrus_module.specs.View.{meant, with_sections};
-ghost use Rattle.walrus_items.specs.Transform.{transform_of};
+ghost use Rattle.walrus_module.specs.Written.{FollowsCode, WritesParts, WritesSections};
 ghost use Rattle.walrus_plan.specs.Prepared.{IsPrepared};
-ghost use Rattle.walrus_theorem.specs.Refused.{IsSayable, RefusesToWrite};
-ghost use Rattle.walrus_writing.specs.Customs.{task};
-ghost use Rattle.walrus_writing.specs.Emitted.{IsEmitted, refusal_of, told};
-ghost use Rattle.walrus_writing.specs.Records.{Spells};
-ghost use Rattle.walrus_writing.specs.Transform.{IsTransformOf, TellsTransform, locations_at};
+ghost use Rattle.walrus_theorem.specs.Refused.{RefusesToWrite};
+ghost use Rattle.walrus_writing.specs.Emitted.{refusal_of};
+ghost use Rattle.walrus_writing.specs.Transform.{TellsTransform};
 
 use crate::asked::raw_customs;
 use crate::customs::ModuleCustomSections;
@@ -73,21 +68,8 @@ impl ModuleCustomSections {
         requires there { HasDead (parts_view parts) → ⊥ }
         requires declared { NothingUndeclared (parts_view parts) }
         requires planned { IsPrepared parts prepared }
-        ensures emitted { IfOk result (λ bytes. IsEmitted (config_of (flags_of switches))
-            (with_sections (parts_view parts.entry)
-            (meant ⟦<dyn CustomSection as CustomSection>⟧ self.now)) bytes.items) }
-        ensures refused { RefusesToWrite
-            (OneAskedMayRefuse (meant ⟦<dyn CustomSection as CustomSection>⟧ self.now))
-            (config_of (flags_of switches))
-            (with_sections (parts_view parts.entry)
-            (meant ⟦<dyn CustomSection as CustomSection>⟧ self.now)) (told result) }
-        ensures spells { IfOk result (λ bytes. Spells parts.entry
-            (task (choices_of (config_of (flags_of switches))) (index_of prepared.indices)
-            (all_asked (index_of prepared.indices)
-            (meant ⟦<dyn CustomSection as CustomSection>⟧ self.now))) bytes.items) }
-        ensures texts { IfOk result (λ _. All (λ c. IsUtf8 c.name)
-            (all_asked (index_of prepared.indices)
-            (meant ⟦<dyn CustomSection as CustomSection>⟧ self.now))) }
+        ensures { WritesSections ⟦<dyn CustomSection as CustomSection>⟧ (flags_of switches) parts.entry
+            (index_of prepared.indices) self.now result }
     {
         let asked = self.asked(alloc, &prepared.indices)?;
         let customs = raw_customs(alloc, asked.as_slice())?;
@@ -112,22 +94,8 @@ impl ModuleCustomSections {
         requires there { HasDead (parts_view parts) → ⊥ }
         requires declared { NothingUndeclared (parts_view parts) }
         requires planned { IsPrepared parts prepared.now }
-        ensures told { (switches.preserve_code_transform ≡ true) ⊎ (tells ≡ true) → IfOk result
-            (TellsTransform parts.entry (choices_of (config_of (flags_of switches)))
-            (index_of prepared.now.indices)
-            (asked_first (meant ⟦<dyn CustomSection as CustomSection>⟧ self.old))
-            switches.preserve_code_transform) }
-        ensures customs { LeavesCustoms ⟦<dyn CustomSection as CustomSection>⟧
-            switches.preserve_code_transform (λ t x. x ≡ transform_of t)
-            (IsToldOf (config_of (flags_of switches)) (lent parts.entry)
-            (asked_first (meant ⟦<dyn CustomSection as CustomSection>⟧ self.old)))
-            self.old self.new result }
-        ensures refused { IfErr result (λ e. RefusesToWrite {X = Unit {0}}
-            (OneAskedMayRefuse (meant ⟦<dyn CustomSection as CustomSection>⟧ self.old))
-            (config_of (flags_of switches))
-            (with_sections (parts_view parts.entry)
-            (meant ⟦<dyn CustomSection as CustomSection>⟧ self.new)) (Err (refusal_of e))) }
-        ensures raw { AreRaw (sections self.old) → self.new ≡ self.old }
+        ensures { FollowsCode ⟦<dyn CustomSection as CustomSection>⟧ (flags_of switches) parts.entry
+            (index_of prepared.now.indices) tells self.old self.new result }
     {
         let keeps = switches.preserve_code_transform;
         if !keeps && !tells {
@@ -163,27 +131,8 @@ pub(crate) fn write_parts(
 ) -> Result<(Vec<u8>, CodeTransform)>
     requires there { HasDead (parts_view parts) → ⊥ }
     requires declared { NothingUndeclared (parts_view parts) }
-    ensures emitted { IfOk result (λ r. IsEmitted (config_of (flags_of switches))
-        (with_sections (parts_view parts.entry)
-        (meant ⟦<dyn CustomSection as CustomSection>⟧ customs.new)) r.0.items) }
-    ensures refused { RefusesToWrite
-        (OneMayRefuseThen ⟦<dyn CustomSection as CustomSection>⟧ customs.old customs.new)
-        (config_of (flags_of switches))
-        (with_sections (parts_view parts.entry)
-        (meant ⟦<dyn CustomSection as CustomSection>⟧ customs.new)) (told result) }
-    ensures customs { LeavesCustoms ⟦<dyn CustomSection as CustomSection>⟧
-        switches.preserve_code_transform (λ r x. x ≡ transform_of r.1)
-        (IsToldOf (config_of (flags_of switches)) (lent parts.entry)
-        (asked_first (meant ⟦<dyn CustomSection as CustomSection>⟧ customs.old)))
+    ensures { WritesParts ⟦<dyn CustomSection as CustomSection>⟧ (flags_of switches) parts.entry tells
         customs.old customs.new result }
-    ensures transform { (switches.preserve_code_transform ≡ true) ⊎ (tells ≡ true) → IfOk result (λ r.
-        IsSayable (with_sections (parts_view parts.entry)
-        (meant ⟦<dyn CustomSection as CustomSection>⟧ customs.new))
-        → IsTransformOf (config_of (flags_of switches)) switches.preserve_code_transform
-        (locations_at parts.entry)
-        (with_sections (parts_view parts.entry)
-        (meant ⟦<dyn CustomSection as CustomSection>⟧ customs.new)) r.0.items (transform_of r.1)) }
-    ensures raw { AreRaw (sections customs.old) → customs.new ≡ customs.old }
 {
     let prepared = prepare(alloc, parts)?;
     let transform = customs.followed(alloc, parts, &prepared, switches, tells)?;

@@ -4,6 +4,7 @@ pub mod Local
 pub mod Matched
 pub mod Origins
 pub mod Places
+pub mod Planned
 pub mod Prepared
 pub mod Reads
 pub mod Refusals

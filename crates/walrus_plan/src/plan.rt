@@ -1,27 +1,20 @@
 //! The order in which items are written, and their indices ("Structure > Modules > Indices").
-ghost use Rattle.std.specs.Prelude.{◌≡◌, ◌<◌, ◌≤◌, ◌^◌, ◌++◌, ◌↔◌, map, length, IfOk, IfErr, IsOkUnless, IsTrue, OnOk, nat_eq};
-ghost use Rattle.walrus_base.specs.Arena.{entries, items};
+ghost use Rattle.std.specs.Prelude.{◌≡◌, ◌<◌, ◌≤◌, ◌^◌, ◌↔◌, map, length, IfOk, IfErr, IsOkUnless, IsTrue, OnOk, nat_eq};
+ghost use Rattle.walrus_base.specs.Arena.{entries};
 ghost use Rattle.std.specs.List.{IsDistinct};
 ghost use Rattle.walrus_base.specs.Id.{place};
 ghost use Rattle.walrus_base.specs.ModuleTypes.{type_slots};
 ghost use Rattle.walrus_code.specs.Indices.{NumbersAlong, index_of};
-ghost use Rattle.walrus_base.specs.Operators.{Space, Types, Functions, Tables, Memories, Tags, Globals};
+ghost use Rattle.walrus_base.specs.Operators.{Space, Functions};
 ghost use Rattle.walrus_items.specs.Functions.{functions};
-ghost use Rattle.walrus_items.specs.Imports.{imports};
-ghost use Rattle.walrus_contents.specs.View.{parts_view};
 ghost use Rattle.walrus_items.specs.Data.{data_segments};
 ghost use Rattle.walrus_items.specs.Elements.{elements};
-ghost use Rattle.walrus_items.specs.Globals.{globals, global_import};
-ghost use Rattle.walrus_items.specs.Memories.{memories};
-ghost use Rattle.walrus_items.specs.Tables.{tables};
-ghost use Rattle.walrus_items.specs.Tags.{tags};
-ghost use Rattle.walrus_model.specs.Dead.{HasDead};
-ghost use Rattle.walrus_model.specs.Plan.{AreNumbered, IsPlan};
-ghost use Rattle.walrus_model.specs.WellMade.{ImportsMatch};
+ghost use Rattle.walrus_items.specs.Globals.{global_import};
+ghost use Rattle.walrus_model.specs.Plan.{AreNumbered};
 ghost use Rattle.walrus_items.specs.Errors.{out_of_memory};
-ghost use Rattle.walrus_plan.specs.Brought.{own_places, places_brought};
 ghost use Rattle.walrus_plan.specs.Local.{is_own};
 ghost use Rattle.walrus_plan.specs.Places.{places};
+ghost use Rattle.walrus_plan.specs.Planned.{PlansItems};
 ghost use Rattle.walrus_plan.specs.Refusals.{RefusesCounts};
 ghost use Rattle.walrus_plan.specs.Sizes.{local_sizes, IsOrder};
 
@@ -65,31 +58,7 @@ pub struct Plan {
 impl Plan {
     /// The order in which the items of these parts are written. Want of memory is the only refusal.
     pub fn new(alloc: Global, parts: Parts<'_>) -> Result<Plan>
-        ensures types { IfOk result (λ plan. map place plan.types.items
-            ≡ map (λ e. e.0) (entries (type_slots parts.entry.types.now))) }
-        ensures own { IfOk result (λ plan. IsOrder (functions parts.entry.funcs.now)
-            (map place plan.own_functions.items)) }
-        ensures brought { IfOk result (λ plan. map place plan.brought_functions.items
-            ≡ places_brought Functions (items (imports parts.entry.imports.now))) }
-        ensures tables { IfOk result (λ plan. map place plan.tables.items
-            ≡ places_brought Tables (items (imports parts.entry.imports.now))
-            ++ own_places (λ x. x.imported_by) (entries (tables parts.entry.tables.now))) }
-        ensures memories { IfOk result (λ plan. map place plan.memories.items
-            ≡ places_brought Memories (items (imports parts.entry.imports.now))
-            ++ own_places (λ x. x.imported_by) (entries (memories parts.entry.memories.now))) }
-        ensures tags { IfOk result (λ plan. map place plan.tags.items
-            ≡ places_brought Tags (items (imports parts.entry.imports.now))
-            ++ own_places (λ x. x.imported_by) (entries (tags parts.entry.tags.now))) }
-        ensures globals { IfOk result (λ plan. map place plan.globals.items
-            ≡ places_brought Globals (items (imports parts.entry.imports.now))
-            ++ own_places (λ x. x.imported_by) (entries (globals parts.entry.globals.now))) }
-        ensures elements { IfOk result (λ plan. map place plan.elements.items
-            ≡ map (λ e. e.0) (entries (elements parts.entry.elements.now))) }
-        ensures data_segments { IfOk result (λ plan. map place plan.data_.items
-            ≡ map (λ e. e.0) (entries (data_segments parts.entry.data_.now))) }
-        ensures plan { IfOk result (λ plan. (HasDead (parts_view parts.entry) → ⊥)
-            → ImportsMatch (parts_view parts.entry)
-            → IsPlan (parts_view parts.entry) (places plan)) }
+        ensures planned { IfOk result (PlansItems parts.entry) }
         ensures fails { IsOkUnless result out_of_memory }
     {
         let brought = brought_ids(alloc, parts.imports)?;

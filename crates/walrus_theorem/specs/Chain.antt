@@ -21,28 +21,31 @@ use Rattle.walrus_theorem.specs.WellMade.{IsCounted}
 abbrev pub alone : ℕ → CompType ℕ → TypeDef
 alone place comp = record { group = place ∷ []; sub = record { is_final = true; supertypes = []; comp = comp } }
 
--- Such a type stands at p, and it does not name itself: one that does has another shape than what is looked for.
+-- a final type alone in its group with this composite type stands at p, and does not name itself: one that does has another shape
 abbrev pub IsLoneTypeAt : CompType ℕ → List TypeDef → ℕ → Type 0
 IsLoneTypeAt comp types p = (slice_get types p ≡ Some (alone p comp)) × (Contains (comp_names comp) p → ⊥)
 
--- the first such type, or a new one behind all others
+-- a composite type has its place: the first type that stands alone with it, or a new one behind all others
 pub data TypeIsFoundOrAdded (comp : CompType ℕ) (old new : List TypeDef) (place : ℕ) : Type 0 where
   Found : IsLoneTypeAt comp old place → ((p : ℕ) → p < place → IsLoneTypeAt comp old p → ⊥) → new ≡ old → TypeIsFoundOrAdded comp old new place
   Added : ((p : ℕ) → IsLoneTypeAt comp old p → ⊥) → place ≡ length old → new ≡ old ++ alone place comp ∷ [] → TypeIsFoundOrAdded comp old new place
 
+-- each of these composite types in turn is found where it first stands alone in a group, or else added behind all types; `places` has where each is
 pub data AreFoundOrAdded : (comps : List (CompType ℕ)) (old new : List TypeDef) (places : List ℕ) → Type 0 where
   NoMore : (types : List TypeDef) → AreFoundOrAdded [] types types []
   AndThen : (comp : CompType ℕ) (comps : List (CompType ℕ)) (old middle new : List TypeDef) (p : ℕ) (ps : List ℕ) → TypeIsFoundOrAdded comp old middle p → AreFoundOrAdded comps middle new ps → AreFoundOrAdded (comp ∷ comps) old new (p ∷ ps)
 
+-- the function types that the legacy exception handlers of a function's body need; none where it has no body
 abbrev pub handlers_by : Abstract → Option Body → List (CompType ℕ)
 handlers_by m None = []
 handlers_by m (Some b) = handlers_of m b
 
--- function by function, in the order of their indices
+-- the types of legacy handlers are found or added, function by function, in the order of their indices
 pub data AddsHandlers (m : Abstract) (places : ℕ → List ℕ) : (fs : List ℕ) (old new : List TypeDef) → Type 0 where
   NoFunction : (types : List TypeDef) → AddsHandlers m places [] types types
   AndThose : (f : ℕ) (fs : List ℕ) (old middle new : List TypeDef) → AreFoundOrAdded (handlers_by m (body_of m f)) old middle (places f) → AddsHandlers m places fs middle new → AddsHandlers m places (f ∷ fs) old new
 
+-- the item is a type, and stands behind the first `count` types
 abbrev pub IsBehind : ℕ → Item → Type 0
 IsBehind count x = (x.0 ≡ Types) × (count ≤ x.1)
 
@@ -80,7 +83,7 @@ pub record ParsedAs (c : Config) (m v : Abstract) : Type 0 where
 
 -- ---- emission first adds the declared segment
 
--- behind all other segments, and without a name
+-- u has one element segment more than v: a declared one of these functions, behind all other segments, and without a name
 pub record HasSegment (v u : Abstract) (fs : List ℕ) : Type 0 where
   pub id : ℕ
   pub is : u.elements id ≡ Some (record { kind = DeclaredElements; items = ListedFunctions fs })
@@ -88,6 +91,7 @@ pub record HasSegment (v u : Abstract) (fs : List ℕ) : Type 0 where
   pub unnamed : own_name v (AnItem (Elements, id)) ≡ None
   pub others : (i : ℕ) → i ≢ id → u.elements i ≡ v.elements i
 
+-- u is v with one declared element segment more, which lists these functions; where there is none of them, u is v itself
 abbrev pub AddsSegment : Abstract → Abstract → List ℕ → Type 0
 AddsSegment v u [] = u ≡ v
 AddsSegment v u (f ∷ fs) = HasSegment v u (f ∷ fs) × (u ≡ record v { elements = u.elements })
@@ -98,7 +102,9 @@ pub record Leaves (v u : Abstract) : Type 0 where
   pub undeclared : AreUndeclared (IsLive v) v functions
   pub added : AddsSegment v u functions
 
--- ---- the chain: u is what is written for the module m that was read
+-- ---- the chain
+
+-- module m, which was read, comes to u: by parsing, by gc, and by emission
 pub record BringsTo (c : Config) (m u : Abstract) : Type 0 where
   pub module_parsed : Abstract
   pub module_kept : Abstract

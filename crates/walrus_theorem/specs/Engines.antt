@@ -23,10 +23,11 @@ use Rattle.walrus_theorem.specs.Once.{Premises}
 
 -- ---- what it sees of an item
 
--- no number is left
+-- each number becomes 0
 abbrev pub nothing : ℕ → ℕ
 nothing t = 0
 
+-- a renaming that leaves no number: each one, of an item, an import or a local, becomes 0
 abbrev pub blank : Renaming
 blank = record { numbers = λ space. nothing; imports = nothing; locals = λ f. nothing }
 
@@ -34,9 +35,11 @@ blank = record { numbers = λ space. nothing; imports = nothing; locals = λ f. 
 abbrev pub Source : Type 0
 Source = Option (Name × Name)
 
+-- an import's two names: the module's that it is from, and its own there
 abbrev pub names_of_import : Import → Name × Name
 names_of_import x = (x.module_name, x.name)
 
+-- the two names of the import of this number; none where there is no number, or no such import
 abbrev pub source : Abstract → Option ℕ → Source
 source m None = None
 source m (Some i) = option_map names_of_import (m.imports i)
@@ -47,6 +50,7 @@ pub record LocalSeen : Type 0 where
   pub parameter : Option ℕ
   pub ty : Option (ValType ℕ)
 
+-- what an engine sees of local x of a body: its first use, its place among the parameters, and its type with the numbers of types blanked
 abbrev pub local_seen : Body → ℕ → LocalSeen
 local_seen b x = record { first_use = place_in (used_locals b) x; parameter = place_in b.parameters x; ty = option_map (map_val nothing) (b.local_type x) }
 
@@ -55,14 +59,17 @@ pub record CodeSeen : Type 0 where
   pub operators : List Op
   pub uses : List LocalSeen
 
+-- what an engine sees of a body: its operators with the numbers of items and locals blanked, and of each use of a local in turn what it sees of that local
 abbrev pub code_seen : Body → CodeSeen
 code_seen b = record { operators = renamed_ops blank nothing b.operators; uses = map (local_seen b) (used_locals b) }
 
+-- the code that an engine sees of a function: that of its body, and none where it is imported or has no kind yet
 abbrev pub kind_seen : FunctionKind → Option CodeSeen
 kind_seen (LocalFunction b) = Some (code_seen b)
 kind_seen (ImportedFunction i) = None
 kind_seen Uninitialised = None
 
+-- all that an engine sees of an item that it looks at, by the index space of the item; `SeesNothing` where it looks at what is not there
 pub data Sight : Type 0 where
   -- how many members its group has, which of them it is, and what it says, its own group by positions
   SeesType : (members : ℕ) (position : Option ℕ) (sub : SubType Seen) → Sight
@@ -75,28 +82,37 @@ pub data Sight : Type 0 where
   SeesData : DataSegment → Sight
   SeesNothing : Sight
 
+-- what an engine sees of a type: how many members its recursive group has, which of them it is, and what it says, where types of its group stand by
+-- their positions and all others look alike
 abbrev pub type_sight : ℕ → TypeDef → Sight
 type_sight i x = SeesType (length x.group) (place_in x.group i) (map_sub (others_through nothing) (in_its_group x))
 
+-- what an engine sees of a function: the names of its import if it is imported, its code if it has a body; its type it looks at apart
 abbrev pub function_sight : Abstract → Function → Sight
 function_sight m f = SeesFunction (source m (kind_import f.kind)) (kind_seen f.kind)
 
+-- what an engine sees of a table: the names of its import if it is imported, its type and its initialiser, with the numbers of items blanked
 abbrev pub table_sight : Abstract → Table → Sight
 table_sight m t = SeesTable (source m (origin_import t.origin)) (renamed_table blank t)
 
+-- what an engine sees of a memory: the names of its import if it is imported, and its type
 abbrev pub memory_sight : Abstract → Memory → Sight
 memory_sight m t = SeesMemory (source m (origin_import t.origin)) (renamed_memory blank t)
 
+-- what an engine sees of a tag: the names of its import if it is imported, with the number of its type blanked
 abbrev pub tag_sight : Abstract → Tag → Sight
 tag_sight m t = SeesTag (source m (origin_import t.origin)) (renamed_tag blank t)
 
+-- what an engine sees of a global: the names of its import if it is imported, its type and its initialiser, with the numbers of items blanked
 abbrev pub global_sight : Abstract → Global → Sight
 global_sight m g = SeesGlobal (source m (origin_import g.origin)) (renamed_global blank g)
 
+-- the sight of what is there, or that of nothing where nothing is
 abbrev pub seen_by : {X : Type 0} → (X → Sight) → Option X → Sight
 seen_by see None = SeesNothing
 seen_by see (Some x) = see x
 
+-- what an engine sees when it looks at this item of the module
 abbrev pub sight : Abstract → Item → Sight
 sight m (Types, i) = seen_by (type_sight i) (m.types i)
 sight m (Functions, i) = seen_by (function_sight m) (m.functions i)
@@ -120,11 +136,13 @@ is_one x y = false
 
 -- ---- what a module shows
 
+-- an element segment of this kind is active, neither passive nor declared
 abbrev pub IsActive : ElementKind → Type 0
 IsActive (ActiveElements table offset) = Unit {0}
 IsActive PassiveElements = ⊥
 IsActive DeclaredElements = ⊥
 
+-- a data segment of this kind is active, not passive
 abbrev pub IsActiveKind : DataKind → Type 0
 IsActiveKind (ActiveData memory offset) = Unit {0}
 IsActiveKind PassiveData = ⊥
@@ -134,13 +152,15 @@ pub record AreAll (P : ℕ → Type 0) (numbers : List ℕ) : Type 0 where
   pub rising : AllPairs (λ i j. i < j) numbers
   pub are : (i : ℕ) → Contains numbers i ↔ P i
 
+-- element segment i is there, and is active
 abbrev pub IsActiveElement : Abstract → ℕ → Type 0
 IsActiveElement m i = (e : Element) × (m.elements i ≡ Some e) × IsActive e.kind
 
+-- data segment i is there, and is active
 abbrev pub IsActiveData : Abstract → ℕ → Type 0
 IsActiveData m i = (d : DataSegment) × (m.data_segments i ≡ Some d) × IsActiveKind d.kind
 
--- its active segments
+-- the active segments of a module: lists that have each of them once
 pub record Segments (m : Abstract) : Type 0 where
   pub elements : List ℕ
   pub elements_are : AreAll (IsActiveElement m) elements
@@ -154,9 +174,11 @@ pub record Face : Type 0 where
   pub elements : ℕ
   pub data_segments : ℕ
 
+-- what m shows to an engine at the start, before it looks at any item; s has the active segments of m
 abbrev pub face : (m : Abstract) → Segments m → Face
 face m s = record { exports = map (λ (e : Export). (e.name, e.item.0)) m.exports; starts = is_some m.start; elements = length s.elements; data_segments = length s.data_segments }
 
+-- the start function as an item, if there is one
 abbrev pub start_items : Option ℕ → List Item
 start_items None = []
 start_items (Some f) = (Functions, f) ∷ []
@@ -187,10 +209,12 @@ abbrev pub looked : Abstract → Walk → (Sight → List ℕ) → Option Item �
 looked m w note None = record { notes = note SeesNothing; items = w.items }
 looked m w note (Some x) = record { notes = note (sight m x); items = w.items ++ written_in m x }
 
+-- what an engine is told where it asks whether two are one item: of types, and of what it has not come to, always no
 abbrev pub compared : Option Item → Option Item → Bool
 compared (Some x) (Some y) = is_one x y
 compared x y = false
 
+-- an engine's walk after one question more: it has the notes that it makes of the answer, and has come to what is named in the item that it looked at
 abbrev pub answered : Abstract → Walk → Ask → Walk
 answered m w (LookAt k note) = looked m w note (slice_get w.items k)
 answered m w (AreOne k l note) = record { notes = note (compared (slice_get w.items k) (slice_get w.items l)); items = w.items }
@@ -202,6 +226,7 @@ walked e m w (suc k) = answered m (walked e m w k) (e.next (walked e m w k).note
 
 -- it begins with what the module shows, or, with any notes, at one item
 
+-- where an engine begins on a module: with its first notes, of what the module shows, and at the items of what it shows
 abbrev pub at_face : Engine → (m : Abstract) → Segments m → Walk
 at_face e m s = record { notes = e.first (face m s); items = shown m s }
 

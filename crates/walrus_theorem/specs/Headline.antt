@@ -21,11 +21,13 @@ use Rattle.walrus_theorem.specs.Spelling.{IsSpelledAs}
 
 -- ---- bodies, legacy exceptions included where the configuration has them
 
+-- the bytes of a function's body say this, the types of its declared locals and its operators, with the proposals that the configuration allows
 abbrev pub ReadsBody : Config → wire.Module → ℕ × wire.Body → Said → Type 0
 ReadsBody c s f body = ReadsBodyWith (features_of c) s f body
 
 -- ---- names and producers: of each payload what stands whole before its first fault
 
+-- the data of each custom section of this name, in the order in which they stand
 abbrev pub payloads : Name → wire.Module → List (List ℕ)
 payloads name s = map (λ (c : wire.Custom). c.bytes) (filter (λ (c : wire.Custom). bytes_eq c.name name) s.customs)
 
@@ -37,12 +39,16 @@ has_function s f = nat_lt f (length (function_types s))
 abbrev pub DataCountHolds : wire.Module → Type 0
 DataCountHolds s = (n : ℕ) → s.data_count ≡ Some n → n ≡ length s.data_segments
 
+-- a value of the producers section, from its name and its version (tool-conventions, "Producers Section")
 abbrev pub value_of : List ℕ × List ℕ → ProducerValue
 value_of v = record { name = v.0; version = v.1 }
 
+-- a field of the producers section, from its name and its values (tool-conventions, "Producers Section")
 abbrev pub field_of : Field → ProducerField
 field_of f = record { name = f.0; values = map value_of f.1 }
 
+-- the bytes read as the module m: sections in the standard's order, a body that reads for each function that is no import, a data count that is right, and
+-- of names and producers what stands whole before the first fault, out-of-range names left out; that m keeps the rules of validation is not said here
 pub record ReadsModule (c : Config) (bytes : List ℕ) (m : Abstract) : Type 0 where
   pub sections : wire.Module
   pub framed : Frames bytes sections

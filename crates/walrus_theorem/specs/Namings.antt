@@ -7,6 +7,7 @@ use Rattle.walrus_base.specs.Operators.{Space, Types, Functions, Tables, Memorie
 use Rattle.walrus_model.specs.Abstract.{Abstract, Name, Subject, TheModule, AnItem, ALocal, Body}
 use Rattle.walrus_model.specs.Names.{body_of}
 
+-- the index space to whose items a subsection of the name section gives names
 abbrev pub space_of : NameSpace → Space
 space_of spaces.Functions = Functions
 space_of spaces.Types = Types
@@ -34,12 +35,14 @@ subsection Elements = 8
 subsection DataSegments = 9
 subsection Tags = 11
 
+-- whether two subjects are one: both are the module, or one item, or one local of one function
 abbrev pub is_same : Subject → Subject → Bool
 is_same TheModule TheModule = true
 is_same (AnItem x) (AnItem y) = subsection x.0 == subsection y.0 && x.1 == y.1
 is_same (ALocal f x) (ALocal g y) = f == g && x == y
 is_same x y = false
 
+-- whether the module has an item of this index space and number
 abbrev pub has : Abstract → Item → Bool
 has m (Types, i) = is_some (m.types i)
 has m (Functions, i) = is_some (m.functions i)
@@ -50,6 +53,7 @@ has m (Globals, i) = is_some (m.globals i)
 has m (Elements, i) = is_some (m.elements i)
 has m (DataSegments, i) = is_some (m.data_segments i)
 
+-- whether there is a body and x is below the count of its parameters and declared locals
 abbrev pub has_local : ℕ → Option Body → Bool
 has_local x None = false
 has_local x (Some b) = nat_lt x (length b.parameters + b.declared)
@@ -65,6 +69,6 @@ abbrev pub names_given : List Named → Subject → List Name
 names_given [] x = []
 names_given (naming ∷ namings) x = (if is_same (naming_of naming).0 x then (naming_of naming).1 ∷ [] else []) ++ names_given namings x
 
--- those of a subject that is there in the module
+-- the names given to a subject that is there in the module, in their order
 abbrev pub names_in_range : Abstract → List Named → Subject → List Name
 names_in_range m namings x = if is_in_range m x then names_given namings x else []

@@ -14,6 +14,7 @@ use Rattle.walrus_model.specs.Renaming.{Renaming}
 -- ---- declared locals go by the rank of their types, references by their lowest locals; those of one type by their numbers
 
 module _ (b : Body) where
+  -- x is a local of the body, and has this type
   abbrev pub LocalHasType : ℕ → ValType ℕ → Type 0
   LocalHasType x v = b.local_type x ≡ Some v
 
@@ -25,9 +26,11 @@ module _ (b : Body) where
   abbrev pub LocalTypeBeginsBefore : ValType ℕ → ValType ℕ → Type 0
   LocalTypeBeginsBefore v w = (x : ℕ) × (DeclaresLocal x × LocalHasType x v × ((y : ℕ) → DeclaresLocal y → LocalHasType y w → x < y))
 
+  -- locals of type v are declared in front of those of type w: v has the lower rank, or both have one and v has a declared local below all those of w
   abbrev pub LocalTypeGoesBefore : ValType ℕ → ValType ℕ → Type 0
   LocalTypeGoesBefore v w = (rank v < rank w) ⊎ ((rank v ≡ rank w) × LocalTypeBeginsBefore v w)
 
+  -- local x goes before local y where both are declared: its type goes before that of y, or both have one type and x has the lower number
   abbrev pub LocalGoesBefore : ℕ → ℕ → Type 0
   LocalGoesBefore x y = (v : ValType ℕ) × ((w : ValType ℕ) × (LocalHasType x v × LocalHasType y w × (LocalTypeGoesBefore v w ⊎ ((v ≡ w) × (x < y)))))
 

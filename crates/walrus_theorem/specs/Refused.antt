@@ -29,10 +29,11 @@ pub data HasTwoIndices (v : Abstract) : Type 0 where
 
 -- ---- NoIndex: an item has none. All that is live is written, so each item needs one.
 
--- an initialiser reads the global
+-- the initialiser of this table reads this global
 abbrev pub TableReads : Abstract → (table global : ℕ) → Type 0
 TableReads v i g = (t : Table) × ((ops : List Op) × ((v.tables i ≡ Some t) × (t.initialiser ≡ Some ops) × Contains (names_of ops) (Globals, g)))
 
+-- the initialiser of this global reads that one
 abbrev pub GlobalReads : Abstract → (reader global : ℕ) → Type 0
 GlobalReads v i g = (x : Global) × ((ops : List Op) × ((v.globals i ≡ Some x) × (x.initialiser ≡ Some ops) × Contains (names_of ops) (Globals, g)))
 
@@ -71,6 +72,8 @@ pub record WritesUnfit (c : Config) (v : Abstract) : Type 0 where
 abbrev pub PassesLimit : Limits → Type 0
 PassesLimit l = (l.wide ≡ false) × ((2 ^ 32 ≤ l.minimum) ⊎ ((n : ℕ) × ((l.maximum ≡ Some n) × (2 ^ 32 ≤ n))))
 
+-- a count, a size or a limit of the module in memory passes 32 bits: an index space has 2 ^ 32 items, a body too many locals, a 32-bit table or memory a
+-- limit of 2 ^ 32 or more, or, where it names nothing dead, a section of what it is written as does not fit
 pub data PassesLimits (c : Config) (v : Abstract) : Type 0 where
   ManyItems : (space : Space) (numbers : List ℕ) → AllPairs (λ i j. i < j) numbers → All (Has v space) numbers → 2 ^ 32 ≤ length numbers → PassesLimits c v
   ManyLocals : (f : ℕ) (b : Body) (further : List ℕ) → body_of v f ≡ Some b → AllPairs (λ (x : ℕ) (y : ℕ). x ≢ y) further → All (IsUsed b) further → All (λ (x : ℕ). Contains b.parameters x → ⊥) further → (2 ^ 32 ≤ length further) ⊎ (2 ^ 32 < length (b.parameters ++ further)) → PassesLimits c v

@@ -11,6 +11,6 @@ use Rattle.walrus_theorem.specs.Namings.{names_in_range}
 abbrev pub items_of : wire.Module → List Said → List ProducerField → Abstract
 items_of s bodies fields = record (sections.module_of s bodies) { producers = fields }
 
--- the same with these namings, those out of range left out
+-- the module of these sections, bodies, producers and namings, those out of range left out
 abbrev pub module_of : wire.Module → List Said → List ProducerField → List Named → Abstract
 module_of s bodies fields namings = record (items_of s bodies fields) { named = names_in_range (items_of s bodies fields) namings }

@@ -9,7 +9,7 @@ use Rattle.walrus_model.specs.Live.{IsLive}
 use Rattle.walrus_model.specs.Names.{own_name, MayBeNamed, AreNamed}
 use Rattle.walrus_model.specs.Renaming.{Renaming, unchanged}
 
--- a type that has the shape of one that was there
+-- the item is a type, and has the shape of a type that n has
 abbrev pub IsLike : Abstract → Abstract → Item → Type 0
 IsLike n n2 (Types, j) = (i : ℕ) × SameShape n.types i n2.types j
 IsLike n n2 x = ⊥

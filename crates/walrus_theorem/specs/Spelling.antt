@@ -23,6 +23,8 @@ use Rattle.walrus_theorem.specs.Text.{BodyText, NameMap, NameText, namings_of, T
 
 -- ---- bodies: one declaration a type, none for no local, types by their rank; and each operator stands in its one form
 
+-- a body in its one form: its declarations have distinct types that can be spelled, by rising rank, and each declares some local; and each operator
+-- stands in the one form that spells it
 pub record BodyStands (t : BodyText) : Type 0 where
   pub apart : AllPairs (λ (d : ℕ × RawVal) (e : ℕ × RawVal). d.1 ≢ e.1) t.declarations
   pub filled : All (λ (d : ℕ × RawVal). 0 < d.0) t.declarations
@@ -37,17 +39,21 @@ UsesAll b = (x : ℕ) → length b.parameters ≤ x → x < length b.parameters 
 -- ---- element segments: an active one names no table exactly where that is table 0, which is 32-bit, and it lists functions, or
 -- expressions of the type of all functions (flags 0 and 4)
 
+-- the table is there, and its addresses are 32-bit
 abbrev pub IsNarrow : Option Table → Type 0
 IsNarrow None = ⊥
 IsNarrow (Some t) = t.ty.limits.wide ≡ false
 
+-- the items are function indices, or expressions of the type (ref null func)
 abbrev pub ArePlain : entries.Items → Type 0
 ArePlain (entries.Functions fs) = Unit {0}
 ArePlain (entries.Expressions ty es) = ty ≡ any_function
 
+-- an active segment can do without a table index: its table is table 0, that is 32-bit, and its items are function indices or expressions of (ref null func)
 abbrev pub IsShort : Abstract → (table : ℕ) → entries.Items → Type 0
 IsShort n table items = (table ≡ 0) × IsNarrow (n.tables table) × ArePlain items
 
+-- an active element segment leaves out its table index exactly where it can; passive and declared segments have no choice
 abbrev pub IsChosen : Abstract → entries.ElementMode → entries.Items → Type 0
 IsChosen n (entries.ActiveElements None offset) items = IsShort n 0 items
 IsChosen n (entries.ActiveElements (Some table) offset) items = IsShort n table items → ⊥
@@ -56,30 +62,38 @@ IsChosen n entries.DeclaredElements items = Unit {0}
 
 -- ---- data count: it is due where a segment is passive or a body names one, and counts them
 
+-- the data segment is there, and passive
 abbrev pub IsPassive : Option DataSegment → Type 0
 IsPassive None = ⊥
 IsPassive (Some d) = d.kind ≡ PassiveData
 
+-- there is a body, and one of its operators names data segment d
 abbrev pub NamesData : Option Body → ℕ → Type 0
 NamesData None d = ⊥
 NamesData (Some b) d = Contains (names_of b.operators) (DataSegments, d)
 
+-- a data count is due: some data segment is passive, or some body names a data segment (Data Count Section)
 abbrev pub NeedsCount : Abstract → Type 0
 NeedsCount n = ((d : ℕ) × IsPassive (n.data_segments d)) ⊎ ((f : ℕ) × ((d : ℕ) × NamesData (body_of n f) d))
 
+-- the data count is right: where it is due it is the number of data segments, and where not there is none
 abbrev pub IsCount : Abstract → (segments : ℕ) → Option ℕ → Type 0
 IsCount n segments None = NeedsCount n → ⊥
 IsCount n segments (Some count) = NeedsCount n × (count ≡ segments)
 
 -- ---- names: each map by rising index, so that it names no item twice; what is named is there; texts are UTF-8
 
+-- a name map in strictly rising order of its indices, all of whose names are UTF-8 (Name Maps)
 abbrev pub MapStands : NameMap → Type 0
 MapStands names = AllPairs (λ (d : ℕ × Name) (e : ℕ × Name). d.0 < e.0) names × All (λ (e : ℕ × Name). IsUtf8 e.1) names
 
+-- the name is UTF-8, or there is none
 abbrev pub NameStands : Option Name → Type 0
 NameStands None = Unit {0}
 NameStands (Some name) = IsUtf8 name
 
+-- what a name section says is in its one form: indices rise strictly, no function stands there without a named local, names are UTF-8, and what is named
+-- is there in n
 pub record NamesStand (n : Abstract) (t : NameText) : Type 0 where
   pub module_name : NameStands t.module_name
   pub items : (space : NameSpace) → MapStands (t.items space)
@@ -89,17 +103,21 @@ pub record NamesStand (n : Abstract) (t : NameText) : Type 0 where
 
 -- ---- producers: texts are UTF-8
 
+-- a producers value's name and version are UTF-8
 abbrev pub ValueIsText : ProducerValue → Type 0
 ValueIsText v = IsUtf8 v.name × IsUtf8 v.version
 
+-- a producers field's name is UTF-8, and so are the names and versions of its values
 abbrev pub FieldIsText : ProducerField → Type 0
 FieldIsText f = IsUtf8 f.name × All ValueIsText f.values
 
 -- ---- other custom sections: those of dynamic linking, and the others, none of which is a name, producers or debug section
 
+-- whether a custom section is one of dynamic linking: its name is dylink or dylink.0
 abbrev pub is_dylink : wire.Custom → Bool
 is_dylink c = bytes_eq c.name (codes "dylink") || bytes_eq c.name (codes "dylink.0")
 
+-- whether a custom section is none of dynamic linking, and no name, producers or debug section
 abbrev pub is_other : wire.Custom → Bool
 is_other c = not (is_dylink c || is_apart c.name)
 

@@ -45,7 +45,7 @@ module _ {V : Type 0} {O : V → Type 0} (G : (v : V) → Ghosts (O v)) (Gives :
 
   why : (read : Module (SectionEntry V O)) (ids : IndicesToIds) → IsHanded G defaults Gives bytes read ids → (e : Error) → RefusesIndexed index name ids (exports read.exports) e → Refuses (contents_of read) e
   why read ids handed (Memory m) h = tt
-  why read ids handed NotFound h = none_at (features_of c) bytes (contents_of read) handed.taken handed.types ids handed.numbered index h
+  why read ids handed NotFound h = none_at (features_of c) bytes (contents_of read) handed.read.taken handed.types ids handed.numbered index h
   why read ids handed (Caller text) h = h
   why read ids handed e h = absurd h
 
@@ -56,22 +56,22 @@ module _ {V : Type 0} {O : V → Type 0} (G : (v : V) → Ghosts (O v)) (Gives :
 
   refused : (e : Error) → RunsHook G does defaults Gives bytes (Err e) → AnswersEdited Held Refuses c bytes (Err e)
   refused e (inl h) = unread e h
-  refused e (inr (left, ran)) = edit_refused G Held Refuses c bytes ran.module_read (ran.handed).parsed (λ k h. h) (λ h. h) e (why ran.module_read ran.ids ran.handed e ran.did)
+  refused e (inr (left, ran)) = edit_refused G Held Refuses c bytes ran.module_read (ran.handed).read.found (λ k h. h) (λ h. h) e (why ran.module_read ran.ids ran.handed e ran.did)
 
   finishes : (m : Module (SectionEntry V O)) → HasRun G does defaults Gives bytes m (Ok tt) → (result : Result (Vec ℕ) Error) → FinishesReady G m result → AnswersEdited Held Refuses c bytes result
   finishes m ran result ends =
       let read = ran.module_read in
       let handed = ran.handed in
       let did = ran.did in
-      let at = one_at (features_of c) bytes (contents_of read) handed.taken handed.types ran.ids handed.numbered index (place did.function) did.indexed in
+      let at = one_at (features_of c) bytes (contents_of read) handed.read.taken handed.types ran.ids handed.numbered index (place did.function) did.indexed in
       let there = subst (λ (i : ℕ). item_at (functions read.funcs) i ≡ Some at.1.0) (sym at.0) at.1.1 in
       let whole : IsWhole c m = subst (λ (n : Module (SectionEntry V O)). IsWhole c n) (sym did.others)
-      (export_whole G c bytes read handed.parsed m.exports did.function name did.adds (some_there (item_at (functions read.funcs) (place did.function)) there)
-      (parsed_whole G Held Refuses c bytes read handed.parsed)) in
-      edit_finishes G Held Refuses c bytes read handed.parsed m
+      (export_whole G c bytes read handed.read.found m.exports did.function name did.adds (some_there (item_at (functions read.funcs) (place did.function)) there)
+      (parsed_whole G Held Refuses c bytes read handed.read.found)) in
+      edit_finishes G Held Refuses c bytes read handed.read.found m
       (record { function = at.1.0; there = at.1.1; id = did.function; at_index = at.0; adds = did.adds; others = ap (λ (n : Module (SectionEntry V O)). contents_of n) did.others })
-      (ap (λ (n : Module (SectionEntry V O)). n.customs) did.others) whole (handed.kept).raws (handed.kept).are
-      defaults (ap (λ (n : Module (SectionEntry V O)). settings n) did.others ∙ handed.configured) refl refl result ends
+      (ap (λ (n : Module (SectionEntry V O)). n.customs) did.others) whole (handed.read.kept).raws (handed.read.kept).are
+      defaults (ap (λ (n : Module (SectionEntry V O)). settings n) did.others ∙ handed.read.configured) refl refl result ends
 
 -- the same of a hook that a configuration was given, with the flags of that
 module _ {V : Type 0} {O : V → Type 0} (G : (v : V) → Ghosts (O v)) (Gives : ℕ → InstrLocId → Type 0) (bytes : List ℕ) (hook meant : Exporting) (is : hook ≡ meant) (f : Flags) (same : f ≡ defaults) where

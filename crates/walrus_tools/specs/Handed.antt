@@ -8,7 +8,7 @@ pub use Rattle.walrus.specs.Reported.{ReportsOn}
 pub use Rattle.walrus_theorem.specs.Headline.{Accepts}
 pub use Rattle.walrus.specs.Device.{Counts, WroteFront}
 pub use Rattle.walrus.specs.Headline.{ReadsWhole}
-pub use Rattle.walrus.specs.Message.{Tells}
+pub use Rattle.walrus.specs.Message.{IsUntouched, Stream, Tells, stream_of}
 pub use Rattle.walrus.specs.Tool.{CountsReads, CountsWrites}
 pub use Rattle.walrus.specs.declared.tool.ToolError.{ToolError}
 pub use Rattle.walrus.specs.declared.tool.ToolError.TheVariants.{Module, Read, Write}

@@ -33,80 +33,87 @@ use Rattle.wasm_entries.specs.declared.record.RawData.{RawData}
 
 -- ---- types ("Structure > Types")
 
--- "Function Types"
+-- a function type: the types of its parameters and of its results ("Function Types")
 pub record FuncType : Type 0 where
   pub params : List RawVal
   pub results : List RawVal
 
--- "Composite Types"
+-- a composite type: a function type, a struct type by its fields, or an array type by the field type of its elements ("Composite Types")
 pub data Comp : Type 0 where
   Function : FuncType → Comp
   Struct : List RawFieldType → Comp
   Array : RawFieldType → Comp
 
--- "Recursive Types"
+-- a sub type: whether it is final, the indices of its supertypes, any number here, though validation allows one, and its composite type ("Recursive Types")
 pub record Sub : Type 0 where
   pub is_final : Bool
   pub supers : List ℕ
   pub comp : Comp
 
+-- a recursive type: sub types, any number of them, that may name one another ("Recursive Types")
 abbrev pub Group : Type 0
 Group = List Sub
 
 -- ---- entries
 
+-- a constant expression by its instructions, without the end behind them ("Instructions > Expressions")
 abbrev pub Expression : Type 0
 Expression = List RawConst
 
--- "Imports"
+-- an import: the names of the module and of the item in it, as their bytes, and what it brings ("Imports")
 pub record Import : Type 0 where
   pub from : List ℕ
   pub name : List ℕ
   pub desc : RawDesc
 
--- "Tables"
+-- a table of the module: its type, and its initialiser where it has one ("Tables")
 pub record Table : Type 0 where
   pub ty : RawTableType
   pub initial : Option Expression
 
--- "Globals"
+-- a global of the module: its type and its initialiser ("Globals")
 pub record Global : Type 0 where
   pub ty : RawGlobalType
   pub initial : Expression
 
--- "Exports"
+-- an export: its name, as its bytes, and the kind and the index of what it names ("Exports")
 pub record Export : Type 0 where
   pub name : List ℕ
   pub kind : RawExportKind
   pub index : ℕ
 
--- "Element Segments"; an active one without a table stands for table 0
+-- the mode of an element segment: active, with a table and an offset, where no table stands for table 0; passive; or declarative ("Element Segments")
 pub data ElementMode : Type 0 where
   ActiveElements : Option ℕ → Expression → ElementMode
   PassiveElements DeclaredElements : ElementMode
 
+-- what an element segment lists: functions by their indices, or constant expressions with their reference type ("Element Segments")
 pub data Items : Type 0 where
   Functions : List ℕ → Items
   Expressions : RawRef → List Expression → Items
 
+-- an element segment: its mode, and what it lists ("Element Segments")
 pub record Element : Type 0 where
   pub mode : ElementMode
   pub items : Items
 
--- "Data Segments"
+-- the mode of a data segment: active, with a memory and an offset, or passive ("Data Segments")
 pub data DataMode : Type 0 where
   ActiveData : ℕ → Expression → DataMode
   PassiveData : DataMode
 
+-- a data segment: its mode and its bytes ("Data Segments")
 pub record Segment : Type 0 where
   pub mode : DataMode
   pub bytes : List ℕ
 
 -- ---- what the records in memory hold
 
+-- the function type that a record in memory holds, its vectors as lists
 abbrev pub func_type : RawFuncType → FuncType
 func_type t = record { params = t.params.items; results = t.results.items }
 
+-- the composite type that a record in memory holds, its vectors as lists
 abbrev pub comp : RawComp → Comp
 comp (comps.Func t) = Function (func_type t)
 comp (comps.Struct fields) = Struct fields.items

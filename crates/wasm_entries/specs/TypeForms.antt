@@ -19,10 +19,11 @@ storage_from b = choose (nat_eq b I8_TYPE) (Gives storages.I8)
     (choose (nat_eq b I16_TYPE) (Gives storages.I16)
     (Made storages.Val (value_from b)))
 
+-- a storage type: i8, i16 or a value type
 unfoldable pub storage_type : Form RawStorage
 storage_type = Led Byte storage_from
 
--- 00 or 01
+-- a flag of one byte, 00 or 01
 unfoldable pub flag : Form Bool
 flag = Made (λ b. nat_eq b 1) (Where (λ b. nat_lt b 2) Byte)
 
@@ -41,11 +42,13 @@ comp_from b = choose (nat_eq b FUNC_TYPE) (Made Function signature)
     (choose (nat_eq b ARRAY_TYPE) (Made Array field_type)
     Fails))
 
+-- a composite type: of a function, a struct or an array (Composite Types)
 unfoldable pub composite_type : Form Comp
 composite_type = Led Byte comp_from
 
 -- ---- recursive types
 
+-- a sub type behind the byte that says whether it is final: any number of supertypes, and a composite type (Recursive Types)
 unfoldable pub sub_with : Bool → Form Sub
 sub_with is_final = Made (λ x. record { is_final = is_final; supers = x.0; comp = x.1 }) (Vector U32 then composite_type)
 
@@ -55,13 +58,15 @@ sub_from b = choose (nat_eq b SUB_TYPE) (sub_with false)
     (choose (nat_eq b SUB_FINAL_TYPE) (sub_with true)
     (Made (λ c. record { is_final = true; supers = []; comp = c }) (comp_from b)))
 
+-- a sub type: open or final, with supertypes, or a composite type alone, which is final and has no supertype (Recursive Types)
 unfoldable pub sub_type : Form Sub
 sub_type = Led Byte sub_from
 
--- 4E: any number of types; else one alone
+-- a recursive type by its first byte: behind 4E any number of sub types, else one alone
 unfoldable pub group_from : ℕ → Form Group
 group_from b = choose (nat_eq b REC_TYPE) (Vector sub_type) (Made (λ s. s ∷ []) (sub_from b))
 
+-- a recursive type, which is an entry of the type section: sub types, any number of them, behind 4E, or one alone (Recursive Types)
 unfoldable pub group_form : Form Group
 group_form = Led Byte group_from
 
@@ -71,6 +76,7 @@ group_form = Led Byte group_from
 abbrev pub has : ℕ → ℕ → Bool
 has flags bit = not (nat_eq (bit_and flags bit) 0)
 
+-- something of this form where it is present, else nothing, which takes no byte
 unfoldable pub optional : {A : Type 0} → Bool → Form A → Form (Option A)
 optional present f = choose present (Made Some f) (Gives None)
 
@@ -83,7 +89,7 @@ unfoldable pub limits_of : ℕ → Form RawLimits
 limits_of flags = Made (λ x. record { minimum = x.0; maximum = x.1.0; shared = has flags 2; wide = has flags 4; page = x.1.1 })
     (size_form (has flags 4) then optional (has flags 1) (size_form (has flags 4)) then optional (has flags 8) U32)
 
--- (Memory Types)
+-- a memory type, which is its limits: flags below 16, and what these ask for (Memory Types)
 unfoldable pub memory_type : Form RawLimits
 memory_type = Led (Where (λ flags. nat_lt flags 16) Byte) limits_of
 
@@ -95,7 +101,7 @@ table_limits = Led (Where (λ flags. nat_lt flags 8 && not (has flags 2)) Byte) 
 unfoldable pub table_type_from : ℕ → Form RawTableType
 table_type_from b = Made (λ x. record { element = x.0; limits = x.1 }) (reference_from b then table_limits)
 
--- (Table Types)
+-- a table type: the reference type of its elements, and its limits (Table Types)
 unfoldable pub table_type : Form RawTableType
 table_type = Led Byte table_type_from
 

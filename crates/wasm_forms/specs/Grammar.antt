@@ -95,16 +95,19 @@ at (Where test f) bytes = at f bytes >>= λ x. if test x.0 then Some x else None
 at (Row f n) bytes = row_at (at f) n bytes
 at (Until stop f) bytes = until_at (λ b. at (f b)) stop (length bytes) bytes
 
--- Binary Format > Values > Integers
+-- an unsigned number of 32 bits, in at most five bytes (Binary Format > Values > Integers, u32)
 abbrev pub U32 : Form ℕ
 U32 = Number 5 (2 ^ 32)
 
+-- a signed number of 32 bits, in at most five bytes (Binary Format > Values > Integers, s32)
 abbrev pub S32 : Form ℤ
 S32 = Integer 5 (2 ^ 31)
 
+-- an unsigned number of 64 bits, in at most ten bytes (Binary Format > Values > Integers, u64)
 abbrev pub U64 : Form ℕ
 U64 = Number 10 (2 ^ 64)
 
+-- a signed number of 64 bits, in at most ten bytes (Binary Format > Values > Integers, s64)
 abbrev pub S64 : Form ℤ
 S64 = Integer 10 (2 ^ 63)
 
@@ -112,10 +115,11 @@ S64 = Integer 10 (2 ^ 63)
 abbrev pub Index : Form ℕ
 Index = Led Byte IndexFrom
 
--- the bits of a float, the lowest byte first (Binary Format > Values > Floating-Point)
+-- the bits of a float in four bytes, the lowest first (Binary Format > Values > Floating-Point)
 abbrev pub F32 : Form ℕ
 F32 = Made little (Bytes 4)
 
+-- the bits of a double-precision float in eight bytes, the lowest first (Binary Format > Values > Floating-Point, f64)
 abbrev pub F64 : Form ℕ
 F64 = Made little (Bytes 8)
 
@@ -127,6 +131,7 @@ Vector f = Led (Number 5 (2 ^ 32)) (λ n. Row f n)
 abbrev pub name : Form (List ℕ)
 name = Where is_utf8 Block
 
+-- one of two forms: the first where the condition is true, else the second
 abbrev pub choose : {A : Type 0} → Bool → Form A → Form A → Form A
 choose true f g = f
 choose false f g = g

@@ -43,7 +43,7 @@ IsU32 = IsNumber 5 (2 ^ 32)
 abbrev pub IsS32 : List ℕ → ℤ → Type 0
 IsS32 = IsInteger 5 (2 ^ 31)
 
--- s33 (Binary Format > Instructions > Control Instructions, block types)
+-- the bytes spell an integer as an s33: at most five bytes (Binary Format > Instructions > Control Instructions, block types)
 abbrev pub IsS33 : List ℕ → ℤ → Type 0
 IsS33 = IsInteger 5 (2 ^ 32)
 

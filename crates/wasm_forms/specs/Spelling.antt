@@ -29,10 +29,11 @@ abbrev pub little_bytes : ℕ → ℕ → List ℕ
 little_bytes zero n = []
 little_bytes (suc count) n = (n % 256) ∷ little_bytes count (n / 256)
 
--- the bits of a float (Binary Format > Values > Floating-Point)
+-- the bits of a float in four bytes, the lowest first (Binary Format > Values > Floating-Point)
 abbrev pub f32_bytes : ℕ → List ℕ
 f32_bytes bits = little_bytes 4 bits
 
+-- the bits of a double-precision float in eight bytes, the lowest first (Binary Format > Values > Floating-Point)
 abbrev pub f64_bytes : ℕ → List ℕ
 f64_bytes bits = little_bytes 8 bits
 

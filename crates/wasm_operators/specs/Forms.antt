@@ -27,6 +27,7 @@ block_from b =
     (choose (nat_lt EMPTY_BLOCK b && nat_lt b 128) (Made OneResult (value_from b))
     (Made OfType (IndexFrom b)))
 
+-- the type of a block: no result, one value type, or the index of a type (Control Instructions)
 unfoldable pub block_type : Form RawBlock
 block_type = Led Byte block_from
 
@@ -37,9 +38,11 @@ catch_from b =
     (choose (nat_lt b 4) (Made (λ l. args.Byte b ∷ args.Label l ∷ []) U32)
     Fails)
 
+-- a catch clause of try_table: the byte of its kind, a tag where that kind has one, and a label (Control Instructions)
 unfoldable pub catch_clause : Form (List RawArg)
 catch_clause = Led Byte catch_from
 
+-- the arguments that a list in an instruction gives: the count, and then those of each entry in turn
 abbrev pub counted : {A : Type 0} → ℕ → (A → List RawArg) → List A → List RawArg
 counted n make xs = args.Count n ∷ flat_map make xs
 
@@ -49,14 +52,19 @@ several make f = Led U32 (λ n. Made (counted n make) (Row f n))
 
 -- ---- "Memory Instructions": flags; where their bit 40 is set a memory, else memory 0; and an offset
 
+-- whether the flags of a memory argument have bit 40 set, which says that the index of a memory follows
 abbrev pub has_memory : ℕ → Bool
 has_memory flags = nat_eq ((flags / 64) % 2) 1
 
+-- what follows the flags of a memory argument: the index of a memory where bit 40 is set, and the offset, a u64; the flags are kept
+-- without that bit
 unfoldable pub access_from : ℕ → Form RawArg
 access_from flags =
     choose (has_memory flags) (Made (λ x. args.Access (flags - 64) x.0 x.1) (U32 then U64))
     (Made (λ offset. args.Access flags 0 offset) U64)
 
+-- a memory argument: flags, which hold the alignment, a memory and an offset; flags from 80 on, which the standard does not have, are
+-- taken too (Memory Instructions, memarg)
 unfoldable pub access : Form RawArg
 access = Led U32 access_from
 
@@ -96,6 +104,7 @@ args_form (kind ∷ rest) = Made (λ x. x.0 ++ x.1) (arg_form kind then args_for
 
 -- ---- operators
 
+-- the operator of this number with these arguments
 abbrev pub with_args : ℕ → List RawArg → Op
 with_args op args = record { op = op; args = args }
 
@@ -104,6 +113,7 @@ abbrev pub behind : ℕ → Option (List Kind) → Form Op
 behind op None = Fails
 behind op (Some kinds) = Made (with_args op) (args_form kinds)
 
+-- what stands behind an operator's number: its arguments; nothing may where there is no such operator
 unfoldable pub operator_of : ℕ → Form Op
 operator_of op = behind op (kinds_of op)
 
@@ -117,5 +127,7 @@ operator_from b =
     choose (is_prefix b) (Led (Where (λ n. nat_lt n 65536) U32) (λ n. operator_of (b * 65536 + n)))
     (operator_of b)
 
+-- an operator with its arguments: an instruction of the standard or of the proposals in the table, of a block only its beginning,
+-- with `else` and `end` as operators of their own
 unfoldable pub operator : Form Op
 operator = Led Byte operator_from

@@ -11,6 +11,7 @@ use Rattle.wasm_operators.specs.Operators.{Op}
 
 -- ---- arguments
 
+-- a block's type as it is written: 40 for no result, a value type, or the index of a type as an s33 (Control Instructions)
 abbrev pub block_bytes : RawBlock → List ℕ
 block_bytes NoResult = EMPTY_BLOCK ∷ []
 block_bytes (OneResult v) = value_bytes v
@@ -22,6 +23,7 @@ access_bytes flags memory offset =
     if nat_eq memory 0 then number_bytes flags ++ number_bytes offset
     else number_bytes (flags + 64) ++ number_bytes memory ++ number_bytes offset
 
+-- one argument of an instruction as it is written, integers in their shortest spelling
 abbrev pub arg_bytes : RawArg → List ℕ
 arg_bytes (args.Function n) = number_bytes n
 arg_bytes (args.«Type» n) = number_bytes n
@@ -51,5 +53,6 @@ arg_bytes (args.Access flags memory offset) = access_bytes flags memory offset
 abbrev pub code_bytes : ℕ → List ℕ
 code_bytes op = if nat_lt op 65536 then (op % 256) ∷ [] else ((op / 65536) % 256) ∷ number_bytes (op % 65536)
 
+-- an operator as it is written: its byte, or its prefix byte and number, and its arguments one after another
 abbrev pub op_bytes : Op → List ℕ
 op_bytes o = code_bytes o.op ++ row_bytes arg_bytes o.args

@@ -10,7 +10,7 @@ pub record Row : Type 0 where
   pub last : ℕ
   pub kinds : List Kind
 
--- the operators of a byte
+-- the operators of bytes from the first to the last, which have these kinds of arguments
 abbrev pub bytes : ℕ → ℕ → List Kind → Row
 bytes first last kinds = record { first = first; last = last; kinds = kinds }
 
@@ -20,6 +20,7 @@ prefixed lead first last kinds = record { first = lead * 65536 + first; last = l
 
 -- ---- "Control Instructions", with those of legacy exceptions: try 06, catch 07, rethrow 09, delegate 18, catch_all 19
 
+-- the operators of blocks, branches, calls, returns and exceptions, with unreachable and nop, but without br_on_cast and br_on_cast_fail
 abbrev pub control : List Row
 control =
     bytes 0x00 0x01 [] ∷
@@ -44,6 +45,7 @@ control =
 
 -- ---- "Parametric Instructions", "Variable Instructions", "Table Instructions"
 
+-- the operators drop and select, those of locals and globals, and those of tables and element segments
 abbrev pub values : List Row
 values =
     bytes 0x1A 0x1B [] ∷
@@ -58,6 +60,7 @@ values =
 
 -- ---- "Memory Instructions", with those of threads (FE)
 
+-- the operators that load and store numbers, those of whole memories and data segments, and atomic ones; vectors aside
 abbrev pub memories : List Row
 memories =
     bytes 0x28 0x3E (Access ∷ []) ∷
@@ -72,6 +75,7 @@ memories =
 
 -- ---- "Numeric Instructions", with those of wide arithmetic (FC 13 to 16)
 
+-- the operators that give, compare, compute and convert numbers, the constants among them
 abbrev pub numerics : List Row
 numerics =
     bytes 0x41 0x41 (S32 ∷ []) ∷
@@ -84,6 +88,7 @@ numerics =
 
 -- ---- "Reference Instructions", "Aggregate Instructions"
 
+-- the operators of references, structures, arrays and i31, casts and conversions among them, with br_on_cast and br_on_cast_fail
 abbrev pub references : List Row
 references =
     bytes 0xD0 0xD0 (Heap ∷ []) ∷
@@ -108,6 +113,7 @@ references =
 
 -- ---- "Vector Instructions"; numbers between them that the standard leaves free are taken too
 
+-- the operators of vectors, their loads and stores and the relaxed ones among them
 abbrev pub vectors : List Row
 vectors =
     prefixed 0xFD 0x00 0x0B (Access ∷ []) ∷
@@ -121,6 +127,7 @@ vectors =
 
 -- ---- the table
 
+-- all operators that are taken, with the kinds of their arguments
 abbrev pub table : List Row
 table = control ++ values ++ memories ++ numerics ++ references ++ vectors
 
@@ -128,6 +135,7 @@ table = control ++ values ++ memories ++ numerics ++ references ++ vectors
 abbrev pub is_in : Row → ℕ → Bool
 is_in row op = not (nat_lt op row.first) && not (nat_lt row.last op)
 
+-- the kinds of an operator's arguments by the first of these rows that has it; none where no row has it
 abbrev pub kinds_in : List Row → ℕ → Option (List Kind)
 kinds_in [] op = None
 kinds_in (row ∷ rows) op = if is_in row op then Some row.kinds else kinds_in rows op

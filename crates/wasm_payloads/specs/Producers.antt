@@ -15,6 +15,7 @@ value = name then name
 abbrev pub Field : Type 0
 Field = List ℕ × List (List ℕ × List ℕ)
 
+-- how a field is spelled: its name, the count of its values, and these; each name and version is UTF-8
 abbrev pub field : Form Field
 field = name then Vector value
 

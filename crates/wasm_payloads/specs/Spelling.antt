@@ -19,12 +19,15 @@ pub record NameText : Type 0 where
   pub items : NameSpace → NameMap
   pub locals : List (ℕ × NameMap)
 
+-- an index and its name as they are written (Name Maps)
 abbrev pub entry_bytes : ℕ × List ℕ → List ℕ
 entry_bytes e = number_bytes e.0 ++ block_bytes e.1
 
+-- a name map as it is written: the count of its entries, and these in the order given (Name Maps)
 abbrev pub map_bytes : NameMap → List ℕ
 map_bytes names = vector_bytes entry_bytes names
 
+-- the names of a function's locals as they are written: the function's index, and a name map (Name Maps, indirect ones)
 abbrev pub function_bytes : ℕ × NameMap → List ℕ
 function_bytes f = number_bytes f.0 ++ map_bytes f.1
 
@@ -33,6 +36,7 @@ abbrev pub part_bytes : {X : Type 0} → (id : ℕ) → (X → List ℕ) → Lis
 part_bytes id spell [] = []
 part_bytes id spell (x ∷ xs) = id ∷ block_bytes (vector_bytes spell (x ∷ xs))
 
+-- the subsection of the module's name, which isn't written where there is no name (Module Names)
 abbrev pub module_name_bytes : Option (List ℕ) → List ℕ
 module_name_bytes None = []
 module_name_bytes (Some name) = 0 ∷ block_bytes (block_bytes name)
@@ -48,6 +52,7 @@ subsection_of spaces.Elements = 8
 subsection_of spaces.DataSegments = 9
 subsection_of spaces.Tags = 11
 
+-- the subsection that names the items of one index space, which isn't written where none has a name (Subsections)
 abbrev pub space_bytes : NameText → NameSpace → List ℕ
 space_bytes t space = part_bytes (subsection_of space) entry_bytes (t.items space)
 
@@ -61,9 +66,11 @@ names_bytes t = module_name_bytes t.module_name ++ space_bytes t spaces.Function
 
 -- ---- producers (tool-conventions, ProducersSection)
 
+-- a value of a producers field as it is written: a name and a version, such as a tool's
 abbrev pub value_bytes : List ℕ × List ℕ → List ℕ
 value_bytes v = block_bytes v.0 ++ block_bytes v.1
 
+-- a producers field as it is written: its name, the count of its values, and these
 abbrev pub field_bytes : Field → List ℕ
 field_bytes f = block_bytes f.0 ++ vector_bytes value_bytes f.1
 

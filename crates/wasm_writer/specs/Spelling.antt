@@ -16,6 +16,7 @@ use Rattle.wasm_frames.specs.Frames.{Section, CustomSection, Types, Imports, Fun
 abbrev pub tag_bytes : ℕ → List ℕ
 tag_bytes t = 0 ∷ number_bytes t
 
+-- what a section holds as it is written, without the section's id and size
 abbrev pub content_bytes : Section → List ℕ
 content_bytes (CustomSection c) = custom_bytes c
 content_bytes (Types gs) = vector_bytes group_bytes gs
@@ -36,6 +37,7 @@ content_bytes (Tags ts) = vector_bytes tag_bytes ts
 abbrev pub section_bytes : ℕ → List ℕ → List ℕ
 section_bytes id content = id ∷ block_bytes content
 
+-- a whole section as it is written: its id, the size of its content, and the content (Binary Format > Modules > Sections)
 abbrev pub spelled : Section → List ℕ
 spelled s = section_bytes (id_of s) (content_bytes s)
 
@@ -56,6 +58,7 @@ all_spelled (s ∷ ss) = spelled s ++ all_spelled ss
 
 -- ---- what fits: counts, sizes, and limits that aren't wide, below 2 ^ 32
 
+-- the section's content can be counted: each count and each size within it, and each limit that isn't wide, is below 2 ^ 32
 abbrev pub EntriesFit : Section → Type 0
 EntriesFit (CustomSection c) = FitsLength c.name
 EntriesFit (Types gs) = FitsVector GroupFits gs
@@ -72,11 +75,14 @@ EntriesFit (DataSegments ds) = FitsVector DataFits ds
 EntriesFit (DataCount n) = ⊤
 EntriesFit (Tags ts) = FitsLength ts
 
+-- each count, each size and each limit that isn't wide, and the size of the section's content, is below 2 ^ 32
 abbrev pub SectionFits : Section → Type 0
 SectionFits s = EntriesFit s × FitsLength (content_bytes s)
 
 -- ---- what is spelled at all: numbers in the range of their kind, names that are text, expressions that aren't empty
 
+-- what the section holds has a spelling: numbers are in the range of their kind, names are UTF-8, expressions aren't empty, and
+-- expressions for table 0 by default are funcrefs; of plain bytes, such as function bodies, nothing is asked
 abbrev pub SectionStands : Section → Type 0
 SectionStands (CustomSection c) = IsUtf8 c.name
 SectionStands (Types gs) = All GroupStands gs

@@ -26,7 +26,7 @@ returns-then-not-are_in_order-clause-refused c =
     out_of_order c.args.parts c.requires.there (subst (λ b. OnFalse b (IsOutOfOrder (type_slots c.args.parts.types.now))) c.if-not-are_in_order.true c.are_in_order.ensures.cause)
 
 pub indices-requires : goal.indices-requires
-indices-requires c = record { distinct = λ s. ((c.in_ok-plan.ensures.plan c.requires.there c.in_ok-check_matched.ensures).holds s).differ }
+indices-requires c = record { distinct = λ s. ((c.in_ok-plan.ensures.planned.is_plan c.requires.there c.in_ok-check_matched.ensures).holds s).differ }
 
 pub count_of-data_count-requires : goal.count_of-data_count-requires
 count_of-data_count-requires c = record { there = c.requires.there; few = omega (arith, c.in_ok-indices.ensures.few DataSegments, length-map c.in_ok-plan.plan.data_.items place, c.len.ensures) }
@@ -36,27 +36,18 @@ returns-in_err-indices-clause-refused c =
     let p = err_from_is_err_and c.from_residual-in_err-indices.result c.from_residual-in_err-indices.ensures.1 in
     rw (p.1, p.2) (counts_refused c.args.parts c.in_ok-check_matched.ensures
     (c.in_ok-are_reads_in_order.ensures.in_order c.if-not-branch.false) (c.are_in_order.ensures.in_order.0 c.if-not-are_in_order.false)
-    (places c.in_ok-plan.plan) _ (c.in_ok-plan.ensures.plan c.requires.there c.in_ok-check_matched.ensures) c.in_err-indices.ensures.fails)
+    (places c.in_ok-plan.plan) _ (c.in_ok-plan.ensures.planned.is_plan c.requires.there c.in_ok-check_matched.ensures) c.in_err-indices.ensures.fails)
 
 pub returns-clause-prepared : goal.returns-clause-prepared
 returns-clause-prepared c =
-    let plan = c.in_ok-plan.ensures in
     record {
       matched = c.in_ok-check_matched.ensures;
       reads = c.in_ok-are_reads_in_order.ensures.in_order c.if-not-branch.false;
       in_order = c.are_in_order.ensures.in_order.0 c.if-not-are_in_order.false;
-      is_plan = plan.plan c.requires.there c.in_ok-check_matched.ensures;
+      is_plan = c.in_ok-plan.ensures.planned.is_plan c.requires.there c.in_ok-check_matched.ensures;
       numbered = c.in_ok-indices.ensures.value;
       few = c.in_ok-indices.ensures.few;
-      types = plan.types;
-      brought = plan.brought;
-      own = plan.own;
-      tables = plan.tables;
-      memories = plan.memories;
-      tags = plan.tags;
-      globals = plan.globals;
-      elements = plan.elements;
-      data_segments = plan.data_segments;
+      lists = c.in_ok-plan.ensures.planned.lists;
       data_count = subst (λ (n : ℕ). IsCount (parts_view c.args.parts) n c.count_of-data_count.result)
           (omega (arith, c.len.ensures, length-map c.in_ok-plan.plan.data_.items place)) c.count_of-data_count.ensures;
     }

@@ -24,7 +24,7 @@ use Rattle.walrus_writing.proofs.transform.code_transform.Goals as goal
 
 pub located_bodies-requires : goal.located_bodies-requires
 located_bodies-requires c = record {
-  indexed = ids_indexed c.args.parts c.requires.there (index_of c.args.prepared.now.indices) (places c.args.prepared.now.plan) c.requires.planned.is_plan c.requires.planned.numbered c.args.prepared.now.plan.own_functions.items _ c.requires.planned.own c.as_slice-order.ensures.value c.args.choices.now.features;
+  indexed = ids_indexed c.args.parts c.requires.there (index_of c.args.prepared.now.indices) (places c.args.prepared.now.plan) c.requires.planned.is_plan c.requires.planned.numbered c.args.prepared.now.plan.own_functions.items _ c.requires.planned.lists.own c.as_slice-order.ensures.value c.args.choices.now.features;
 }
 
 pub returns-in_err-bodies-clause-refused : goal.returns-in_err-bodies-clause-refused

@@ -27,7 +27,7 @@ use Rattle.walrus_writing.proofs.transform.item_places.Goals as goal
 
 pub raw_types-requires : goal.raw_types-requires
 raw_types-requires c = record {
-  numbered = λ t. c.requires.planned.numbered Types t ∙ ap (λ ps. place_in ps t) c.requires.planned.types;
+  numbered = λ t. c.requires.planned.numbered Types t ∙ ap (λ ps. place_in ps t) c.requires.planned.lists.types;
   indexed = no_type_lacks c.args.parts c.requires.there (index_of c.args.prepared.now.indices) (places c.args.prepared.now.plan) c.requires.planned.is_plan c.requires.planned.numbered;
 }
 
@@ -49,7 +49,7 @@ returns-in_err-imports-clause-refused c = λ sections same.
 
 pub raw_functions-requires : goal.raw_functions-requires
 raw_functions-requires c = record {
-  indexed = ids_typed c.args.parts c.requires.there (index_of c.args.prepared.now.indices) (places c.args.prepared.now.plan) c.requires.planned.is_plan c.requires.planned.numbered c.args.prepared.now.plan.own_functions.items _ c.requires.planned.own c.as_slice-order.ensures.value;
+  indexed = ids_typed c.args.parts c.requires.there (index_of c.args.prepared.now.indices) (places c.args.prepared.now.plan) c.requires.planned.is_plan c.requires.planned.numbered c.args.prepared.now.plan.own_functions.items _ c.requires.planned.lists.own c.as_slice-order.ensures.value;
 }
 
 pub raw_tables-requires : goal.raw_tables-requires
@@ -113,7 +113,7 @@ returns-in_err-places-clause-refused c = λ sections same.
     let p = err_from_is_err_and c.from_residual-in_err-places.result c.from_residual-in_err-places.ensures.1 in
     rw (p.1, p.2) (places_refused c.args.parts (task c.args.choices.now names sections) names refl c.args.prepared.now.plan c.in_ok-types.types.items c.in_ok-imports.imports.items c.in_ok-functions.functions.items c.in_ok-tables.tables.items c.in_ok-memories.memories.items c.in_ok-tags.tags.items c.in_ok-globals.globals.items c.in_ok-exports.exports.items (seen_in c.args.parts names c.args.choices.now.features c.args.prepared.now.plan.own_functions.items c.args.bodies.now c.requires.written) c.in_ok-elements.elements.items c.in_ok-data_segments.data_segments.items c.args.prepared.now.data_count
     plan.matched plan.reads plan.is_plan plan.numbered plan.few
-    plan.types plan.brought plan.tables plan.memories plan.tags plan.globals
+    plan.lists.types plan.lists.brought plan.lists.tables plan.lists.memories plan.lists.tags plan.lists.globals
     c.in_ok-types.ensures.value c.in_ok-imports.ensures.value
     (c.in_ok-functions.ensures.value ∙ ap (map (λ id. option_and_then (type_index names) ((parts_view c.args.parts).functions (place id)))) c.as_slice-order.ensures.value)
     c.in_ok-tables.ensures.value c.in_ok-tables.ensures.stand c.in_ok-tables.ensures.spelled
@@ -122,8 +122,8 @@ returns-in_err-places-clause-refused c = λ sections same.
     c.in_ok-exports.ensures.value c.in_ok-exports.ensures.text
     c.raw_start-start.result (ap (option_map (λ (i : ℕ). Some i)) c.raw_start-start.ensures ∙ start_indexed c.args.parts c.requires.there names (places c.args.prepared.now.plan) plan.is_plan plan.numbered)
     (seen_are c.args.parts names c.args.choices.now.features c.args.prepared.now.plan.own_functions.items c.args.bodies.now c.requires.written)
-    plan.elements c.in_ok-elements.ensures.value c.in_ok-elements.ensures.stand c.in_ok-elements.ensures.chosen c.in_ok-elements.ensures.spelled
-    plan.data_segments c.in_ok-data_segments.ensures.value c.in_ok-data_segments.ensures.stand c.in_ok-data_segments.ensures.spelled plan.data_count
+    plan.lists.elements c.in_ok-elements.ensures.value c.in_ok-elements.ensures.stand c.in_ok-elements.ensures.chosen c.in_ok-elements.ensures.spelled
+    plan.lists.data_segments c.in_ok-data_segments.ensures.value c.in_ok-data_segments.ensures.stand c.in_ok-data_segments.ensures.spelled plan.data_count
     _ _ _ (map custom_record c.args.dylinks.now) c.new.ensures.items
     (c.in_ok-code.ensures.value ∙ codes) c.in_ok-customs.ensures.value
     same CodePlaces _ c.in_err-places.ensures)
@@ -135,7 +135,7 @@ returns-clause-told c =
     let codes = sym (ap (map unplaced) (seen_texts c.args.parts names c.args.choices.now.features c.args.prepared.now.plan.own_functions.items c.args.bodies.now c.requires.written)) in
     places_told c.args.parts (task c.args.choices.now names []) names refl c.args.prepared.now.plan c.in_ok-types.types.items c.in_ok-imports.imports.items c.in_ok-functions.functions.items c.in_ok-tables.tables.items c.in_ok-memories.memories.items c.in_ok-tags.tags.items c.in_ok-globals.globals.items c.in_ok-exports.exports.items (seen_in c.args.parts names c.args.choices.now.features c.args.prepared.now.plan.own_functions.items c.args.bodies.now c.requires.written) c.in_ok-elements.elements.items c.in_ok-data_segments.data_segments.items c.args.prepared.now.data_count
     plan.matched plan.reads plan.is_plan plan.numbered plan.few
-    plan.types plan.brought plan.tables plan.memories plan.tags plan.globals
+    plan.lists.types plan.lists.brought plan.lists.tables plan.lists.memories plan.lists.tags plan.lists.globals
     c.in_ok-types.ensures.value c.in_ok-imports.ensures.value
     (c.in_ok-functions.ensures.value ∙ ap (map (λ id. option_and_then (type_index names) ((parts_view c.args.parts).functions (place id)))) c.as_slice-order.ensures.value)
     c.in_ok-tables.ensures.value c.in_ok-tables.ensures.stand c.in_ok-tables.ensures.spelled
@@ -144,8 +144,8 @@ returns-clause-told c =
     c.in_ok-exports.ensures.value c.in_ok-exports.ensures.text
     c.raw_start-start.result (ap (option_map (λ (i : ℕ). Some i)) c.raw_start-start.ensures ∙ start_indexed c.args.parts c.requires.there names (places c.args.prepared.now.plan) plan.is_plan plan.numbered)
     (seen_are c.args.parts names c.args.choices.now.features c.args.prepared.now.plan.own_functions.items c.args.bodies.now c.requires.written)
-    plan.elements c.in_ok-elements.ensures.value c.in_ok-elements.ensures.stand c.in_ok-elements.ensures.chosen c.in_ok-elements.ensures.spelled
-    plan.data_segments c.in_ok-data_segments.ensures.value c.in_ok-data_segments.ensures.stand c.in_ok-data_segments.ensures.spelled plan.data_count
+    plan.lists.elements c.in_ok-elements.ensures.value c.in_ok-elements.ensures.stand c.in_ok-elements.ensures.chosen c.in_ok-elements.ensures.spelled
+    plan.lists.data_segments c.in_ok-data_segments.ensures.value c.in_ok-data_segments.ensures.stand c.in_ok-data_segments.ensures.spelled plan.data_count
     _ _ _ (map custom_record c.args.dylinks.now) c.new.ensures.items
     (c.in_ok-code.ensures.value ∙ codes) c.in_ok-customs.ensures.value
     c.in_ok-places.places _ (seen_texts c.args.parts names c.args.choices.now.features c.args.prepared.now.plan.own_functions.items c.args.bodies.now c.requires.written) c.in_ok-places.ensures

@@ -27,7 +27,7 @@ use Rattle.walrus_writing.proofs.write.raw_items.Goals as goal
 
 pub raw_types-requires : goal.raw_types-requires
 raw_types-requires c = record {
-  numbered = λ t. c.requires.planned.1.numbered Types t ∙ ap (λ ps. place_in ps t) c.requires.planned.1.types;
+  numbered = λ t. c.requires.planned.1.numbered Types t ∙ ap (λ ps. place_in ps t) c.requires.planned.1.lists.types;
   indexed = no_type_lacks c.args.parts c.requires.there (index_of c.args.indices.now) (places c.requires.planned.0.plan) c.requires.planned.1.is_plan c.requires.planned.1.numbered;
 }
 
@@ -108,7 +108,7 @@ returns-then-is_none-clause-refused c = λ choices follow.
     let said = if_chosen choices.names (names_said c.args.parts (places follow.prepared.plan) (first_own follow.prepared.plan) (map (λ (b : BodySeen). b.used) follow.are_made.0)) in
     payloads_refused c.args.parts (task choices (index_of c.args.indices.now) (map custom_record c.args.own.now)) names refl follow.prepared.plan c.in_ok-types.types.items c.in_ok-imports.imports.items c.args.functions.items c.in_ok-tables.tables.items c.in_ok-memories.memories.items c.in_ok-tags.tags.items c.in_ok-globals.globals.items c.in_ok-exports.exports.items follow.are_made.0 c.in_ok-elements.elements.items c.in_ok-data_segments.data_segments.items c.args.count
     plan.matched plan.reads plan.is_plan plan.numbered plan.few
-    plan.types plan.brought plan.tables plan.memories plan.tags plan.globals
+    plan.lists.types plan.lists.brought plan.lists.tables plan.lists.memories plan.lists.tags plan.lists.globals
     c.in_ok-types.ensures.value c.in_ok-imports.ensures.value
     follow.functions_are
     c.in_ok-tables.ensures.value c.in_ok-tables.ensures.stand c.in_ok-tables.ensures.spelled
@@ -117,8 +117,8 @@ returns-then-is_none-clause-refused c = λ choices follow.
     c.in_ok-exports.ensures.value c.in_ok-exports.ensures.text
     c.raw_start-start.result (ap (option_map (λ (i : ℕ). Some i)) c.raw_start-start.ensures ∙ start_indexed c.args.parts c.requires.there names (places follow.prepared.plan) plan.is_plan plan.numbered)
     follow.are_made.1.0
-    plan.elements c.in_ok-elements.ensures.value c.in_ok-elements.ensures.stand c.in_ok-elements.ensures.chosen c.in_ok-elements.ensures.spelled
-    plan.data_segments c.in_ok-data_segments.ensures.value c.in_ok-data_segments.ensures.stand c.in_ok-data_segments.ensures.spelled plan.data_count
+    plan.lists.elements c.in_ok-elements.ensures.value c.in_ok-elements.ensures.stand c.in_ok-elements.ensures.chosen c.in_ok-elements.ensures.spelled
+    plan.lists.data_segments c.in_ok-data_segments.ensures.value c.in_ok-data_segments.ensures.stand c.in_ok-data_segments.ensures.spelled plan.data_count
     Raw (sections_refused said producers c.args.made.now.payloads (c.is_none.ensures ∙ ap not c.if-is_none.true) follow.are_made.1.2)
 
 pub returns-clause-records : goal.returns-clause-records
@@ -129,7 +129,7 @@ returns-clause-records c = λ choices follow.
     let said = if_chosen choices.names (names_said c.args.parts (places follow.prepared.plan) (first_own follow.prepared.plan) (map (λ (b : BodySeen). b.used) follow.are_made.0)) in
     records_made c.args.parts (task choices (index_of c.args.indices.now) (map custom_record c.args.own.now)) names refl follow.prepared.plan c.in_ok-types.types.items c.in_ok-imports.imports.items c.args.functions.items c.in_ok-tables.tables.items c.in_ok-memories.memories.items c.in_ok-tags.tags.items c.in_ok-globals.globals.items c.in_ok-exports.exports.items follow.are_made.0 c.in_ok-elements.elements.items c.in_ok-data_segments.data_segments.items c.args.count
     plan.matched plan.reads plan.is_plan plan.numbered plan.few
-    plan.types plan.brought plan.tables plan.memories plan.tags plan.globals
+    plan.lists.types plan.lists.brought plan.lists.tables plan.lists.memories plan.lists.tags plan.lists.globals
     c.in_ok-types.ensures.value c.in_ok-imports.ensures.value
     follow.functions_are
     c.in_ok-tables.ensures.value c.in_ok-tables.ensures.stand c.in_ok-tables.ensures.spelled
@@ -138,7 +138,7 @@ returns-clause-records c = λ choices follow.
     c.in_ok-exports.ensures.value c.in_ok-exports.ensures.text
     c.raw_start-start.result (ap (option_map (λ (i : ℕ). Some i)) c.raw_start-start.ensures ∙ start_indexed c.args.parts c.requires.there names (places follow.prepared.plan) plan.is_plan plan.numbered)
     follow.are_made.1.0
-    plan.elements c.in_ok-elements.ensures.value c.in_ok-elements.ensures.stand c.in_ok-elements.ensures.chosen c.in_ok-elements.ensures.spelled
-    plan.data_segments c.in_ok-data_segments.ensures.value c.in_ok-data_segments.ensures.stand c.in_ok-data_segments.ensures.spelled plan.data_count
+    plan.lists.elements c.in_ok-elements.ensures.value c.in_ok-elements.ensures.stand c.in_ok-elements.ensures.chosen c.in_ok-elements.ensures.spelled
+    plan.lists.data_segments c.in_ok-data_segments.ensures.value c.in_ok-data_segments.ensures.stand c.in_ok-data_segments.ensures.spelled plan.data_count
     _ _ _ c.new.ensures.items (c.in_ok-code.ensures.value ∙ ap (map unplaced) follow.are_made.1.1)
     (c.in_ok-customs.ensures.value ∙ ap (λ l. map custom_record c.args.own.now ++ l) (sections_given said producers c.args.made.now.payloads (c.is_none.ensures ∙ ap not c.if-is_none.false) follow.are_made.1.2))

@@ -14,12 +14,12 @@ use Rattle.walrus_writing.proofs.write.write_items.Goals as goal
 pub make-requires : goal.make-requires
 make-requires c = record {
   planned = c.requires.planned;
-  indexed = ids_indexed c.args.parts c.requires.there (index_of c.args.prepared.indices) (places c.args.prepared.plan) c.requires.planned.is_plan c.requires.planned.numbered c.args.prepared.plan.own_functions.items _ c.requires.planned.own refl c.args.choices.now.features;
+  indexed = ids_indexed c.args.parts c.requires.there (index_of c.args.prepared.indices) (places c.args.prepared.plan) c.requires.planned.is_plan c.requires.planned.numbered c.args.prepared.plan.own_functions.items _ c.requires.planned.lists.own refl c.args.choices.now.features;
 }
 
 pub raw_functions-requires : goal.raw_functions-requires
 raw_functions-requires c = record {
-  indexed = ids_typed c.args.parts c.requires.there (index_of c.args.prepared.indices) (places c.args.prepared.plan) c.requires.planned.is_plan c.requires.planned.numbered c.args.prepared.plan.own_functions.items _ c.requires.planned.own c.as_slice-order.ensures.value;
+  indexed = ids_typed c.args.parts c.requires.there (index_of c.args.prepared.indices) (places c.args.prepared.plan) c.requires.planned.is_plan c.requires.planned.numbered c.args.prepared.plan.own_functions.items _ c.requires.planned.lists.own c.as_slice-order.ensures.value;
 }
 
 pub raw_items-requires-clause-planned : goal.raw_items-requires-clause-planned

@@ -33,8 +33,8 @@ returns-in_err-on_parse-clause-ran g c =
       record {
         module_read = read;
         ids = c.in_ok-ids.ids;
-        handed = handed _ (flags config) (Gives config) c.args.bytes.now found.found read c.in_ok-ids.ids c.holding-module.ensures.holds (ap sections c.holding-module.ensures.own ∙ c.in_ok-customs.ensures.kept) c.holding-module.ensures.configured
-            found.ensures.found found.ensures.taken found.ensures.own_ids found.ensures.located found.ensures.kept found.ensures.counted c.in_ok-ids.ensures.numbered;
+        handed = handed _ (flags config) (Gives config) c.args.bytes.now found.found read c.holding-module.ensures.holds (ap sections c.holding-module.ensures.own ∙ c.in_ok-customs.ensures.kept) c.holding-module.ensures.configured
+            found.ensures.found found.ensures.taken found.ensures.own_ids found.ensures.located found.ensures.kept c.in_ok-ids.ids found.ensures.counted c.in_ok-ids.ensures.numbered;
         did = c.in_err-on_parse.ensures;
       },
     ))
@@ -47,7 +47,7 @@ returns-clause-ran g c =
     record {
       module_read = read;
       ids = c.in_ok-ids.ids;
-      handed = handed _ (flags config) (Gives config) c.args.bytes.now found.found read c.in_ok-ids.ids c.holding-module.ensures.holds (ap sections c.holding-module.ensures.own ∙ c.in_ok-customs.ensures.kept) c.holding-module.ensures.configured
-          found.ensures.found found.ensures.taken found.ensures.own_ids found.ensures.located found.ensures.kept found.ensures.counted c.in_ok-ids.ensures.numbered;
+      handed = handed _ (flags config) (Gives config) c.args.bytes.now found.found read c.holding-module.ensures.holds (ap sections c.holding-module.ensures.own ∙ c.in_ok-customs.ensures.kept) c.holding-module.ensures.configured
+          found.ensures.found found.ensures.taken found.ensures.own_ids found.ensures.located found.ensures.kept c.in_ok-ids.ids found.ensures.counted c.in_ok-ids.ensures.numbered;
       did = c.in_ok-on_parse.ensures;
     }

@@ -14,33 +14,20 @@ use Rattle.walrus_module.proofs.WellWritten.{written_with}
 use Rattle.walrus_module.proofs.WrittenSections.{asks, if_ok_always, spells_as}
 use Rattle.walrus_module.proofs.written.ModuleCustomSections.written.Goals as goal
 
-pub returns-clause-spells : goal.returns-clause-spells
-returns-clause-spells g c =
+pub returns : goal.returns
+returns g c =
     let names = index_of c.args.prepared.indices in
-    let same = ap (map custom_record) c.as_slice-2.ensures.value ∙ c.in_ok-customs.ensures.value ∙ ap (map section_seen) c.as_slice.ensures.value ∙ c.in_ok-asked.ensures.value in
-    spells_as c.args.parts names _ _ _ _ c.choices.ensures same c.write_prepared.result c.write_prepared.ensures.spells
-
-pub returns-clause-texts : goal.returns-clause-texts
-returns-clause-texts g c =
+    let ms = meant (λ (i : g.dyn-1.0.I). (g.dyn-1.0.entry i).1) c.args.self.now in
+    let config = config_of (flags_of c.args.switches) in
+    let v = with_sections (parts_view c.args.parts) ms in
+    let wrote = c.write_prepared.ensures in
+    let named = ap (map custom_record) c.as_slice-2.ensures.value ∙ c.in_ok-customs.ensures.value ∙ ap (map section_seen) c.as_slice.ensures.value in
     let same = ap (map section_seen) c.as_slice.ensures.value ∙ c.in_ok-asked.ensures.value in
-    if_ok_always _ c.write_prepared.result
-    (subst (All (λ (x : Custom). IsUtf8 x.name)) (sym (ap (map section_seen) c.as_slice.ensures.value) ∙ same) (All-map (λ (x : Custom). IsUtf8 x.name) section_seen _ c.in_ok-asked.ensures.texts))
-
-pub returns-clause-emitted : goal.returns-clause-emitted
-returns-clause-emitted g c =
-    let ms = meant (λ (i : g.dyn-1.0.I). (g.dyn-1.0.entry i).1) c.args.self.now in
-    let seen = ap (map section_seen) c.as_slice.ensures.value ∙ c.in_ok-asked.ensures.value in
-    let same = ap (map custom_record) c.as_slice-2.ensures.value ∙ c.in_ok-customs.ensures.value ∙ seen in
-    c.write_prepared.ensures.written (config_of (flags_of c.args.switches)) (with_sections (parts_view c.args.parts) ms) (written_with _ _ c.choices.ensures)
-    (asks c.args.parts (index_of c.args.prepared.indices) ms _ same
-    (subst (All (λ (x : Custom). IsUtf8 x.name)) (sym (ap (map custom_record) c.as_slice-2.ensures.value ∙ c.in_ok-customs.ensures.value ∙ ap (map section_seen) c.as_slice.ensures.value)) (All-map (λ (x : Custom). IsUtf8 x.name) section_seen _ c.in_ok-asked.ensures.texts)))
-
-pub returns-clause-refused : goal.returns-clause-refused
-returns-clause-refused g c =
-    let ms = meant (λ (i : g.dyn-1.0.I). (g.dyn-1.0.entry i).1) c.args.self.now in
-    let seen = ap (map section_seen) c.as_slice.ensures.value ∙ c.in_ok-asked.ensures.value in
-    let same = ap (map custom_record) c.as_slice-2.ensures.value ∙ c.in_ok-customs.ensures.value ∙ seen in
-    refused_anyway (OneAskedMayRefuse ms) (config_of (flags_of c.args.switches)) (with_sections (parts_view c.args.parts) ms) (told c.write_prepared.result)
-    (c.write_prepared.ensures.refused (config_of (flags_of c.args.switches)) (with_sections (parts_view c.args.parts) ms) (written_with _ _ c.choices.ensures)
-    (asks c.args.parts (index_of c.args.prepared.indices) ms _ same
-    (subst (All (λ (x : Custom). IsUtf8 x.name)) (sym (ap (map custom_record) c.as_slice-2.ensures.value ∙ c.in_ok-customs.ensures.value ∙ ap (map section_seen) c.as_slice.ensures.value)) (All-map (λ (x : Custom). IsUtf8 x.name) section_seen _ c.in_ok-asked.ensures.texts))))
+    let texts = All-map (λ (x : Custom). IsUtf8 x.name) section_seen _ c.in_ok-asked.ensures.texts in
+    let asked = asks c.args.parts names ms _ (named ∙ c.in_ok-asked.ensures.value) (subst (All (λ (x : Custom). IsUtf8 x.name)) (sym named) texts) in
+    record {
+      emitted = wrote.written config v (written_with _ _ c.choices.ensures) asked;
+      refused = refused_anyway (OneAskedMayRefuse ms) config v (told c.write_prepared.result) (wrote.refused config v (written_with _ _ c.choices.ensures) asked);
+      spells = spells_as c.args.parts names _ _ _ _ c.choices.ensures (named ∙ c.in_ok-asked.ensures.value) c.write_prepared.result wrote.spells;
+      texts = if_ok_always _ c.write_prepared.result (subst (All (λ (x : Custom). IsUtf8 x.name)) (sym (ap (map section_seen) c.as_slice.ensures.value) ∙ same) texts);
+    }
