@@ -13,7 +13,7 @@ use Rattle.wasm_operators.specs.Operators as wire
 use Rattle.walrus_base.specs.Types.{AbstractHeap, FuncHeap, ExternHeap, AnyHeap, EqHeap, I31Heap, StructHeap, ArrayHeap, ExnHeap, NoneHeap, NoExternHeap, NoFuncHeap, NoExnHeap, HeapType, OfHeap, Concrete, ValType, I32, I64, F32, F64, V128, Ref}
 use Rattle.walrus_base.specs.Operators.{Types, Functions, Tables, Memories, Tags, Globals, Elements, DataSegments, BlockType, NoResult, OneResult, OfType, Arg, Index, Label, Local, Number, Count, Byte, S32, S64, Bits32, Bits64, Value, Heap, Block, Access, Op}
 
--- the abstract heap type of a byte from 69 to 74, in hexadecimal digits ("Binary Format > Types > Heap Types")
+-- the abstract heap type of a byte from 0x69 to 0x74 ("Binary Format > Types > Heap Types")
 abbrev pub abstract_of : ℕ → AbstractHeap
 abstract_of b =
     if nat_eq b HEAP_EXN then ExnHeap

@@ -1,4 +1,4 @@
--- Arguments that bytes spell: each abstract heap type in them by one of its bytes, from 69 to 74 ("Binary Format > Types > Heap
+-- Arguments that bytes spell: each abstract heap type in them by one of its bytes, from 0x69 to 0x74 ("Binary Format > Types > Heap
 -- Types").
 use Rattle.wasm_forms.specs.Types.{HeapStands, ValueStands}
 use Rattle.wasm_operators.specs.declared.operator.RawArg.{RawArg}

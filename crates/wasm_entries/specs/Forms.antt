@@ -38,7 +38,7 @@ import_form = Made (λ x. record { from = x.0; name = x.1.0; desc = x.1.1 }) (na
 
 -- ---- constant expressions (Binary Format > Instructions; Validation > Instructions > Constant Expressions)
 
--- what stands behind FB and this number
+-- what stands behind 0xFB and this number
 unfoldable pub prefixed : ℕ → Form RawConst
 prefixed number = choose (nat_eq number STRUCT_NEW) (Made ops.StructNew U32)
     (choose (nat_eq number STRUCT_NEW_DEFAULT) (Made ops.StructNewDefault U32)
@@ -50,7 +50,7 @@ prefixed number = choose (nat_eq number STRUCT_NEW) (Made ops.StructNew U32)
     (choose (nat_eq number REF_I31) (Gives ops.RefI31)
     Fails)))))))
 
--- what stands behind FD and this number
+-- what stands behind 0xFD and this number
 unfoldable pub vector_op : ℕ → Form RawConst
 vector_op number = choose (nat_eq number V128_CONST) (Made ops.V128Const (Bytes 16)) Fails
 
@@ -78,19 +78,19 @@ abbrev pub is_some_there : {A : Type 0} → List A → Bool
 is_some_there [] = false
 is_some_there (x ∷ xs) = true
 
--- at least one operator, and then 0B
+-- at least one operator, and then 0x0B
 unfoldable pub expression_form : Form Expression
 expression_form = Where is_some_there (Until END const_from)
 
 -- ---- tables and globals (Table Section, Global Section)
 
--- a table by its first byte: 40 00, a table type and its initialiser; else a table type alone
+-- a table by its first byte: 0x40 0x00, a table type and its initialiser; else a table type alone
 unfoldable pub table_from : ℕ → Form Table
 table_from b = choose (nat_eq b TABLE_WITH_INITIAL)
     (Led (Where (λ c. nat_eq c 0) Byte) (λ c. Made (λ x. record { ty = x.0; initial = Some x.1 }) (table_type then expression_form)))
     (Made (λ t. record { ty = t; initial = None }) (table_type_from b))
 
--- a table of the module: its type, or 40 00, its type and its initialiser
+-- a table of the module: its type, or 0x40 0x00, its type and its initialiser
 unfoldable pub table_form : Form Table
 table_form = Led Byte table_from
 
@@ -127,7 +127,7 @@ any_function = record { nullable = true; heap = Abstract HEAP_FUNC }
 unfoldable pub functions_form : Form Items
 functions_form = Made Functions (Vector U32)
 
--- the functions that an element segment lists behind an element kind, 00
+-- the functions that an element segment lists behind an element kind, 0x00
 unfoldable pub kinded : Form Items
 kinded = Led (Where (λ b. nat_eq b 0) Byte) (λ b. functions_form)
 

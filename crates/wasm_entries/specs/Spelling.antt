@@ -58,11 +58,11 @@ const_bytes ops.AnyConvertExtern = PREFIX_FB ∷ ANY_CONVERT_EXTERN ∷ []
 const_bytes ops.ExternConvertAny = PREFIX_FB ∷ EXTERN_CONVERT_ANY ∷ []
 const_bytes ops.RefI31 = PREFIX_FB ∷ REF_I31 ∷ []
 
--- the bytes of a constant expression: its instructions, and 0B, the end (Binary Format > Instructions > Expressions)
+-- the bytes of a constant expression: its instructions, and 0x0B, the end (Binary Format > Instructions > Expressions)
 abbrev pub expression_bytes : Expression → List ℕ
 expression_bytes e = row_bytes const_bytes e ++ END ∷ []
 
--- the bytes of a table whose type has these bytes: with an initialiser 40 00, the type and the expression, else the type alone (Table Section)
+-- the bytes of a table whose type has these bytes: with an initialiser 0x40 0x00, the type and the expression, else the type alone (Table Section)
 abbrev pub table_spelled : Option Expression → List ℕ → List ℕ
 table_spelled None ty = ty
 table_spelled (Some e) ty = TABLE_WITH_INITIAL ∷ 0 ∷ (ty ++ expression_bytes e)

@@ -13,7 +13,7 @@ use Rattle.wasm_entries.specs.Record.{FuncType, Comp, Function, Struct, Array, S
 
 -- ---- composite types
 
--- 78 and 77 are i8 and i16; else a value type (storage types)
+-- 0x78 and 0x77 are i8 and i16; else a value type (storage types)
 unfoldable pub storage_from : ℕ → Form RawStorage
 storage_from b = choose (nat_eq b I8_TYPE) (Gives storages.I8)
     (choose (nat_eq b I16_TYPE) (Gives storages.I16)
@@ -23,7 +23,7 @@ storage_from b = choose (nat_eq b I8_TYPE) (Gives storages.I8)
 unfoldable pub storage_type : Form RawStorage
 storage_type = Led Byte storage_from
 
--- a flag of one byte, 00 or 01
+-- a flag of one byte, 0x00 or 0x01
 unfoldable pub flag : Form Bool
 flag = Made (λ b. nat_eq b 1) (Where (λ b. nat_lt b 2) Byte)
 
@@ -35,7 +35,7 @@ field_type = Made (λ x. record { storage = x.0; mutable = x.1 }) (storage_type 
 unfoldable pub signature : Form FuncType
 signature = Made (λ x. record { params = x.0; results = x.1 }) (Vector value_type then Vector value_type)
 
--- 60: a function, 5F: a struct, 5E: an array (Composite Types)
+-- 0x60: a function, 0x5F: a struct, 0x5E: an array (Composite Types)
 unfoldable pub comp_from : ℕ → Form Comp
 comp_from b = choose (nat_eq b FUNC_TYPE) (Made Function signature)
     (choose (nat_eq b STRUCT_TYPE) (Made Struct (Vector field_type))
@@ -52,7 +52,7 @@ composite_type = Led Byte comp_from
 unfoldable pub sub_with : Bool → Form Sub
 sub_with is_final = Made (λ x. record { is_final = is_final; supers = x.0; comp = x.1 }) (Vector U32 then composite_type)
 
--- 50: open, 4F: final, each with supertypes; else a composite type, final without supertype (Recursive Types)
+-- 0x50: open, 0x4F: final, each with supertypes; else a composite type, final without supertype (Recursive Types)
 unfoldable pub sub_from : ℕ → Form Sub
 sub_from b = choose (nat_eq b SUB_TYPE) (sub_with false)
     (choose (nat_eq b SUB_FINAL_TYPE) (sub_with true)
@@ -62,11 +62,11 @@ sub_from b = choose (nat_eq b SUB_TYPE) (sub_with false)
 unfoldable pub sub_type : Form Sub
 sub_type = Led Byte sub_from
 
--- a recursive type by its first byte: behind 4E any number of sub types, else one alone
+-- a recursive type by its first byte: behind 0x4E any number of sub types, else one alone
 unfoldable pub group_from : ℕ → Form Group
 group_from b = choose (nat_eq b REC_TYPE) (Vector sub_type) (Made (λ s. s ∷ []) (sub_from b))
 
--- a recursive type, which is an entry of the type section: sub types, any number of them, behind 4E, or one alone (Recursive Types)
+-- a recursive type, which is an entry of the type section: sub types, any number of them, behind 0x4E, or one alone (Recursive Types)
 unfoldable pub group_form : Form Group
 group_form = Led Byte group_from
 
@@ -84,7 +84,7 @@ optional present f = choose present (Made Some f) (Gives None)
 unfoldable pub size_form : Bool → Form ℕ
 size_form wide = choose wide U64 U32
 
--- what stands behind the flags: 01 a maximum, 02 shared, 04 wide, 08 a page exponent (Limits)
+-- what stands behind the flags: 0x01 a maximum, 0x02 shared, 0x04 wide, 0x08 a page exponent (Limits)
 unfoldable pub limits_of : ℕ → Form RawLimits
 limits_of flags = Made (λ x. record { minimum = x.0; maximum = x.1.0; shared = has flags 2; wide = has flags 4; page = x.1.1 })
     (size_form (has flags 4) then optional (has flags 1) (size_form (has flags 4)) then optional (has flags 8) U32)
@@ -105,10 +105,10 @@ table_type_from b = Made (λ x. record { element = x.0; limits = x.1 }) (referen
 unfoldable pub table_type : Form RawTableType
 table_type = Led Byte table_type_from
 
--- a value type and its flags: 01 mutable, 02 shared (Global Types)
+-- a value type and its flags: 0x01 mutable, 0x02 shared (Global Types)
 unfoldable pub global_type : Form RawGlobalType
 global_type = Made (λ x. record { value = x.0; mutable = has x.1 1; shared = has x.1 2 }) (value_type then Where (λ flags. nat_lt flags 4) Byte)
 
--- 00 and the index of a type (Tag Types)
+-- 0x00 and the index of a type (Tag Types)
 unfoldable pub tag_type : Form ℕ
 tag_type = Led (Where (λ b. nat_eq b 0) Byte) (λ b. U32)

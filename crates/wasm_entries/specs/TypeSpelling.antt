@@ -14,7 +14,7 @@ use Rattle.wasm_entries.specs.Record.{FuncType, Comp, Function, Struct, Array, S
 
 -- ---- spelling (Binary Format > Types)
 
--- the bytes of a storage type: those of a value type, 78 for i8, 77 for i16
+-- the bytes of a storage type: those of a value type, 0x78 for i8, 0x77 for i16
 abbrev pub storage_bytes : RawStorage → List ℕ
 storage_bytes (storages.Val v) = value_bytes v
 storage_bytes storages.I8 = I8_TYPE ∷ []
@@ -25,15 +25,15 @@ abbrev pub flag_byte : Bool → ℕ
 flag_byte true = 1
 flag_byte false = 0
 
--- the bytes of a field type: its storage type, and 01 if it is mutable, else 00
+-- the bytes of a field type: its storage type, and 0x01 if it is mutable, else 0x00
 abbrev pub field_bytes : RawFieldType → List ℕ
 field_bytes f = storage_bytes f.storage ++ flag_byte f.mutable ∷ []
 
--- the bytes of a function type, without the 60 in front: the types of its parameters and of its results, each behind their count
+-- the bytes of a function type, without the 0x60 in front: the types of its parameters and of its results, each behind their count
 abbrev pub func_type_bytes : FuncType → List ℕ
 func_type_bytes t = vector_bytes value_bytes t.params ++ vector_bytes value_bytes t.results
 
--- the bytes of a composite type: 60 and a function type, 5F and the fields of a struct, or 5E and the field type of an array
+-- the bytes of a composite type: 0x60 and a function type, 0x5F and the fields of a struct, or 0x5E and the field type of an array
 abbrev pub comp_bytes : Comp → List ℕ
 comp_bytes (Function t) = FUNC_TYPE ∷ func_type_bytes t
 comp_bytes (Struct fields) = STRUCT_TYPE ∷ vector_bytes field_bytes fields
@@ -45,7 +45,7 @@ sub_spelled true [] comp = comp_bytes comp
 sub_spelled true (x ∷ xs) comp = SUB_FINAL_TYPE ∷ (vector_bytes number_bytes (x ∷ xs) ++ comp_bytes comp)
 sub_spelled false supers comp = SUB_TYPE ∷ (vector_bytes number_bytes supers ++ comp_bytes comp)
 
--- the bytes of a sub type: 50 if open, 4F if final, the supertypes and the composite type; of a final one without supertype, the composite type alone
+-- the bytes of a sub type: 0x50 if open, 0x4F if final, the supertypes and the composite type; of a final one without supertype, the composite type alone
 abbrev pub sub_bytes : Sub → List ℕ
 sub_bytes s = sub_spelled s.is_final s.supers s.comp
 
@@ -60,7 +60,7 @@ abbrev pub bit_if : {A : Type 0} → ℕ → Option A → ℕ
 bit_if bit None = 0
 bit_if bit (Some x) = bit
 
--- the flags of limits: 01 a maximum, 02 shared, 04 wide, 08 a page exponent
+-- the flags of limits: 0x01 a maximum, 0x02 shared, 0x04 wide, 0x08 a page exponent
 abbrev pub limits_flags : RawLimits → ℕ
 limits_flags l = bit_if 1 l.maximum + (if l.shared then 2 else 0) + (if l.wide then 4 else 0) + bit_if 8 l.page
 
@@ -77,7 +77,7 @@ limits_bytes l = limits_flags l ∷ (number_bytes l.minimum ++ number_if l.maxim
 abbrev pub table_type_bytes : RawTableType → List ℕ
 table_type_bytes t = reference_bytes t.element ++ limits_bytes t.limits
 
--- the flags of a global type: 01 mutable, 02 shared
+-- the flags of a global type: 0x01 mutable, 0x02 shared
 abbrev pub global_flags : RawGlobalType → ℕ
 global_flags g = flag_byte g.mutable + (if g.shared then 2 else 0)
 

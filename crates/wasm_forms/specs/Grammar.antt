@@ -7,7 +7,8 @@ use Rattle.wasm_forms.specs.Reading.{◌>>=◌, byte_at}
 use Rattle.wasm_forms.specs.Number.{IsNumber, IsInteger, IsU32, number_at, integer_at, IsIndex, index_at, little}
 
 infixr 30 ◌then◌
--- A text of Fails: none. Gives x: no byte, with this value. Byte: any one. Number, Integer: at most `most` bytes, below `top`, or from
+-- A form says which bytes are a text of it, and which value a text has; the Form of A has values in A. No bytes are a text of Fails;
+-- no byte at all is the one text of Gives x, and x its value. Byte: any one. Number, Integer: at most `most` bytes, below `top`, or from
 -- - `half` to `half` - 1. IndexFrom b: what stands behind the byte b of an index. Bytes n: any n bytes. Block: a count of bytes, and
 -- these. f then g: one behind the other. Led f g: what f's value says stands behind it. Made make f: f, with another value. Where test
 -- f: f, with such a value alone. Row f n: n texts of f. Until stop f: texts, each led by its first byte, up to the byte stop.

@@ -27,7 +27,7 @@ heap_type = Led Byte heap_from
 abbrev pub reference : Bool → RawHeap → RawRef
 reference nullable heap = record { nullable = nullable; heap = heap }
 
--- 63 and a heap type: nullable; 64: not nullable; an abstract heap type alone: nullable (Reference Types)
+-- 0x63 and a heap type: nullable; 0x64: not nullable; an abstract heap type alone: nullable (Reference Types)
 unfoldable pub reference_from : ℕ → Form RawRef
 reference_from b = choose (nat_eq b REF_NULL_TYPE) (Made (reference true) heap_type)
     (choose (nat_eq b REF_TYPE) (Made (reference false) heap_type)
@@ -58,7 +58,7 @@ abbrev pub heap_bytes : RawHeap → List ℕ
 heap_bytes (Abstract b) = b ∷ []
 heap_bytes (Index n) = index_bytes n
 
--- a reference type as it is written, by its nullability and its heap type: 63 or 64 and the heap type, but the heap type's byte alone
+-- a reference type as it is written, by its nullability and its heap type: 0x63 or 0x64 and the heap type, but the heap type's byte alone
 -- where it is nullable and abstract (Reference Types)
 abbrev pub reference_spelled : Bool → RawHeap → List ℕ
 reference_spelled true (Abstract b) = b ∷ []

@@ -19,7 +19,7 @@ one make f = Made (λ x. make x ∷ []) f
 
 -- ---- "Control Instructions"
 
--- The type of a block that begins with this byte: 40 no result; another byte from 41 to 7F a value type; else the index of a
+-- The type of a block that begins with this byte: 0x40 no result; another byte from 0x41 to 0x7F a value type; else the index of a
 -- type, a number of 33 bits that isn't negative.
 unfoldable pub block_from : ℕ → Form RawBlock
 block_from b =
@@ -31,7 +31,7 @@ block_from b =
 unfoldable pub block_type : Form RawBlock
 block_type = Led Byte block_from
 
--- a catch clause: catch 00 and catch_ref 01 with a tag and a label, catch_all 02 and catch_all_ref 03 with a label
+-- a catch clause: catch 0x00 and catch_ref 0x01 with a tag and a label, catch_all 0x02 and catch_all_ref 0x03 with a label
 unfoldable pub catch_from : ℕ → Form (List RawArg)
 catch_from b =
     choose (nat_lt b 2) (Made (λ x. args.Byte b ∷ args.Tag x.0 ∷ args.Label x.1 ∷ []) (U32 then U32))
@@ -50,20 +50,20 @@ counted n make xs = args.Count n ∷ flat_map make xs
 abbrev pub several : {A : Type 0} → (A → List RawArg) → Form A → Form (List RawArg)
 several make f = Led U32 (λ n. Made (counted n make) (Row f n))
 
--- ---- "Memory Instructions": flags; where their bit 40 is set a memory, else memory 0; and an offset
+-- ---- "Memory Instructions": flags; where their bit 0x40 is set a memory, else memory 0; and an offset
 
--- whether the flags of a memory argument have bit 40 set, which says that the index of a memory follows
+-- whether the flags of a memory argument have bit 0x40 set, which says that the index of a memory follows
 abbrev pub has_memory : ℕ → Bool
 has_memory flags = nat_eq ((flags / 64) % 2) 1
 
--- what follows the flags of a memory argument: the index of a memory where bit 40 is set, and the offset, a u64; the flags are kept
+-- what follows the flags of a memory argument: the index of a memory where bit 0x40 is set, and the offset, a u64; the flags are kept
 -- without that bit
 unfoldable pub access_from : ℕ → Form RawArg
 access_from flags =
     choose (has_memory flags) (Made (λ x. args.Access (flags - 64) x.0 x.1) (U32 then U64))
     (Made (λ offset. args.Access flags 0 offset) U64)
 
--- a memory argument: flags, which hold the alignment, a memory and an offset; flags from 80 on, which the standard does not have, are
+-- a memory argument: flags, which hold the alignment, a memory and an offset; flags from 0x80 on, which the standard does not have, are
 -- taken too (Memory Instructions, memarg)
 unfoldable pub access : Form RawArg
 access = Led U32 access_from
@@ -117,7 +117,7 @@ behind op (Some kinds) = Made (with_args op) (args_form kinds)
 unfoldable pub operator_of : ℕ → Form Op
 operator_of op = behind op (kinds_of op)
 
--- FB to FE lead to a number
+-- 0xFB to 0xFE lead to a number
 abbrev pub is_prefix : ℕ → Bool
 is_prefix b = nat_le PREFIX_FB b && nat_le b PREFIX_FE
 

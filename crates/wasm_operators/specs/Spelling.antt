@@ -11,13 +11,13 @@ use Rattle.wasm_operators.specs.Operators.{Op}
 
 -- ---- arguments
 
--- a block's type as it is written: 40 for no result, a value type, or the index of a type as an s33 (Control Instructions)
+-- a block's type as it is written: 0x40 for no result, a value type, or the index of a type as an s33 (Control Instructions)
 abbrev pub block_bytes : RawBlock → List ℕ
 block_bytes NoResult = EMPTY_BLOCK ∷ []
 block_bytes (OneResult v) = value_bytes v
 block_bytes (OfType t) = index_bytes t
 
--- bit 40 of the flags and the memory where it isn't memory 0
+-- bit 0x40 of the flags and the memory where it isn't memory 0
 abbrev pub access_bytes : (flags memory offset : ℕ) → List ℕ
 access_bytes flags memory offset =
     if nat_eq memory 0 then number_bytes flags ++ number_bytes offset

@@ -39,7 +39,7 @@ block_spells (OneResult v) = value_spells v
 block_spells NoResult = true
 block_spells (OfType t) = true
 
--- an argument of this kind that is spelled; the flags of an access are without their bit 40, which says that a memory follows
+-- an argument of this kind that is spelled; the flags of an access are without their bit 0x40, which says that a memory follows
 abbrev pub is_of : Kind → RawArg → Bool
 is_of kinds.Block (args.Block b) = block_spells b
 is_of kinds.Label (args.Label l) = true
@@ -72,7 +72,7 @@ abbrev pub behind_value : List RawArg → Option (List RawArg)
 behind_value (args.Value v ∷ args) = if value_spells v then Some args else None
 behind_value args = None
 
--- catch 00 and catch_ref 01 with a tag and a label, catch_all 02 and catch_all_ref 03 with a label
+-- catch 0x00 and catch_ref 0x01 with a tag and a label, catch_all 0x02 and catch_all_ref 0x03 with a label
 abbrev pub behind_catch : List RawArg → Option (List RawArg)
 behind_catch (args.Byte b ∷ args) =
     if nat_lt b 2 then (behind_one kinds.Tag args >>= behind_one kinds.Label)

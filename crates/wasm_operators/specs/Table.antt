@@ -18,7 +18,7 @@ bytes first last kinds = record { first = first; last = last; kinds = kinds }
 abbrev pub prefixed : ℕ → ℕ → ℕ → List Kind → Row
 prefixed lead first last kinds = record { first = lead * 65536 + first; last = lead * 65536 + last; kinds = kinds }
 
--- ---- "Control Instructions", with those of legacy exceptions: try 06, catch 07, rethrow 09, delegate 18, catch_all 19
+-- ---- "Control Instructions", with those of legacy exceptions: try 0x06, catch 0x07, rethrow 0x09, delegate 0x18, catch_all 0x19
 
 -- the operators of blocks, branches, calls, returns and exceptions, with unreachable and nop, but without br_on_cast and br_on_cast_fail
 abbrev pub control : List Row
@@ -58,7 +58,7 @@ values =
     prefixed 0xFC 0x0E 0x0E (Table ∷ Table ∷ []) ∷
     prefixed 0xFC 0x0F 0x11 (Table ∷ []) ∷ []
 
--- ---- "Memory Instructions", with those of threads (FE)
+-- ---- "Memory Instructions", with those of threads (0xFE)
 
 -- the operators that load and store numbers, those of whole memories and data segments, and atomic ones; vectors aside
 abbrev pub memories : List Row
@@ -73,7 +73,7 @@ memories =
     prefixed 0xFE 0x03 0x03 (Byte ∷ []) ∷
     prefixed 0xFE 0x10 0x4E (Access ∷ []) ∷ []
 
--- ---- "Numeric Instructions", with those of wide arithmetic (FC 13 to 16)
+-- ---- "Numeric Instructions", with those of wide arithmetic (0xFC 0x13 to 0x16)
 
 -- the operators that give, compare, compute and convert numbers, the constants among them
 abbrev pub numerics : List Row
