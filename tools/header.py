@@ -60,7 +60,7 @@ def differing(what, wanted, found):
 
 def faults_of_sources():
     """The kinds of what is wrong with bytes, and the rules, by the names that the header gives them."""
-    text = read("crates", "walrus_tools", "src", "diagnosing.rt")
+    text = read("crates", "walrus_tools", "src", "tool", "diagnose.rt")
     kinds = re.findall(r"(None|Fault::\w+)(?:\(\w+\))?\)? => \((\d+),", text)
     yield from ((f"FAULT_{name.removeprefix('Fault::').upper()}", int(number)) for name, number in kinds)
     for name, number in re.findall(r"BrokenRule::(\w+) => (\d+),", text):

@@ -6,10 +6,10 @@ use Rattle.walrus_tools.specs.Handed.{Config, Error}
 use Rattle.walrus_tools.specs.Reasons.{AnswersChain}
 use Rattle.std.specs.Global.{Vec}
 use Rattle.walrus_tools.specs.Wanted.{config_wanted}
-use Rattle.mulkavesh.specs.declared.made.Made.{Made}
+use Rattle.mulkavesh.specs.declared.subcommands.Made.{Made}
 use Rattle.mulkavesh.specs.declared.order.Order.{Order}
 use Rattle.mulkavesh.specs.declared.order.Work.{Work}
-use Rattle.mulkavesh.specs.Made.{Answer, AnswersOrder, AnswersWork, FindsMeant, ForPeople, IsIndex, NotesNothing, WritesAlone, name, operand_bytes}
+use Rattle.mulkavesh.specs.Subcommands.{Answer, AnswersOrder, AnswersWork, FindsMeant, ForPeople, IsIndex, NotesNothing, WritesAlone, name, operand_bytes}
 
 -- what is so is so for people
 pub for_people : (is_json : Bool) (P : Type 0) → P → ForPeople is_json P

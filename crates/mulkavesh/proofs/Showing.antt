@@ -3,7 +3,7 @@ use Rattle.std.proofs.Common.{◌≡◌, ℕ, zero, suc, ◌+◌, ◌-◌, ◌<�
 use Rattle.std.proofs.Math.Seq.{drop-drop, take-add}
 use Rattle.std.proofs.Math.Dec.{eqb-suc-zero}
 use Rattle.std.proofs.Math.Numerals.{sub-one}
-use Rattle.mulkavesh.specs.Shown.{hidden_length, shown, shown_behind}
+use Rattle.mulkavesh.specs.Visible.{hidden_length, shown, shown_behind}
 
 -- what is left out stands in front
 pub left_out : (left : ℕ) (text : List ℕ) → shown_behind left text ≡ shown (drop left text)

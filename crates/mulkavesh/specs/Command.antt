@@ -2,7 +2,7 @@
 use Rattle.std.specs.Prelude.{ℕ, Bool, true, false, List, Option, Result, Ok, Err, OnOk, codes, ◌≡◌, ⊤}
 use Rattle.std.specs.Io.KnownBytes.{Appends, Keeps}
 use Rattle.walrus_tools.specs.Handed.{CountsReads, CountsWrites, Error, InvalidWasm, IsUntouched, Memory, Module, NotFound, NotReplaceable, Read, ReadsWhole, Stream, Tells, ToolError, Write, WroteFront, error_text, stream_of}
-use Rattle.mulkavesh.specs.declared.made.Made.{Made}
+use Rattle.mulkavesh.specs.declared.subcommands.Made.{Made}
 use Rattle.mulkavesh.specs.declared.order.Work.{Work}
 use Rattle.mulkavesh.specs.declared.order.Work.TheVariants as work
 use Rattle.mulkavesh.specs.Message.{line}

@@ -3,7 +3,7 @@ use Rattle.std.specs.Prelude.{ℕ, Bool, true, false, List, [], ◌∷◌, ◌++
 use Rattle.std.specs.Borrow.{Bor}
 use Rattle.walrus_tools.specs.Sized.{entry_bytes, no_name, number_bytes}
 use Rattle.mulkavesh.specs.declared.entries.Entry.{Entry}
-use Rattle.mulkavesh.specs.Shown.{shown}
+use Rattle.mulkavesh.specs.Visible.{shown}
 
 -- a function: its index, how many bytes its body has, and its name, if it has one
 pub record Listed : Type 0 where

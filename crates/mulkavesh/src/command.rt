@@ -2,14 +2,14 @@
 
 ghost use Rattle.std.specs.Prelude.{◌≡◌, OnOk, true};
 ghost use Rattle.mulkavesh.specs.Command.{Carries, RunsAndTells, Prints, TellsUnlessLeft, absent_text, device_of, refusal_text};
-ghost use Rattle.mulkavesh.specs.Made.{AnswersOrder};
+ghost use Rattle.mulkavesh.specs.Subcommands.{AnswersOrder};
 ghost use Rattle.mulkavesh.specs.Message.{line};
 ghost use Rattle.walrus_tools.specs.Handed.{CountsReads, CountsWrites, stream_of};
 
 use crate::explains::Explains;
-use crate::made::{Made, make};
 use crate::message::refuse;
 use crate::order::{Order, Work};
+use crate::subcommands::{Made, make};
 use crate::verdicts::REFUSED;
 use std::alloc::Global;
 use walrus_tools::{Error, ReadAllError, Sink, Source, ToolError, read_all, write_all};

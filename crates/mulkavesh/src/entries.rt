@@ -2,11 +2,11 @@
 
 ghost use Rattle.std.specs.Prelude.{◌≡◌, ◌++◌, IfOk, OnOk};
 ghost use Rattle.mulkavesh.specs.Entries.{FindsFirst, FindsNumber, TellsList, listed_line, listed_of};
-ghost use Rattle.mulkavesh.specs.Shown.{shown};
+ghost use Rattle.mulkavesh.specs.Visible.{shown};
 
 use crate::json::add_string;
 use crate::numbers::add_decimal;
-use crate::shown::front_shown;
+use crate::visible::front_shown;
 use std::alloc::{AllocError, Global};
 use walrus_tools::NO_NAME;
 

@@ -1,6 +1,6 @@
 //! Strings as programs read them, in JSON.
 
-use crate::shown::hidden_length;
+use crate::visible::hidden_length;
 use std::alloc::AllocError;
 
 const HEXADECIMAL: &[u8; 16] = b"0123456789abcdef";

@@ -1,7 +1,7 @@
 //! The program `mulkavesh`: subcommands over the module in a file or on standard input.
 //! The answer goes to a file or to standard output.
 //!
-//! Read first: `src/command.rt` (one order from its source to its sink) and `src/made.rt` (what each subcommand makes of bytes).
+//! Read first: `src/command.rt` (one order from its source to its sink) and `src/subcommands.rt` (what each subcommand makes of bytes).
 //! Main clause: `command` in `src/command.rt`, with `RunsAndTells` of `specs/Command.antt`.
 //! It says: the order was carried out or refused, the devices counted that failure and no other, and the answer was told.
 #![tactic(auto)]
@@ -14,16 +14,16 @@ mod explains;
 mod input;
 mod json;
 mod kinds;
-mod made;
 mod message;
 mod notes;
 mod numbers;
 mod order;
 mod output;
 mod reports;
-mod shown;
+mod subcommands;
 mod usage;
 mod verdicts;
+mod visible;
 mod words;
 
 use crate::command::{command, say};

@@ -3,10 +3,10 @@
 ghost use Rattle.std.specs.Prelude.{◌≡◌, OnErr, OnOk};
 ghost use Rattle.std.specs.Io.KnownBytes.{Appends};
 ghost use Rattle.mulkavesh.specs.Message.{line};
-ghost use Rattle.mulkavesh.specs.Shown.{shown};
+ghost use Rattle.mulkavesh.specs.Visible.{shown};
 ghost use Rattle.walrus_tools.specs.Handed.{Counts, Tells, WroteFront, stream_of};
 
-use crate::shown::front_shown;
+use crate::visible::front_shown;
 use walrus_tools::{DeviceFailed, Sink, write_all};
 
 // Writes a text as people see it.

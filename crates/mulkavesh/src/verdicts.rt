@@ -1,12 +1,12 @@
 //! Whether a module is accepted, and what is wrong with one that isn't.
 
 ghost use Rattle.std.specs.Prelude.{◌≡◌, IfOk};
-ghost use Rattle.mulkavesh.specs.Made.{Checks, verdict_text};
+ghost use Rattle.mulkavesh.specs.Subcommands.{Checks, verdict_text};
 ghost use Rattle.walrus_tools.specs.Wanted.{config_wanted};
 
 use crate::json::add_string;
-use crate::made::Made;
 use crate::order::Order;
+use crate::subcommands::Made;
 use std::alloc::{AllocError, Global};
 use walrus_tools::{BrokenRule, Error, Fault, diagnose, fault_words};
 

@@ -1,1 +1,1 @@
-mod GivenLemmas
+mod AnswerLemmas

@@ -1,3 +1,3 @@
-pub mod Asked
-pub mod Given
-pub mod Named
+pub mod Answer
+pub mod Flags
+pub mod Names

@@ -1,13 +1,13 @@
 //! What C calls: each call goes from bytes to bytes for which the caller has room, and answers a status.
 //! include/mulkavesh.h declares them, and says what the caller owes.
 //!
-//! Read first: `src/lib.rt` (the calls) and `src/given.rt` (status, room and length).
-//! Main clause: `mulkavesh_gc`, with `Gives` of `specs/Given.antt`: what each status says of the answer, the room and the told length.
+//! Read first: `src/lib.rt` (the calls) and `src/answer.rt` (status, room and length).
+//! Main clause: `mulkavesh_gc`, with `Gives` of `specs/Answer.antt`: what each status says of the answer, the room and the told length.
 #![tactic(auto)]
 
-mod asked;
-mod given;
-mod named;
+mod answer;
+mod flags;
+mod names;
 
 ghost use Rattle.std.specs.Prelude.{◌≡◌, true};
 ghost use Rattle.walrus_tools.specs.Diagnosed.{AnswersFault};
@@ -18,12 +18,12 @@ ghost use Rattle.walrus_tools.specs.Snipped.{AnswersSnipped};
 ghost use Rattle.walrus_tools.specs.Stripped.{AnswersStripped};
 ghost use Rattle.walrus_tools.specs.Stubbed.{AnswersStubbed};
 ghost use Rattle.walrus_tools.specs.Wanted.{config_wanted};
-ghost use Rattle.mulkavesh_c.specs.Asked.{is_known, wanted};
-ghost use Rattle.mulkavesh_c.specs.Given.{Gives};
-ghost use Rattle.mulkavesh_c.specs.Named.{UnderName};
+ghost use Rattle.mulkavesh_c.specs.Flags.{is_known, wanted};
+ghost use Rattle.mulkavesh_c.specs.Answer.{Gives};
+ghost use Rattle.mulkavesh_c.specs.Names.{UnderName};
 
-use crate::asked::wanted_by;
-use crate::given::{UNKNOWN_FLAG, put, refused};
+use crate::answer::{UNKNOWN_FLAG, put, refused};
+use crate::flags::wanted_by;
 use std::alloc::Global;
 
 /// The version: the major number times 2^16, the minor one times 2^8, and the patch.
@@ -130,11 +130,11 @@ pub extern "C" fn mulkavesh_strip(
     let Some(wanted) = wanted_by(flags) else {
         return refused(length, UNKNOWN_FLAG);
     };
-    let made = named::stripped(alloc, input, name, wanted);
+    let made = names::stripped(alloc, input, name, wanted);
     put(made, output, length)
 }
 
-/// By which references the function of this index stays: `walrus_tools::chain`.
+/// By which references the function of this index stays: `walrus_tools::why`.
 #[unsafe(no_mangle)]
 pub extern "C" fn mulkavesh_why(
     alloc: Global,
@@ -146,7 +146,7 @@ pub extern "C" fn mulkavesh_why(
     ensures { Gives true (AnswersChain (config_of defaults) input.now function (λ text. text.items))
         output.old output.new length.new result }
 {
-    let made = named::reasoned(alloc, input, function);
+    let made = names::reasoned(alloc, input, function);
     put(made, output, length)
 }
 
@@ -162,7 +162,7 @@ pub extern "C" fn mulkavesh_snip(
     ensures { Gives true (UnderName name.now (AnswersSnipped (config_of defaults) input.now name.now))
         output.old output.new length.new result }
 {
-    let made = named::snipped(alloc, input, name);
+    let made = names::snipped(alloc, input, name);
     put(made, output, length)
 }
 
@@ -178,6 +178,6 @@ pub extern "C" fn mulkavesh_stub(
     ensures { Gives true (UnderName from.now (AnswersStubbed (config_of defaults) input.now from.now))
         output.old output.new length.new result }
 {
-    let made = named::stubbed(alloc, input, from);
+    let made = names::stubbed(alloc, input, from);
     put(made, output, length)
 }

@@ -1,57 +1,43 @@
 //! Callers of the library: what linkers, binding generators, instrumenters, stubbers and snippers do with it.
 //! The C interface stands on them. Each goes from bytes to bytes, or to a text.
 //! What each promises follows from what the library promises of its calls.
+//! A file has the name of its call: in `src/tool` those that programs call, in `src/examples` those that none calls.
 //!
-//! Read first: `src/lessening.rt` (the program's own work) and `src/snipping.rt` (a snipper's).
-//! Main clause: `gc` in `src/lessening.rt`, with `RunsOn` (walrus): what a run makes of known bytes, or why it refuses them.
+//! Read first: `src/tool/gc.rt` (the program's own work) and `src/tool/snip.rt` (a snipper's).
+//! Main clause: `gc` in `src/tool/gc.rt`, with `RunsOn` (walrus): what a run makes of known bytes, or why it refuses them.
 #![tactic(auto)]
 
 mod calls;
-mod chaining;
-mod counting;
-mod diagnosing;
-mod ending;
-mod finding;
-mod hooking;
+mod examples;
+mod finish;
+mod functions;
 mod law;
-mod lessening;
 mod lines;
-mod listing;
-mod metadata;
-mod moving;
-mod placing;
-mod reasons;
-mod renaming;
-mod reporting;
 #[cfg(test)]
 mod samples;
-mod shrinking;
-mod sizing;
-mod snipping;
-mod stripping;
-mod stubbing;
+mod tool;
 mod traps;
 mod wanted;
 
-pub use chaining::chain;
-pub use counting::count_calls;
-pub use diagnosing::{diagnose, fault, fault_words};
-pub use finding::find;
-pub use hooking::with_export;
+pub use examples::count_calls::count_calls;
+pub use examples::keep_listed::keep_listed;
+pub use examples::moves::moves;
+pub use examples::rename_export::rename_export;
+pub use examples::shrink::shrink;
+pub use examples::why_with_sizes::why_with_sizes;
+pub use examples::with_export::with_export;
+pub use examples::with_metadata::with_metadata;
+pub use examples::with_places::with_places;
 pub use law::moves_once;
-pub use lessening::gc;
-pub use listing::keep_listed;
-pub use metadata::with_metadata;
-pub use moving::moves;
-pub use placing::with_places;
-pub use reasons::why;
-pub use renaming::rename_export;
-pub use reporting::report;
-pub use shrinking::shrink;
-pub use sizing::{NO_NAME, list};
-pub use snipping::snip;
-pub use stripping::strip;
-pub use stubbing::stub;
+pub use tool::diagnose::{diagnose, fault, fault_words};
+pub use tool::find::find;
+pub use tool::gc::gc;
+pub use tool::list::{NO_NAME, list};
+pub use tool::report::report;
+pub use tool::snip::snip;
+pub use tool::strip::strip;
+pub use tool::stub::stub;
+pub use tool::why::why;
 pub use walrus::Error;
 pub use walrus::tool::{
     DeviceFailed, FromWrite, ReadAllError, Sink, Source, ToolError, read_all, write_all,

@@ -1,23 +1,23 @@
 //! Each caller on a small module, whose bytes were worked out by hand.
 
-use crate::chaining::chain;
-use crate::counting::count_calls;
-use crate::diagnosing::fault;
-use crate::finding::find;
-use crate::hooking::with_export;
-use crate::lessening::gc;
-use crate::listing::keep_listed;
-use crate::metadata::with_metadata;
-use crate::moving::moves;
-use crate::placing::with_places;
-use crate::reasons::why;
-use crate::renaming::rename_export;
-use crate::reporting::report;
-use crate::shrinking::shrink;
-use crate::sizing::list;
-use crate::snipping::snip;
-use crate::stripping::strip;
-use crate::stubbing::stub;
+use crate::examples::count_calls::count_calls;
+use crate::examples::keep_listed::keep_listed;
+use crate::examples::moves::moves;
+use crate::examples::rename_export::rename_export;
+use crate::examples::shrink::shrink;
+use crate::examples::why_with_sizes::why_with_sizes;
+use crate::examples::with_export::with_export;
+use crate::examples::with_metadata::with_metadata;
+use crate::examples::with_places::with_places;
+use crate::tool::diagnose::fault;
+use crate::tool::find::find;
+use crate::tool::gc::gc;
+use crate::tool::list::list;
+use crate::tool::report::report;
+use crate::tool::snip::snip;
+use crate::tool::strip::strip;
+use crate::tool::stub::stub;
+use crate::tool::why::why;
 use crate::wanted::Wanted;
 use std::alloc::Global;
 use std::test::Fail;
@@ -405,7 +405,7 @@ fn a_type_is_added(rt: HostRuntime) -> std::result::Result<(), Fail> {
     )
 }
 
-// ---- why
+// ---- why_with_sizes, why
 
 // Fails where the answer isn't this text.
 fn demand_text(answer: Result<String>, expected: &str) -> std::result::Result<(), Fail> {
@@ -418,7 +418,7 @@ const CALLED: &str = "function 0\nfunction 1\nfunction 0: 4 bytes\nfunction 1: 3
 #[test]
 fn a_function_stays_for_one_that_calls_it(rt: HostRuntime) -> std::result::Result<(), Fail> {
     let bytes = bytes_of(rt.alloc(), CALLS)?;
-    demand_text(why(rt.alloc(), &bytes, 1), CALLED)
+    demand_text(why_with_sizes(rt.alloc(), &bytes, 1), CALLED)
 }
 
 const ALONE: &str = "function 0 isn't reached\nfunction 1: 2 bytes\n";
@@ -426,14 +426,14 @@ const ALONE: &str = "function 0 isn't reached\nfunction 1: 2 bytes\n";
 #[test]
 fn no_function_calls_it(rt: HostRuntime) -> std::result::Result<(), Fail> {
     let bytes = bytes_of(rt.alloc(), TWO)?;
-    demand_text(why(rt.alloc(), &bytes, 0), ALONE)
+    demand_text(why_with_sizes(rt.alloc(), &bytes, 0), ALONE)
 }
 
 #[test]
 fn a_chain_stands_alone(rt: HostRuntime) -> std::result::Result<(), Fail> {
     let bytes = bytes_of(rt.alloc(), TWO)?;
-    demand_text(chain(rt.alloc(), &bytes, 1), "function 1\n")?;
-    demand_text(chain(rt.alloc(), &bytes, 0), "function 0 isn't reached\n")
+    demand_text(why(rt.alloc(), &bytes, 1), "function 1\n")?;
+    demand_text(why(rt.alloc(), &bytes, 0), "function 0 isn't reached\n")
 }
 
 // ---- find

@@ -3,8 +3,8 @@ use Rattle.std.specs.Global.{Vec}
 use Rattle.walrus_tools.specs.Handed.{RunsOn}
 use Rattle.walrus_tools.specs.Wanted.{config_wanted}
 use Rattle.walrus_tools.specs.declared.wanted.Wanted.{Wanted}
-use Rattle.mulkavesh_c.specs.Given.{Answer}
-use Rattle.mulkavesh_c.proofs.GivenLemmas.{gives_wanted}
+use Rattle.mulkavesh_c.specs.Answer.{Answer}
+use Rattle.mulkavesh_c.proofs.AnswerLemmas.{gives_wanted}
 use Rattle.mulkavesh_c.proofs.mulkavesh_gc.Goals as goal
 
 pub returns : goal.returns

@@ -2,8 +2,8 @@ use Rattle.std.proofs.Common.{sym, ◌∙◌}
 use Rattle.walrus_tools.specs.Sized.{AnswersListed}
 use Rattle.walrus_tools.specs.Wanted.{config_wanted}
 use Rattle.walrus_tools.specs.declared.wanted.Wanted.{Wanted}
-use Rattle.mulkavesh_c.specs.Given.{Answer}
-use Rattle.mulkavesh_c.proofs.GivenLemmas.{gives_wanted}
+use Rattle.mulkavesh_c.specs.Answer.{Answer}
+use Rattle.mulkavesh_c.proofs.AnswerLemmas.{gives_wanted}
 use Rattle.mulkavesh_c.proofs.mulkavesh_list.Goals as goal
 
 pub returns : goal.returns

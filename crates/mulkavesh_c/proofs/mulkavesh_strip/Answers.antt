@@ -1,10 +1,10 @@
 use Rattle.std.proofs.Common.{sym, ◌∙◌}
 use Rattle.walrus_tools.specs.Stripped.{AnswersStripped}
-use Rattle.mulkavesh_c.specs.Named.{UnderName}
+use Rattle.mulkavesh_c.specs.Names.{UnderName}
 use Rattle.walrus_tools.specs.Wanted.{config_wanted}
 use Rattle.walrus_tools.specs.declared.wanted.Wanted.{Wanted}
-use Rattle.mulkavesh_c.specs.Given.{Answer}
-use Rattle.mulkavesh_c.proofs.GivenLemmas.{gives_wanted}
+use Rattle.mulkavesh_c.specs.Answer.{Answer}
+use Rattle.mulkavesh_c.proofs.AnswerLemmas.{gives_wanted}
 use Rattle.mulkavesh_c.proofs.mulkavesh_strip.Goals as goal
 
 pub returns : goal.returns

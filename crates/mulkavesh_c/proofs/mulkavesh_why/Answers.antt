@@ -1,5 +1,5 @@
 use Rattle.std.proofs.Common.{true, refl}
-use Rattle.mulkavesh_c.proofs.GivenLemmas.{gives}
+use Rattle.mulkavesh_c.proofs.AnswerLemmas.{gives}
 use Rattle.mulkavesh_c.proofs.mulkavesh_why.Goals as goal
 
 pub returns : goal.returns

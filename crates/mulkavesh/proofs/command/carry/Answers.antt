@@ -2,7 +2,7 @@ use Rattle.std.proofs.Common.{ℕ, List, subst}
 use Rattle.std.specs.Prelude.{Ok}
 use Rattle.std.specs.Io.KnownBytes.{Appends}
 use Rattle.walrus_tools.specs.Handed.{WroteFront}
-use Rattle.mulkavesh.specs.Made.{AnswersOrder}
+use Rattle.mulkavesh.specs.Subcommands.{AnswersOrder}
 use Rattle.mulkavesh.proofs.command.carry.Goals as goal
 
 pub returns-in-Ok-write_all-clause-headline : goal.returns-in-Ok-write_all-clause-headline

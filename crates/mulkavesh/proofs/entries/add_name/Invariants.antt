@@ -1,5 +1,5 @@
 use Rattle.std.proofs.Common.{◌≡◌, ◌++◌, length}
-use Rattle.mulkavesh.specs.Shown.{shown}
+use Rattle.mulkavesh.specs.Visible.{shown}
 use Rattle.mulkavesh.proofs.entries.add_name.Given as goal
 
 -- behind what stands there the rest of the name would make what the whole name makes

@@ -1,7 +1,7 @@
 use Rattle.std.proofs.Common.{◌≡◌, ℕ, List, ◌++◌, append_assoc, sym, ap, ◌∙◌}
 use Rattle.std.proofs.KnownBytes.{Appends-trans}
 use Rattle.walrus_tools.proofs.DeviceLemmas.{on_err, front_of_first, front_of_second}
-use Rattle.mulkavesh.specs.Shown.{shown}
+use Rattle.mulkavesh.specs.Visible.{shown}
 use Rattle.mulkavesh.proofs.message.write_shown.Goals as goal
 
 pub returns-in_err-write_all-clause-begun : goal.returns-in_err-write_all-clause-begun

@@ -1,6 +1,6 @@
 use Rattle.std.proofs.Common.{◌≡◌, List, ℕ, ◌++◌, length}
 use Rattle.std.specs.Io.KnownBytes.{Appends}
-use Rattle.mulkavesh.specs.Shown.{shown}
+use Rattle.mulkavesh.specs.Visible.{shown}
 use Rattle.mulkavesh.proofs.message.write_shown.Given as goal
 
 -- a front of what is shown was written, and the rest of the text makes the rest of it

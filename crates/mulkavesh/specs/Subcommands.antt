@@ -1,0 +1,132 @@
+-- What each subcommand makes of the bytes of a module. Left open are what is written for programs, under `--json`, and what is noted by gc
+-- without `--quiet`, by snip and by stub.
+use Rattle.std.specs.Prelude.{ℕ, Bool, true, false, List, [], ◌++◌, Option, Some, None, Result, Ok, Err, String, codes, is_some, string_bytes, ◌≡◌, ◌⊎◌, ⊤}
+use Rattle.std.specs.Global.{Vec}
+use Rattle.std.specs.declared.alloc.Global.{Global}
+use Rattle.std.specs.Str.Parse.{ParsesUnsigned}
+use Rattle.walrus_tools.specs.Diagnosed.{Finds, fault_text}
+use Rattle.walrus_tools.specs.Found.{AnswersFound, IsFound}
+use Rattle.walrus_tools.specs.Handed.{Config, Error, Fault, Memory, ReportsOn, RunsOn, config_of, defaults}
+use Rattle.walrus_tools.specs.Reasons.{AnswersChain}
+use Rattle.walrus_tools.specs.Sized.{AnswersListed}
+use Rattle.walrus_tools.specs.Snipped.{AnswersSnipped}
+use Rattle.walrus_tools.specs.Stripped.{AnswersStripped}
+use Rattle.walrus_tools.specs.Stubbed.{AnswersStubbed}
+use Rattle.walrus_tools.specs.Wanted.{config_wanted}
+use Rattle.mulkavesh.specs.declared.subcommands.Made.{Made}
+use Rattle.mulkavesh.specs.declared.order.Order.{Order}
+use Rattle.mulkavesh.specs.declared.order.Work.{Work}
+use Rattle.mulkavesh.specs.declared.order.Work.TheVariants as work
+use Rattle.mulkavesh.specs.Entries.{TellsList}
+
+-- what a call of the library answers: bytes, or why not
+abbrev pub Answer : Type 0
+Answer = Result (Vec ℕ) Error
+
+abbrev pub vec_bytes : Vec ℕ → List ℕ
+vec_bytes b = b.items
+
+-- for people this is so; for programs it is left open
+abbrev pub ForPeople : (is_json : Bool) → Type 0 → Type 0
+ForPeople true P = ⊤
+ForPeople false P = P
+
+-- ---- what is written
+
+-- nothing is said on standard error behind what is written
+abbrev pub NotesNothing : Made → Type 0
+NotesNothing m = m.note.items ≡ []
+
+-- the answer of a call that answers so; what is noted is left open
+abbrev pub Writes : (Answers : Answer → Type 0) → Result Made Error → Type 0
+Writes Answers (Ok m) = Answers (Ok m.output) × (m.is_refused ≡ false)
+Writes Answers (Err e) = Answers (Err e)
+
+-- the same, and nothing is noted
+abbrev pub WritesAlone : (Answers : Answer → Type 0) → Result Made Error → Type 0
+WritesAlone Answers (Ok m) = Answers (Ok m.output) × (m.is_refused ≡ false) × NotesNothing m
+WritesAlone Answers (Err e) = Answers (Err e)
+
+-- the same where the order is to be quiet; and else what is noted is left open
+abbrev pub WritesQuietly : (is_quiet : Bool) → (Answers : Answer → Type 0) → Result Made Error → Type 0
+WritesQuietly true Answers = WritesAlone Answers
+WritesQuietly false Answers = Writes Answers
+
+-- a text that tells that answer so
+abbrev pub AnswersText : (is_json : Bool) → (Tells : List ℕ → List ℕ → Type 0) → (Answers : Answer → Type 0) → Answer → Type 0
+AnswersText is_json Tells Answers (Ok text) = (answer : Vec ℕ) × (Answers (Ok answer) × ForPeople is_json (Tells answer.items text.items))
+AnswersText is_json Tells Answers (Err e) = Answers (Err e)
+
+abbrev pub WritesText : (is_json : Bool) → (Tells : List ℕ → List ℕ → Type 0) → (Answers : Answer → Type 0) → Result Made Error → Type 0
+WritesText is_json Tells Answers = WritesAlone (AnswersText is_json Tells Answers)
+
+-- word for word
+abbrev pub IsSame : List ℕ → List ℕ → Type 0
+IsSame bytes text = text ≡ bytes
+
+-- ---- check
+
+-- the line of what was found
+abbrev pub verdict_text : Option Fault → List ℕ
+verdict_text None = codes "accepted\n"
+verdict_text (Some fault) = fault_text fault ++ codes "\n"
+
+-- nothing was found exactly where the bytes are accepted, and otherwise something that is wrong with them; the module is refused where something was
+-- found, and the text says what
+pub record IsVerdict (c : Config) (bytes : List ℕ) (is_json is_refused : Bool) (text : List ℕ) : Type 0 where
+  pub found : Option Fault
+  pub finds : Finds c bytes found
+  pub refused : is_refused ≡ is_some found
+  pub says : ForPeople is_json (text ≡ verdict_text found)
+
+-- the verdict, and nothing is noted; or memory ran out
+abbrev pub Checks : Config → (bytes : List ℕ) → (is_json : Bool) → Result Made Error → Type 0
+Checks c bytes is_json (Ok m) = IsVerdict c bytes is_json m.is_refused m.output.items × NotesNothing m
+Checks c bytes is_json (Err (Memory e)) = ⊤
+Checks c bytes is_json (Err _) = ⊥
+
+-- ---- why
+
+-- the word says an index of 32 bits
+abbrev pub IsIndex : (word : List ℕ) → ℕ → Type 0
+IsIndex word index = ParsesUnsigned {E = Unit {0}} 32 10 word (Ok index)
+
+-- the function of the index that the word says, or else the one that is meant by this name
+pub data Means (c : Config) (bytes word : List ℕ) (function : ℕ) : Type 0 where
+  index : IsIndex word function → Means c bytes word function
+  name : ((i : ℕ) → IsIndex word i → ⊥) → IsFound c bytes word function → Means c bytes word function
+
+-- the word says no index, and no function is meant by it
+abbrev pub MeansNone : Config → (bytes word : List ℕ) → Answer → Type 0
+MeansNone c bytes word (Ok answer) = ⊥
+MeansNone c bytes word (Err e) = ((i : ℕ) → IsIndex word i → ⊥) × AnswersFound c bytes word (Err e)
+
+-- the function that is meant, or why there is none
+abbrev pub FindsMeant : Config → (bytes word : List ℕ) → Result ℕ Error → Type 0
+FindsMeant c bytes word (Ok function) = Means c bytes word function
+FindsMeant c bytes word (Err e) = MeansNone c bytes word (Err e)
+
+-- the chain to the function that is meant
+abbrev pub AnswersWhy : Config → (bytes word : List ℕ) → Answer → Type 0
+AnswersWhy c bytes word answer = ((function : ℕ) × Means c bytes word function × AnswersChain c bytes function vec_bytes answer) ⊎ MeansNone c bytes word answer
+
+-- ---- each subcommand
+
+-- what a subcommand is about; where it is about nothing, no bytes
+abbrev pub operand_bytes : Option (String Global) → List ℕ
+operand_bytes None = []
+operand_bytes (Some word) = string_bytes word
+
+abbrev pub AnswersWork : Work → Config → (is_quiet is_json : Bool) → (operand bytes : List ℕ) → Result Made Error → Type 0
+AnswersWork work.Gc c is_quiet is_json operand bytes = WritesQuietly is_quiet (RunsOn c bytes vec_bytes)
+AnswersWork work.Report c is_quiet is_json operand bytes = WritesText is_json IsSame (ReportsOn c bytes vec_bytes)
+AnswersWork work.List c is_quiet is_json operand bytes = WritesText is_json TellsList (AnswersListed c bytes)
+AnswersWork work.Check c is_quiet is_json operand bytes = Checks c bytes is_json
+AnswersWork work.Strip c is_quiet is_json operand bytes = WritesAlone (AnswersStripped c bytes operand)
+AnswersWork work.Snip c is_quiet is_json operand bytes = Writes (AnswersSnipped (config_of defaults) bytes operand)
+AnswersWork work.Stub c is_quiet is_json operand bytes = Writes (AnswersStubbed (config_of defaults) bytes operand)
+AnswersWork work.Why c is_quiet is_json operand bytes = WritesText is_json IsSame (AnswersWhy (config_of defaults) bytes operand)
+
+-- what an order makes of the bytes
+abbrev pub AnswersOrder : Order → (bytes : List ℕ) → Result Made Error → Type 0
+AnswersOrder o bytes = AnswersWork o.work (config_wanted o.wanted) o.is_quiet o.is_json (operand_bytes o.operand) bytes

@@ -1,0 +1,135 @@
+//! What each subcommand makes of the bytes of a module.
+
+ghost use Rattle.std.specs.Prelude.{◌≡◌, false};
+ghost use Rattle.mulkavesh.specs.Entries.{TellsList};
+ghost use Rattle.mulkavesh.specs.Subcommands.{AnswersOrder, AnswersText, AnswersWhy, FindsMeant, IsSame, NotesNothing, Writes, WritesQuietly, operand_bytes, vec_bytes};
+ghost use Rattle.walrus_tools.specs.Handed.{ReportsOn, RunsOn, config_of, defaults};
+ghost use Rattle.walrus_tools.specs.Sized.{AnswersListed};
+ghost use Rattle.walrus_tools.specs.Wanted.{config_wanted};
+
+use crate::notes::note_of;
+use crate::order::{Order, Work};
+use crate::{chains, entries, reports, verdicts};
+use std::alloc::Global;
+use walrus_tools::{Error, Wanted, find, gc, list, report, snip, strip, stub, why};
+
+/// What a subcommand makes.
+#[derive(Drop)]
+pub struct Made {
+    /// What is written.
+    pub output: Vec<u8>,
+    /// What is said on standard error behind it, whole lines.
+    pub note: Vec<u8>,
+    /// Whether it says that the module isn't accepted.
+    pub is_refused: bool,
+}
+
+// Bytes, and nothing else to be said.
+fn only(alloc: Global, output: Vec<u8>) -> Made
+    ensures output { result.output ≡ output }
+    ensures accepted { result.is_refused ≡ false }
+    ensures alone { NotesNothing result }
+{
+    Made {
+        output,
+        note: Vec::new(alloc),
+        is_refused: false,
+    }
+}
+
+// What the order is about; where that is nothing, an empty text.
+fn operand_in(order: &Order) -> &str
+    ensures { result.now ≡ operand_bytes order.now.operand }
+{
+    match &order.operand {
+        Some(operand) => operand.as_str(),
+        None => "",
+    }
+}
+
+/// What the order makes of the bytes.
+pub(crate) fn make(alloc: Global, order: &Order, bytes: &[u8]) -> Result<Made, Error>
+    ensures { AnswersOrder order.now bytes.now result }
+{
+    let operand = operand_in(order);
+    match order.work {
+        Work::Gc => smaller(alloc, order, bytes),
+        Work::Report => Ok(only(alloc, reported(alloc, order, bytes)?)),
+        Work::List => Ok(only(alloc, listed(alloc, order, bytes)?)),
+        Work::Check => verdicts::checked(alloc, order, bytes),
+        Work::Strip => Ok(only(alloc, strip(alloc, bytes, operand, order.wanted)?)),
+        Work::Snip => Ok(only(alloc, snip(alloc, bytes, operand)?)),
+        Work::Stub => Ok(only(alloc, stub(alloc, bytes, operand)?)),
+        Work::Why => Ok(only(alloc, reasoned(alloc, order, bytes, operand)?)),
+    }
+}
+
+// The module without what nothing reaches; and what is said of that, where the order isn't quiet.
+fn smaller(alloc: Global, order: &Order, bytes: &[u8]) -> Result<Made, Error>
+    ensures { WritesQuietly order.now.is_quiet
+        (RunsOn (config_wanted order.now.wanted) bytes.now vec_bytes) result }
+{
+    if order.is_quiet {
+        return Ok(only(alloc, gc(alloc, bytes, order.wanted)?));
+    }
+    noted(alloc, order.wanted, bytes)
+}
+
+// The module without what nothing reaches, and what is said of that.
+fn noted(alloc: Global, wanted: Wanted, bytes: &[u8]) -> Result<Made, Error>
+    ensures { Writes (RunsOn (config_wanted wanted) bytes.now vec_bytes) result }
+{
+    let output = gc(alloc, bytes, wanted)?;
+    let note = note_of(alloc, bytes, &output, &report(alloc, bytes, wanted)?)?;
+    Ok(Made {
+        output,
+        note,
+        is_refused: false,
+    })
+}
+
+// How many items are kept and dropped.
+fn reported(alloc: Global, order: &Order, bytes: &[u8]) -> Result<Vec<u8>, Error>
+    ensures { AnswersText order.now.is_json IsSame
+        (ReportsOn (config_wanted order.now.wanted) bytes.now vec_bytes) result }
+{
+    let text = report(alloc, bytes, order.wanted)?;
+    if order.is_json {
+        return Ok(reports::json(alloc, &text)?);
+    }
+    Ok(text)
+}
+
+// Which functions stay.
+fn listed(alloc: Global, order: &Order, bytes: &[u8]) -> Result<Vec<u8>, Error>
+    ensures { AnswersText order.now.is_json TellsList
+        (AnswersListed (config_wanted order.now.wanted) bytes.now) result }
+{
+    let list = list(alloc, bytes, order.wanted)?;
+    if order.is_json {
+        return Ok(entries::json(alloc, &list)?);
+    }
+    Ok(entries::text(alloc, &list)?)
+}
+
+// Why a function stays.
+fn reasoned(alloc: Global, order: &Order, bytes: &[u8], operand: &str) -> Result<Vec<u8>, Error>
+    ensures { AnswersText order.now.is_json IsSame
+        (AnswersWhy (config_of defaults) bytes.now operand.now) result }
+{
+    let text = why(alloc, bytes, function_of(alloc, bytes, operand)?)?.into_bytes();
+    if order.is_json {
+        return Ok(chains::json(alloc, &text)?);
+    }
+    Ok(text)
+}
+
+// The function that is meant: an index, or else a name, or else that of an export.
+fn function_of(alloc: Global, bytes: &[u8], operand: &str) -> Result<u32, Error>
+    ensures { FindsMeant (config_of defaults) bytes.now operand.now result }
+{
+    match operand.parse::<u32>() {
+        Ok(index) => Ok(index),
+        Err(_) => find(alloc, bytes, operand),
+    }
+}

@@ -1,9 +1,0 @@
--- A call that takes a name as bytes ("Structure > Values > Names").
-use Rattle.std.specs.Prelude.{ℕ, List, Err, IsUtf8, ◌≡◌}
-use Rattle.walrus_tools.specs.Handed.{NotFound}
-use Rattle.mulkavesh_c.specs.Given.{Answer}
-
--- where the bytes are a text in UTF-8, the answer under that name; else nothing has it
-pub record UnderName (name : List ℕ) (Answers : Answer → Type 0) (answer : Answer) : Type 0 where
-  pub named : IsUtf8 name → Answers answer
-  pub nameless : (IsUtf8 name → ⊥) → answer ≡ Err NotFound

@@ -1,0 +1,55 @@
+use Rattle.std.proofs.Common.{ap, refl, ◌∙◌, inr}
+use Rattle.std.specs.Prelude.{option_map}
+use Rattle.std.proofs.lemmas.Result.{err_from_is_err_and}
+use Rattle.walrus_module.proofs.RawStays.{all_raw}
+use Rattle.walrus_contents.specs.Named.{items_in}
+use Rattle.walrus_base.specs.Id.{place}
+use Rattle.walrus_module.specs.Customs.{sections}
+use Rattle.walrus_module.specs.Flags.{config_of, defaults}
+use Rattle.walrus_module.specs.Settings.{settings}
+use Rattle.walrus_tools.proofs.ReasonEnds.{emission_lacks, function_lacks, measured, reason_told, search_lacks}
+use Rattle.walrus_tools.specs.Reasons.{LacksFunction}
+use Rattle.walrus_tools.proofs.examples.why_with_sizes.why_with_sizes.Goals as goal
+
+pub returns-in_err-function_at : goal.returns-in_err-function_at
+returns-in_err-function_at c =
+    let p = err_from_is_err_and c.from_residual-in_err-function_at.result c.from_residual-in_err-function_at.ensures.1 in
+    rw (p.1, p.2) (function_lacks _ (config_of defaults) c.args.bytes.now c.in_ok-module.module c.in_ok-module.ensures.found c.args.function _ c.in_err-function_at.ensures)
+
+pub returns-in_err-chain : goal.returns-in_err-chain
+returns-in_err-chain c =
+    let p = err_from_is_err_and c.from_residual-in_err-chain.result c.from_residual-in_err-chain.ensures.1 in
+    rw (p.1, p.2) (search_lacks _ (LacksFunction c.args.function) defaults refl c.args.bytes.now c.in_ok-module.module c.in_ok-module.ensures.found c.in_ok-module.ensures.kept.raws c.in_ok-module.ensures.kept.are
+    c.in_ok-module.ensures.configured _ c.in_err-chain.ensures)
+
+pub returns-in_err-run : goal.returns-in_err-run
+returns-in_err-run c =
+    let p = err_from_is_err_and c.from_residual-in_err-run.result c.from_residual-in_err-run.ensures.1 in
+    rw (p.1, p.2) (search_lacks _ (LacksFunction c.args.function) defaults refl c.args.bytes.now c.in_ok-module.module c.in_ok-module.ensures.found c.in_ok-module.ensures.kept.raws c.in_ok-module.ensures.kept.are
+    c.in_ok-module.ensures.configured _ c.in_err-run.ensures.refused)
+
+pub returns-in_err-output : goal.returns-in_err-output
+returns-in_err-output c =
+    let p = err_from_is_err_and c.from_residual-in_err-output.result c.from_residual-in_err-output.ensures.1 in
+    let read = c.in_ok-module.module in
+    let raw = c.in_ok-module.ensures.kept in
+    let kept = c.run.new.module in
+    let left = c.emit_wasm_with_transform.new.self in
+    let ran = c.in_ok-run.ensures in
+    let same = c.in_err-output.ensures.emits.raw (all_raw kept.customs raw.raws (ap sections ran.others.customs ∙ raw.are)) in
+    rw (p.1, p.2) (emission_lacks _ (LacksFunction c.args.function) defaults refl c.args.bytes.now read c.in_ok-module.ensures.found raw.raws raw.are c.in_ok-module.ensures.configured kept ran.collected ran.others.customs left same
+    (settings kept) ran.others.settings c.in_err-output.field-0.0 c.in_err-output.ensures.emits.left c.in_err-output.ensures.emits.well_made)
+
+pub returns : goal.returns
+returns c =
+    let read = c.in_ok-module.module in
+    let raw = c.in_ok-module.ensures.kept in
+    let kept = c.run.new.module in
+    let left = c.emit_wasm_with_transform.new.self in
+    let ran = c.in_ok-run.ensures in
+    let wrote = c.in_ok-output.ensures in
+    let same = wrote.emits.raw (all_raw kept.customs raw.raws (ap sections ran.others.customs ∙ raw.are)) in
+    let m = measured _ (LacksFunction c.args.function) defaults refl c.args.bytes.now read c.in_ok-module.ensures.found raw.raws raw.are c.in_ok-module.ensures.configured kept ran.collected ran.others.customs left same
+    wrote.emits.left (settings kept) (ran.others.settings ∙ c.in_ok-module.ensures.configured) c.in_ok-output.output c.in_ok-output.transform wrote.emits.well_made (wrote.transform (inr refl)) in
+    reason_told _ (config_of defaults) c.args.bytes.now read c.in_ok-module.ensures.found c.args.function (place c.in_ok-function_at.field-0) c.in_ok-function_at.ensures.0 c.in_ok-function_at.ensures.1
+    (option_map items_in c.in_ok-chain.chain) c.in_ok-chain.ensures _ _ m refl refl c.in_ok-report.field-0 c.in_ok-report.ensures

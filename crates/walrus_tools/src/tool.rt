@@ -1,0 +1,11 @@
+//! What programs call: `mulkavesh` for its subcommands, and the C interface. A file has the name of its call.
+
+pub mod diagnose;
+pub mod find;
+pub mod gc;
+pub mod list;
+pub mod report;
+pub mod snip;
+pub mod strip;
+pub mod stub;
+pub mod why;
