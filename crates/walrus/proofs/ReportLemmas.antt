@@ -1,6 +1,6 @@
 -- The report: numbers that are counted place by place, and what the module in memory says of the one that was read.
 use Rattle.std.proofs.Common.{◌≡◌, ℕ, zero, suc, ◌+◌, ◌<◌, Bool, true, false, not, ◌&&◌, cond, List, [], ◌∷◌, ◌++◌, length, get_or, filter, codes, decimal, append_assoc, inl, inr, Option, refl, sym, ap, ◌∙◌, subst, arith}
-use Rattle.std.specs.Prelude.{AllPairs, Contains, IsSome, ◌↔◌}
+use Rattle.std.specs.Prelude.{AllPairs, Contains, IsSome, count_by, ◌↔◌}
 use Rattle.std.specs.List.{range_with_len}
 use Rattle.std.proofs.lemmas.Bool.{false≢true, and_from as and_both}
 use Rattle.std.proofs.lemmas.List.Elements.{All-contains, filter_passes}
@@ -102,22 +102,21 @@ module _ (p : ℕ → Bool) where
   picked_pass : (a n k : ℕ) → Contains (picked a n) k → p k ≡ true
   picked_pass a n k has = All-contains (λ (x : ℕ). p x ≡ true) (picked a n) k (filter_passes p (range_with_len a n)) has
 
+  -- as many numbers below n pass as are counted
+  pub counted_below : (n : ℕ) (P : ℕ → Type 0) → ((i : ℕ) → p i ≡ true → P i) → ((i : ℕ) → P i → (p i ≡ true) × (i < n)) → Counts P (count_by p (range_with_len 0 n))
+  counted_below n P there back = record {
+    numbers = picked 0 n;
+    rising = picked_rise 0 n;
+    are = λ i. (λ has. there i (picked_pass 0 n i has), λ h. in_picked n 0 i i (omega arith) (back i h).1 (back i h).0);
+    long = sym (length-filter p (range_with_len 0 n));
+  }
+
 -- ---- what is counted of a collection
 
 module _ {T : Type 0} (keeps : ℕ → Bool) (asked : Bool) (slots : List (Option T)) where
   -- as many are counted as numbers pass
   counted : (P : ℕ → Type 0) → ((i : ℕ) → is_counted keeps asked slots i ≡ true → P i) → ((i : ℕ) → P i → is_counted keeps asked slots i ≡ true) → Counts P (count_where keeps asked slots)
-  counted P there back = record {
-    numbers = picked (is_counted keeps asked slots) 0 (length slots);
-    rising = picked_rise (is_counted keeps asked slots) 0 (length slots);
-    are = λ i. (
-      λ has. there i (picked_pass (is_counted keeps asked slots) 0 (length slots) i has),
-      λ h.
-          let passes = back i h in
-          in_picked (is_counted keeps asked slots) (length slots) 0 i i (omega arith) (below slots i (and_left _ _ passes)) passes,
-    );
-    long = sym (length-filter (is_counted keeps asked slots) (range_with_len 0 (length slots)));
-  }
+  counted P there back = counted_below (is_counted keeps asked slots) (length slots) P there (λ i h. (back i h, below slots i (and_left _ _ (back i h))))
 
 module _ {T : Type 0} (keeps : ℕ → Bool) (slots : List (Option T)) (K L : ℕ → Type 0) (kept : (i : ℕ) → (keeps i ≡ true) ↔ K i)
     (live : (i : ℕ) → IsSome (item_at slots i) → L i) (was : (i : ℕ) → L i → IsSome (item_at slots i)) (kept_live : (i : ℕ) → K i → L i) where
