@@ -53,6 +53,13 @@ module _ (c : Config) (m v : Abstract) (p : ParsedAs c m v) (plain : IsPlain m) 
     live_same : (i : ℕ) → IsLive v (space, i) ↔ IsLive m (space, i)
     live_same i = (live_back c m v p (space, i) other, live_forth c m v p (space, i))
 
+    -- as many are kept, and there, in the module that was read
+    pub kept_read : (n : ℕ) → Counts (λ i. Kept v (space, i)) n → Counts (λ i. Kept m (space, i)) n
+    kept_read = same_count _ _ kept_same
+
+    pub live_read : (n : ℕ) → Counts (λ i. IsLive v (space, i)) n → Counts (λ i. IsLive m (space, i)) n
+    live_read = same_count _ _ live_same
+
     line_read : (word text : List ℕ) → IsLine v space word text → IsLine m space word text
     line_read = same_line v m space kept_same live_same
 

@@ -14,6 +14,7 @@ mod FoundEnds
 mod FunctionsThere
 mod HookEnds
 mod HookSteps
+mod KindLemmas
 mod LineLemmas
 mod ListedBytes
 mod ListedEnds

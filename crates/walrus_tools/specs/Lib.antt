@@ -6,6 +6,7 @@ pub mod Finding
 pub mod Found
 pub mod Handed
 pub mod Hooked
+pub mod Kinds
 pub mod Listed
 pub mod Listing
 pub mod Measured

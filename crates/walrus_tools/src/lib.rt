@@ -31,7 +31,7 @@ pub use examples::with_places::with_places;
 pub use law::moves_once;
 pub use tool::diagnose::{diagnose, fault, fault_words};
 pub use tool::find::find;
-pub use tool::gc::gc;
+pub use tool::gc::{Kinds, Smaller, gc, gc_counted};
 pub use tool::list::{NO_NAME, list};
 pub use tool::report::report;
 pub use tool::snip::snip;
