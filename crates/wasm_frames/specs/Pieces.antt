@@ -6,7 +6,7 @@ use Rattle.wasm_frames.specs.declared.pieces.RawPiece.{RawPiece}
 use Rattle.wasm_frames.specs.declared.pieces.Pieced.{Pieced}
 use Rattle.wasm_frames.specs.declared.pieces.Pieced.TheVariants as found
 use Rattle.wasm_frames.specs.Record.{Module}
-use Rattle.wasm_frames.specs.Frames.{Section, IsSection, header, Frames}
+use Rattle.wasm_frames.specs.Frames.{Section, header, Frames}
 use Rattle.wasm_frames.specs.Until.{LacksHeader}
 
 -- a section as it stands: the id, a custom section's name, the count in front of a list's entries, the place of the id in the
