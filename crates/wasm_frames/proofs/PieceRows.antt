@@ -1,5 +1,5 @@
 -- Sections as they stand, one after another: those of bytes are one list, up to one place.
-use Rattle.std.proofs.Common.{◌≡◌, ℕ, suc, ◌+◌, ◌-◌, ◌<◌, List, [], ◌∷◌, ◌++◌, length, refl, sym, ap, subst, ◌∙◌, arith, append_assoc, length-append}
+use Rattle.std.proofs.Common.{◌≡◌, ℕ, suc, ◌+◌, ◌<◌, List, [], ◌∷◌, ◌++◌, length, refl, sym, ap, subst, ◌∙◌, arith, append_assoc, length-append}
 use Rattle.std.proofs.lemmas.List.{append-nil}
 use Rattle.std.specs.Prelude.{Option, Some, None, flat_map}
 use Rattle.wasm_forms.proofs.Bind.{some_same}
@@ -20,7 +20,8 @@ cons_same : (p q : Piece) (ps qs : List Piece) → p ≡ q → ps ≡ qs → p �
 cons_same p q ps qs e f = cc
 
 -- whole sections in front of equal bytes, behind which none stands, are the same and equally long
-one_reach : (ps qs : List Piece) (place : ℕ) (whole rest whole' rest' : List ℕ) → whole ++ rest ≡ whole' ++ rest' → ArePieces place whole ps → ArePieces place whole' qs
+one_reach : (ps qs : List Piece) (place : ℕ) (whole rest whole' rest' : List ℕ)
+    → whole ++ rest ≡ whole' ++ rest' → ArePieces place whole ps → ArePieces place whole' qs
     → LacksPiece (place + length whole) rest → LacksPiece (place + length whole') rest' → (ps ≡ qs) × (length whole ≡ length whole')
 one_reach [] [] place whole rest whole' rest' e h h' lacks lacks' = (refl, ap length h ∙ sym (ap length h'))
 one_reach [] (q ∷ qs) place whole rest whole' rest' e h h' lacks lacks' =
@@ -35,10 +36,13 @@ one_reach (p ∷ ps) (q ∷ qs) place whole rest whole' rest' e h h' lacks lacks
     let split : whole ++ rest ≡ h.0 ++ (h.1.0 ++ rest) = ap (λ l. l ++ rest) h.1.1.0 ∙ append_assoc h.0 h.1.0 rest in
     let split' : whole' ++ rest' ≡ h'.0 ++ (h'.1.0 ++ rest') = ap (λ l. l ++ rest') h'.1.1.0 ∙ append_assoc h'.0 h'.1.0 rest' in
     let ends : h.0 ++ (h.1.0 ++ rest) ≡ h'.0 ++ (h'.1.0 ++ rest') = sym split ∙ e ∙ split' in
-    let both : Some (p, h.1.0 ++ rest) ≡ Some (q, h'.1.0 ++ rest') = sym ((piece_exact place).again h.0 (h.1.0 ++ rest) p h.1.1.1) ∙ ap (piece_at place) ends ∙ (piece_exact place).again h'.0 (h'.1.0 ++ rest') q h'.1.1.1 in
+    let both : Some (p, h.1.0 ++ rest) ≡ Some (q, h'.1.0 ++ rest') =
+    sym ((piece_exact place).again h.0 (h.1.0 ++ rest) p h.1.1.1)
+    ∙ ap (piece_at place) ends ∙ (piece_exact place).again h'.0 (h'.1.0 ++ rest') q h'.1.1.1 in
     let same : (p, h.1.0 ++ rest) ≡ (q, h'.1.0 ++ rest') = some_same (p, h.1.0 ++ rest) (q, h'.1.0 ++ rest') both in
     let rests : h.1.0 ++ rest ≡ h'.1.0 ++ rest' = ap (λ (x : Piece × List ℕ). x.1) same in
-    let far : length h.0 ≡ length h'.0 = omega (arith, ap length ends, ap length rests, length-append h.0 (h.1.0 ++ rest), length-append h'.0 (h'.1.0 ++ rest')) in
+    let far : length h.0 ≡ length h'.0 =
+    omega (arith, ap length ends, ap length rests, length-append h.0 (h.1.0 ++ rest), length-append h'.0 (h'.1.0 ++ rest')) in
     let long : length whole ≡ length h.0 + length h.1.0 = ap length h.1.1.0 ∙ length-append h.0 h.1.0 in
     let long' : length whole' ≡ length h'.0 + length h'.1.0 = ap length h'.1.1.0 ∙ length-append h'.0 h'.1.0 in
     let onward : ArePieces (place + length h.0) h'.1.0 qs = subst (λ (n : ℕ). ArePieces (place + n) h'.1.0 qs) (sym far) h'.1.1.2 in
@@ -69,7 +73,8 @@ pub cut_short : IsCutShort
 cut_short = λ bytes ps qs place h f.
     let same : h.whole ++ h.rest ≡ f.rest ++ [] = behind_header bytes (h.whole ++ h.rest) f.rest h.headed f.headed ∙ sym (append-nil f.rest) in
     let lack : LacksPiece (8 + length h.whole) h.rest = subst (λ (n : ℕ). LacksPiece n h.rest) h.reached h.stops in
-    let far : length h.whole ≡ length f.rest = (one_reach ps qs 8 h.whole h.rest f.rest [] same h.framed f.framed lack (none_left (8 + length f.rest))).1 in
+    let far : length h.whole ≡ length f.rest =
+    (one_reach ps qs 8 h.whole h.rest f.rest [] same h.framed f.framed lack (none_left (8 + length f.rest))).1 in
     let some : 0 < length h.rest = h.left in
     omega (arith, ap length same, length-append h.whole h.rest, length-append f.rest [])
 

@@ -30,7 +30,8 @@ name_takes : (id : ℕ) (content : List ℕ) (n : Option (List ℕ)) → name_in
 unfolding name_in
 name_takes id content n e = name_takes_by (nat_eq id 0) id content n refl e
 
-no_name : (test : Bool) (id : ℕ) (read : Option (Option (List ℕ))) → nat_eq id 0 ≡ test → (id ≡ 0 → ⊥) → (if test then read else Some None) ≡ Some None
+no_name : (test : Bool) (id : ℕ) (read : Option (Option (List ℕ))) → nat_eq id 0 ≡ test → (id ≡ 0 → ⊥)
+    → (if test then read else Some None) ≡ Some None
 no_name true id read t h = absurd (h (eqb-true id 0 t))
 no_name false id read t h = refl
 
@@ -49,15 +50,16 @@ with_count n = Some n.0
 counted_by : (test : Bool) (read : Option (ℕ × List ℕ)) (id : ℕ) (content : List ℕ) → is_list id ≡ test → at U32 content ≡ read
     → IsCounted id content (if test then (read >>= with_count) else None)
 counted_by true (Some x) id content t e = let u = (exact U32).takes content x e in (t, (u.0, (x.1, (u.1.0, u.1.1))))
-counted_by true None id content t e = λ l front back n s i. some_not_none (n, back) (sym ((exact U32).again front back n i) ∙ ap (at U32) (sym s) ∙ e)
+counted_by true None id content t e = λ l front back n s i.
+    some_not_none (n, back) (sym ((exact U32).again front back n i) ∙ ap (at U32) (sym s) ∙ e)
 counted_by false read id content t e = λ l front back n s i. true_not_false (sym l ∙ t)
 
 pub counted : (id : ℕ) (content : List ℕ) → IsCounted id content (count_in id content)
 unfolding count_in
 counted id content = counted_by (is_list id) (at U32 content) id content refl refl
 
-no_count : (test : Bool) (read : Option (ℕ × List ℕ)) (id : ℕ) (content : List ℕ) → is_list id ≡ test → at U32 content ≡ read → IsCounted id content None
-    → (if test then (read >>= with_count) else None) ≡ None
+no_count : (test : Bool) (read : Option (ℕ × List ℕ)) (id : ℕ) (content : List ℕ) → is_list id ≡ test → at U32 content ≡ read
+    → IsCounted id content None → (if test then (read >>= with_count) else None) ≡ None
 no_count true (Some x) id content t e h = let u = (exact U32).takes content x e in absurd (h t u.0 x.1 x.0 u.1.0 u.1.1)
 no_count true None id content t e h = refl
 no_count false read id content t e h = refl
@@ -92,9 +94,11 @@ before_rest bytes front rest e =
 abbrev made_as : Piece → Option ℕ → ℕ → List ℕ → Piece
 made_as p entries start bytes = record { id = p.id; name = p.name; entries = entries; start = start; bytes = bytes }
 
-same_piece : (p : Piece) (entries : Option ℕ) (start : ℕ) (bytes : List ℕ) → entries ≡ p.entries → start ≡ p.start → bytes ≡ p.bytes → made_as p entries start bytes ≡ p
+same_piece : (p : Piece) (entries : Option ℕ) (start : ℕ) (bytes : List ℕ) → entries ≡ p.entries → start ≡ p.start → bytes ≡ p.bytes
+    → made_as p entries start bytes ≡ p
 same_piece p entries start bytes e f g =
-    ap (λ (n : Option ℕ). made_as p n start bytes) e ∙ ap (λ (s : ℕ). made_as p p.entries s bytes) f ∙ ap (λ (l : List ℕ). made_as p p.entries p.start l) g
+    ap (λ (n : Option ℕ). made_as p n start bytes) e ∙ ap (λ (s : ℕ). made_as p p.entries s bytes) f
+    ∙ ap (λ (l : List ℕ). made_as p p.entries p.start l) g
 
 pub piece_exact : (place : ℕ) → IsExact (IsPiece place) (piece_at place)
 unfolding piece_at
@@ -125,9 +129,11 @@ piece_exact place = record {
       let bytes : List ℕ = front ++ rest in
       let read : bytes ≡ p.id ∷ ((h.size ++ h.content) ++ rest) = ap (λ l. l ++ rest) h.spelled in
       let same : piece_of p.id place bytes (h.content, rest) p.name ≡ p =
-      same_piece p (count_in p.id h.content) place (take (length bytes - length rest) bytes) (count_again p.id h.content p.entries h.counted) (sym h.starts) (before_rest bytes front rest refl ∙ sym h.held) in
+      same_piece p (count_in p.id h.content) place (take (length bytes - length rest) bytes) (count_again p.id h.content p.entries h.counted)
+      (sym h.starts) (before_rest bytes front rest refl ∙ sym h.held) in
       bind_at (byte_at bytes) (led_piece place bytes) (p.id, (h.size ++ h.content) ++ rest) (ap byte_at read)
-      ∙ bind_at (at Block ((h.size ++ h.content) ++ rest)) (sized_piece p.id place bytes) (h.content, rest) ((exact Block).again (h.size ++ h.content) rest h.content (h.size, (refl, h.sized)))
+      ∙ bind_at (at Block ((h.size ++ h.content) ++ rest)) (sized_piece p.id place bytes) (h.content, rest)
+      ((exact Block).again (h.size ++ h.content) rest h.content (h.size, (refl, h.sized)))
       ∙ bind_at (name_in p.id h.content) (named_piece p.id place bytes (h.content, rest)) p.name (name_again p.id h.content p.name h.named)
       ∙ ap (λ (q : Piece). Some (q, rest)) same;
 }

@@ -37,21 +37,25 @@ piece_shorter place bytes rest p e =
     omega (arith, ap length u.1.0, length-append u.0 rest, ap length u.1.1.spelled)
 
 -- a section further
-pub pieces_next : (bytes rest behind : List ℕ) (old now : List RawPiece) (piece : RawPiece) → PiecesReached bytes rest (map piece_record old)
-    → piece_at (length bytes - length rest) rest ≡ Some (piece_record piece, behind) → now ≡ old ++ piece ∷ [] → PiecesReached bytes behind (map piece_record now)
+pub pieces_next : (bytes rest behind : List ℕ) (old now : List RawPiece) (piece : RawPiece)
+    → PiecesReached bytes rest (map piece_record old) → piece_at (length bytes - length rest) rest ≡ Some (piece_record piece, behind)
+    → now ≡ old ++ piece ∷ [] → PiecesReached bytes behind (map piece_record now)
 pieces_next bytes rest behind old now piece h e longer =
     let u = (piece_exact (length bytes - length rest)).takes rest (piece_record piece, behind) e in
-    let there : IsPiece (8 + length h.whole) u.0 (piece_record piece) = subst (λ (n : ℕ). IsPiece n u.0 (piece_record piece)) (place_reached bytes h.whole rest h.headed) u.1.1 in
-    let all : map piece_record now ≡ map piece_record old ++ piece_record piece ∷ [] = ap (map piece_record) longer ∙ map-append piece_record old (piece ∷ []) in
+    let there : IsPiece (8 + length h.whole) u.0 (piece_record piece) =
+    subst (λ (n : ℕ). IsPiece n u.0 (piece_record piece)) (place_reached bytes h.whole rest h.headed) u.1.1 in
+    let all : map piece_record now ≡ map piece_record old ++ piece_record piece ∷ [] =
+    ap (map piece_record) longer ∙ map-append piece_record old (piece ∷ []) in
     record {
       whole = h.whole ++ u.0;
       headed = h.headed ∙ ap (λ l. header ++ (h.whole ++ l)) u.1.0 ∙ ap (λ l. header ++ l) (sym (append_assoc h.whole u.0 behind));
-      framed = subst (λ (ps : List Piece). ArePieces 8 (h.whole ++ u.0) ps) (sym all) (pieces_more 8 h.whole u.0 (map piece_record old) (piece_record piece) h.framed there);
+      framed = subst (λ (ps : List Piece). ArePieces 8 (h.whole ++ u.0) ps) (sym all)
+          (pieces_more 8 h.whole u.0 (map piece_record old) (piece_record piece) h.framed there);
     }
 
 -- where no section stands, and bytes are left
-pub pieces_stop : (bytes rest : List ℕ) (so_far : List Piece) → PiecesReached bytes rest so_far → piece_at (length bytes - length rest) rest ≡ None → 0 < length rest
-    → PiecesUntil bytes so_far (length bytes - length rest)
+pub pieces_stop : (bytes rest : List ℕ) (so_far : List Piece) → PiecesReached bytes rest so_far
+    → piece_at (length bytes - length rest) rest ≡ None → 0 < length rest → PiecesUntil bytes so_far (length bytes - length rest)
 pieces_stop bytes rest so_far h none some = record {
   whole = h.whole;
   rest = rest;
@@ -60,10 +64,15 @@ pieces_stop bytes rest so_far h none some = record {
   reached = place_reached bytes h.whole rest h.headed;
   left = some;
   stops = λ front back p e t.
-      some_not_none (p, back) (sym (ap (piece_at (length bytes - length rest)) e ∙ (piece_exact (length bytes - length rest)).again front back p t) ∙ none);
+      let place : ℕ = length bytes - length rest in
+      some_not_none (p, back) (sym (ap (piece_at place) e ∙ (piece_exact place).again front back p t) ∙ none);
 }
 
 -- at the end
 pub pieces_end : (bytes rest : List ℕ) (so_far : List Piece) → PiecesReached bytes rest so_far → length rest ≡ 0 → HasPieces bytes so_far
-pieces_end bytes [] so_far h none = record { rest = h.whole; headed = h.headed ∙ ap (λ l. header ++ l) (append-nil h.whole); framed = h.framed }
+pieces_end bytes [] so_far h none = record {
+  rest = h.whole;
+  headed = h.headed ∙ ap (λ l. header ++ l) (append-nil h.whole);
+  framed = h.framed;
+}
 pieces_end bytes (b ∷ rest) so_far h none = absurd (omega arith)

@@ -13,4 +13,5 @@ pub loop-rest-smaller : goal.loop-rest-smaller
 loop-rest-smaller c = piece_shorter _ _ _ _ (stands _ _ _ _ c.in-Some-2.is c.in_ok-piece.ensures)
 
 pub loop-rest-preserved : goal.loop-rest-preserved
-loop-rest-preserved c = pieces_next _ _ _ _ _ c.in-Some-2.piece c.loop-rest.invariant (stands _ _ _ _ c.in-Some-2.is c.in_ok-piece.ensures) c.in_ok-push.ensures.items
+loop-rest-preserved c =
+    pieces_next _ _ _ _ _ c.in-Some-2.piece c.loop-rest.invariant (stands _ _ _ _ c.in-Some-2.is c.in_ok-piece.ensures) c.in_ok-push.ensures.items
