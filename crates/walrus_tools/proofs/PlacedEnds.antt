@@ -214,14 +214,9 @@ module _ {V : Type 0} {O : V → Type 0} (G : (v : V) → Ghosts (O v)) (c : Con
       by_result (Err (error.Memory e)) leaves customs h = tt
       by_result (Err error.TooLarge) leaves customs h =
           let l = last_of Told customs in
-          record {
-            module_parsed = view G read;
-            parsed = parsed;
-            payload = state_bytes (meaning G l.last).state;
-            module_left = view G left_module;
-            left = left now l.last l.stands_last l.says_last l.named_last (view G left_module) (leaves_now leaves);
-            too_large = h;
-          }
+          let stays : Leaves (with_section name (payload now l.last l.stands_last l.says_last l.named_last) (view G read)) (view G left_module) =
+          left now l.last l.stands_last l.says_last l.named_last (view G left_module) (leaves_now leaves) in
+          (state_bytes (meaning G l.last).state, record { module_left = view G left_module; left = record { module_parsed = view G read; parsed = parsed; left = stays }; too_large = h })
       by_result (Err (error.Caller text)) leaves customs h = absurd (quiet_then (last_of Told customs) h)
       by_result (Err _) leaves customs h = absurd h
 
