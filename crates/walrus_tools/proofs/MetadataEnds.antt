@@ -58,6 +58,19 @@ module _ (name : List ℕ) (free : is_apart name ≡ false) where
   pub own_name : (name ≢ codes "name") × (name ≢ codes "producers")
   own_name = (differs name (codes "name") parts.0, differs name (codes "producers") (or_left (bytes_eq name (codes "producers")) (is_debug_name name) parts.1).0)
 
+-- what is left of a module with such a section has it, and so has what is written
+module _ (c : Config) (bytes name payload : List ℕ) (free : is_apart name ≡ false) where
+  has_section : (u : Abstract) → GainsSection c bytes name payload u → Contains u.customs (section_of name payload)
+  has_section u g =
+      let same : u.customs ≡ g.module_parsed.customs ++ section_of name payload ∷ [] = ap (λ (x : Abstract). x.customs) (between (with_section name payload g.module_parsed) u g.left).same in
+      subst (λ (cs : List Custom). Contains cs (section_of name payload)) (sym same)
+      (Contains-append_2 (section_of name payload) g.module_parsed.customs (section_of name payload ∷ []) (Contains-head (section_of name payload) []))
+
+  pub section_stands : (output : List ℕ) (h : LeavesWritten (GainsSection c bytes name payload) c output) → Contains h.written.module_written.customs (section_of name payload)
+  section_stands output h =
+      let w = h.written.written.written in
+      subst (λ (cs : List Custom). Contains cs (section_of name payload)) (sym w.customs) (is_written w.indices h.module_left.customs name payload (has_section h.module_left h.left) (no_debug name free))
+
 -- ---- the module with the section
 
 module _ {V : Type 0} {O : V → Type 0} (G : (v : V) → Ghosts (O v)) (m : Module (SectionEntry V O)) (k : ModuleCustomSections (SectionEntry V O)) (raws : List RawCustomSection) (s : RawCustomSection)
@@ -82,11 +95,8 @@ module _ {V : Type 0} {O : V → Type 0} (G : (v : V) → Ghosts (O v)) (m : Mod
     gained_is : view G gained ≡ with_section name payload (view G m)
     gained_is = same_view ∙ ap₂ (λ (n p : List ℕ). with_section n p (view G m)) named holds
 
-    read_well : IsWellMade c (view G m)
-    read_well = parsed_is_well c bytes parsed.module_read (view G m) parsed.reads parsed.holds parsed.parsed
-
     gained_well : IsWellMade c (view G gained)
-    gained_well = (custom_gained c (view G m) (view G gained) (section_of (string_bytes s.name) s.data_.items) [] gain read_well (subst IsFreeName (sym named) (own_name name free))).made
+    gained_well = (custom_gained c (view G m) (view G gained) (section_of (string_bytes s.name) s.data_.items) [] gain (parsed_is_well c bytes parsed.module_read (view G m) parsed.reads parsed.holds parsed.parsed) (subst IsFreeName (sym named) (own_name name free))).made
 
     never : OneAskedMayRefuse (meanings G gained) → ⊥
     never = none_asked_refuses G gained (raws ++ s ∷ []) are_more
@@ -94,20 +104,8 @@ module _ {V : Type 0} {O : V → Type 0} (G : (v : V) → Ghosts (O v)) (m : Mod
     gains : (u : Abstract) → Leaves (view G gained) u → GainsSection c bytes name payload u
     gains u left = record { module_parsed = view G m; parsed = parsed; left = subst (λ (v : Abstract). Leaves v u) gained_is left }
 
-    -- what is left of it has the section, and so has what is written
-    has_section : (u : Abstract) → GainsSection c bytes name payload u → Contains u.customs (section_of name payload)
-    has_section u g =
-        let same : u.customs ≡ g.module_parsed.customs ++ section_of name payload ∷ [] = ap (λ (x : Abstract). x.customs) (between (with_section name payload g.module_parsed) u g.left).same in
-        subst (λ (cs : List Custom). Contains cs (section_of name payload)) (sym same)
-        (Contains-append_2 (section_of name payload) g.module_parsed.customs (section_of name payload ∷ []) (Contains-head (section_of name payload) []))
-
-    stands : (output : List ℕ) (h : LeavesWritten (GainsSection c bytes name payload) c output) → Contains h.written.module_written.customs (section_of name payload)
-    stands output h =
-        let w = h.written.written.written in
-        subst (λ (cs : List Custom). Contains cs (section_of name payload)) (sym w.customs) (is_written w.indices h.module_left.customs name payload (has_section h.module_left h.left) (no_debug name free))
-
     carries : (result : Result (Vec ℕ) Error) → Finishes (GainsSection c bytes name payload) c result → CarriesMetadata c bytes name payload result
-    carries (Ok x) h = record { gains = h; stands = stands x.items h; free = free }
+    carries (Ok x) h = record { gains = h; stands = section_stands c bytes name payload free x.items h; free = free }
     carries (Err (error.Memory e)) h = tt
     carries (Err error.TooLarge) h = h
     carries (Err _) h = absurd h

@@ -85,9 +85,6 @@ module _ {V : Type 0} {O : V → Type 0} (G : (v : V) → Ghosts (O v)) where
     read_customs : (view G read).customs ≡ map custom_of (map raw_meaning raws)
     read_customs = ap (λ ss. map custom_of (map (meaning G) (items ss))) are ∙ ap (map custom_of) (raw_means G raws)
 
-    read_well : IsWellMade c (view G read)
-    read_well = parsed_is_well c bytes parsed.module_read (view G read) parsed.reads parsed.holds parsed.parsed
-
     -- there is none
     strip_lacks : ((s : RawCustomSection) → Contains raws s → string_bytes s.name ≢ name) → AnswersStripped c bytes name (Err error.NotFound)
     strip_lacks others = (view G read, (parsed, subst (NoneNamed name) (sym read_customs) (none_named name raws others)))
@@ -131,7 +128,7 @@ module _ {V : Type 0} {O : V → Type 0} (G : (v : V) → Ghosts (O v)) where
       }
 
       rest_well : IsWellMade c (view G rest)
-      rest_well = (custom_lost c (view G read) (view G rest) section loses read_well).made
+      rest_well = (custom_lost c (view G read) (view G rest) section loses (parsed_is_well c bytes parsed.module_read (view G read) parsed.reads parsed.holds parsed.parsed)).made
 
       lost : (u : Abstract) → Leaves (view G rest) u → LosesSection c bytes name u
       unfolding loses

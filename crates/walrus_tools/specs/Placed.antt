@@ -2,7 +2,6 @@
 use Rattle.std.specs.Prelude.{ℕ, List, map, true, Contains, Result, ◌≡◌, ◌||◌}
 use Rattle.std.specs.Global.{Vec}
 use Rattle.walrus_code.specs.Transform.{Transform}
-use Rattle.walrus_model.specs.Abstract.{Abstract}
 use Rattle.walrus_model.specs.Config.{Config}
 use Rattle.walrus_model.specs.Sections.{is_apart}
 use Rattle.walrus_theorem.specs.Chain.{Leaves}
@@ -10,14 +9,13 @@ use Rattle.walrus_items.specs.Functions.{ModuleFunctions, functions}
 use Rattle.walrus_writing.specs.Parts.{local_in}
 use Rattle.walrus_writing.specs.Transform.{IsTransformOf, locations_in}
 use Rattle.walrus_items.specs.declared.error.Error.{Error}
-use Rattle.walrus_module.specs.Answered.{IsWellWritten}
 use Rattle.walrus_module.specs.Asked.{is_dylink_name}
 use Rattle.walrus_module.specs.Located.{IsPlace}
-use Rattle.walrus_module.specs.Parsed.{AreLocated, IsParsed}
+use Rattle.walrus_module.specs.Parsed.{AreLocated}
 use Rattle.walrus.specs.Places.{last_place, moved_by, new_pair, written_pairs}
 use Rattle.walrus.specs.declared.sections.places.PlacedPair.{PlacedPair}
-use Rattle.walrus_tools.specs.Ends.{Answers, IfCaller, LeavesLarge}
-use Rattle.walrus_tools.specs.Metadata.{GainsSection, section_of, with_section}
+use Rattle.walrus_tools.specs.Ends.{Answers, IfCaller, LeavesLarge, LeavesWritten}
+use Rattle.walrus_tools.specs.Metadata.{GainsSection, section_of}
 
 -- pairs as a section of places is given them
 abbrev pub given : List (ℕ × ℕ) → List PlacedPair
@@ -31,16 +29,12 @@ carried x pairs = written_pairs (map (moved_by (last_place x.instruction_map)) (
 -- more behind its others, what is written: the output is the one spelling of one module of indices, reads as it, and it keeps the rules. The section
 -- stands in it, and says the pairs by the places that the one true transform of the output tells.
 pub record IsWithPlaces (c : Config) (bytes name : List ℕ) (pairs : List (ℕ × ℕ)) (output : List ℕ) : Type 0 where
-  pub module_parsed : Abstract
-  pub parsed : IsParsed c bytes module_parsed
   pub funcs : ModuleFunctions
   pub located : AreLocated IsPlace bytes funcs
   pub transform : Transform
-  pub module_left : Abstract
-  pub left : Leaves (with_section name (carried transform pairs) module_parsed) module_left
-  pub written : IsWellWritten c module_left output
-  pub told : IsTransformOf c true (λ number. locations_in (local_in (functions funcs) number)) module_left output transform
-  pub stands : Contains written.module_written.customs (section_of name (carried transform pairs))
+  pub gains : LeavesWritten (GainsSection c bytes name (carried transform pairs)) c output
+  pub told : IsTransformOf c true (λ number. locations_in (local_in (functions funcs) number)) gains.module_left output transform
+  pub stands : Contains gains.written.module_written.customs (section_of name (carried transform pairs))
 
 -- the section is there, or a refusal with its cause: what is too large has such a section, of whatever data
 abbrev pub CarriesPlaces : Config → (bytes name : List ℕ) → (pairs : List (ℕ × ℕ)) → Result (Vec ℕ) Error → Type 0
