@@ -37,7 +37,8 @@ use Rattle.walrus_module.specs.declared.entry.SectionEntry.{SectionEntry}
 use Rattle.walrus_module.specs.declared.module.Module.{Module}
 use Rattle.walrus_module.proofs.EditedCustoms.{raw_removed}
 use Rattle.walrus_module.proofs.FirstRaw.{FoundRaw, IsFoundRaw, found, gone_at}
-use Rattle.walrus_module.proofs.KeptRaw.{raw_means}
+use Rattle.walrus_module.proofs.KeptRaw.{mean_from, raw_means}
+use Rattle.walrus_module.proofs.RawStays.{each_raw}
 use Rattle.walrus_tools.proofs.Finishing.{answered, emitted}
 use Rattle.walrus_tools.specs.Ends.{IfNotFound}
 use Rattle.walrus_tools.specs.Stripped.{AnswersStripped, LosesSection, NoneNamed}
@@ -45,25 +46,16 @@ use Rattle.walrus_tools.specs.Stripped.{AnswersStripped, LosesSection, NoneNamed
 -- ---- raw sections, of which one is gone
 
 module _ (V : Type 0) (O : V → Type 0) where
-  each_raw : (raws : List RawCustomSection) (i : ℕ) → IsRaw {V = V} {O = O} (item_at (raw_sections raws) i)
-  each_raw [] i = tt
-  each_raw (r ∷ raws) zero = tt
-  each_raw (r ∷ raws) (suc i) = each_raw raws i
-
   still_raw : (before after : List RawCustomSection) (i : ℕ) → IsRaw {V = V} {O = O} (item_at (raw_sections before ++ None ∷ raw_sections after) i)
   still_raw [] after zero = tt
-  still_raw [] after (suc i) = each_raw after i
+  still_raw [] after (suc i) = each_raw V O after i
   still_raw (r ∷ before) after zero = tt
   still_raw (r ∷ before) after (suc i) = still_raw before after i
 
 module _ {V : Type 0} {O : V → Type 0} (G : (v : V) → Ghosts (O v)) where
-  mean_behind : (place : ℕ) (after : List RawCustomSection) → map (meaning G) (map (λ (e : ℕ × SectionEntry V O). e.1) (entries_from place (raw_sections after))) ≡ map raw_meaning after
-  mean_behind place [] = refl
-  mean_behind place (r ∷ after) = ap (λ (l : List Meaning). raw_meaning r ∷ l) (mean_behind (place + 1) after)
-
   mean_gone : (place : ℕ) (before after : List RawCustomSection)
       → map (meaning G) (map (λ (e : ℕ × SectionEntry V O). e.1) (entries_from place (raw_sections before ++ None ∷ raw_sections after))) ≡ map raw_meaning before ++ map raw_meaning after
-  mean_gone place [] after = mean_behind (place + 1) after
+  mean_gone place [] after = mean_from G (place + 1) after
   mean_gone place (r ∷ before) after = ap (λ (l : List Meaning). raw_meaning r ∷ l) (mean_gone (place + 1) before after)
 
   -- of sections that were read none has a name that no raw one has
