@@ -1,6 +1,6 @@
 -- What was parsed, rid of its first section of a name, then written or refused: what the whole way comes to.
 use Rattle.std.proofs.Common.{◌≡◌, ◌≢◌, ℕ, zero, suc, ◌+◌, false, true, List, [], ◌∷◌, ◌++◌, map, Option, Some, None, length, refl, sym, ap, ◌∙◌, subst, arith}
-use Rattle.std.specs.Prelude.{Contains, Result, Ok, Err, option_and_then, slice_set}
+use Rattle.std.specs.Prelude.{Contains, Result, Err, option_and_then, slice_set}
 use Rattle.std.specs.Global.{Vec}
 use Rattle.std.specs.String.{string_bytes}
 use Rattle.std.proofs.lemmas.List.{map-append}
@@ -37,32 +37,25 @@ use Rattle.walrus_module.specs.declared.entry.SectionEntry.{SectionEntry}
 use Rattle.walrus_module.specs.declared.module.Module.{Module}
 use Rattle.walrus_module.proofs.EditedCustoms.{raw_removed}
 use Rattle.walrus_module.proofs.FirstRaw.{FoundRaw, IsFoundRaw, found, gone_at}
-use Rattle.walrus_module.proofs.KeptRaw.{raw_means}
-use Rattle.walrus_module.proofs.RawStays.{leaves_whole, plain_well}
+use Rattle.walrus_module.proofs.KeptRaw.{mean_from, raw_means}
+use Rattle.walrus_module.proofs.RawStays.{each_raw}
+use Rattle.walrus_tools.proofs.Finishing.{answered, emitted}
+use Rattle.walrus_tools.specs.Ends.{IfNotFound}
 use Rattle.walrus_tools.specs.Stripped.{AnswersStripped, LosesSection, NoneNamed}
 
 -- ---- raw sections, of which one is gone
 
 module _ (V : Type 0) (O : V → Type 0) where
-  each_raw : (raws : List RawCustomSection) (i : ℕ) → IsRaw {V = V} {O = O} (item_at (raw_sections raws) i)
-  each_raw [] i = tt
-  each_raw (r ∷ raws) zero = tt
-  each_raw (r ∷ raws) (suc i) = each_raw raws i
-
   still_raw : (before after : List RawCustomSection) (i : ℕ) → IsRaw {V = V} {O = O} (item_at (raw_sections before ++ None ∷ raw_sections after) i)
   still_raw [] after zero = tt
-  still_raw [] after (suc i) = each_raw after i
+  still_raw [] after (suc i) = each_raw V O after i
   still_raw (r ∷ before) after zero = tt
   still_raw (r ∷ before) after (suc i) = still_raw before after i
 
 module _ {V : Type 0} {O : V → Type 0} (G : (v : V) → Ghosts (O v)) where
-  mean_behind : (place : ℕ) (after : List RawCustomSection) → map (meaning G) (map (λ (e : ℕ × SectionEntry V O). e.1) (entries_from place (raw_sections after))) ≡ map raw_meaning after
-  mean_behind place [] = refl
-  mean_behind place (r ∷ after) = ap (λ (l : List Meaning). raw_meaning r ∷ l) (mean_behind (place + 1) after)
-
   mean_gone : (place : ℕ) (before after : List RawCustomSection)
       → map (meaning G) (map (λ (e : ℕ × SectionEntry V O). e.1) (entries_from place (raw_sections before ++ None ∷ raw_sections after))) ≡ map raw_meaning before ++ map raw_meaning after
-  mean_gone place [] after = mean_behind (place + 1) after
+  mean_gone place [] after = mean_from G (place + 1) after
   mean_gone place (r ∷ before) after = ap (λ (l : List Meaning). raw_meaning r ∷ l) (mean_gone (place + 1) before after)
 
   -- of sections that were read none has a name that no raw one has
@@ -84,12 +77,9 @@ module _ {V : Type 0} {O : V → Type 0} (G : (v : V) → Ghosts (O v)) where
     read_customs : (view G read).customs ≡ map custom_of (map raw_meaning raws)
     read_customs = ap (λ ss. map custom_of (map (meaning G) (items ss))) are ∙ ap (map custom_of) (raw_means G raws)
 
-    read_well : IsWellMade c (view G read)
-    read_well = parsed_is_well c bytes parsed.module_read (view G read) parsed.reads parsed.holds parsed.parsed
-
     -- there is none
     strip_lacks : ((s : RawCustomSection) → Contains raws s → string_bytes s.name ≢ name) → AnswersStripped c bytes name (Err error.NotFound)
-    strip_lacks others = record { module_parsed = view G read; parsed = parsed; none = subst (NoneNamed name) (sym read_customs) (none_named name raws others) }
+    strip_lacks others = (view G read, (parsed, subst (NoneNamed name) (sym read_customs) (none_named name raws others)))
 
     module _ (k : ModuleCustomSections (SectionEntry V O)) (left_by : sections k ≡ without_first (first_raw name (sections read.customs)) (sections read.customs))
         (e : ℕ × SectionEntry V O) (is : first_raw name (sections read.customs) ≡ Some e) (f : IsFoundRaw name 0 raws e) where
@@ -130,7 +120,7 @@ module _ {V : Type 0} {O : V → Type 0} (G : (v : V) → Ghosts (O v)) where
       }
 
       rest_well : IsWellMade c (view G rest)
-      rest_well = (custom_lost c (view G read) (view G rest) section loses read_well).made
+      rest_well = (custom_lost c (view G read) (view G rest) section loses (parsed_is_well c bytes parsed.module_read (view G read) parsed.reads parsed.holds parsed.parsed)).made
 
       lost : (u : Abstract) → Leaves (view G rest) u → LosesSection c bytes name u
       unfolding loses
@@ -145,22 +135,13 @@ module _ {V : Type 0} {O : V → Type 0} (G : (v : V) → Ghosts (O v)) where
         left = left;
       }
 
-      by_result : (u : Abstract) (result : Result (Vec ℕ) Error) → LeavesBy (view G rest) u (told result)
-          → WritesUnless (PassesLimits c u) (OneAskedMayRefuse (meanings G rest)) (λ (b : Vec ℕ). IsWellWritten c u b.items) (told result) → AnswersStripped c bytes name result
-      by_result u (Ok x) left h = record { module_left = u; loses = lost u left; written = h }
-      by_result u (Err (error.Memory m)) left h = tt
-      by_result u (Err error.TooLarge) left h = record { module_left = u; loses = lost u left; too_large = h }
-      by_result u (Err (error.Caller text)) left h = absurd (never h)
-      by_result u (Err _) left h = absurd h
-
       -- what emission says of the module is what the way comes to
       strip_answers : (left : Module (SectionEntry V O)) → left.customs ≡ k → (g : Flags) → config_of g ≡ c → (result : Result (Vec ℕ) Error) → LeavesBy (view G rest) (view G (but_customs rest left)) (told result)
           → (IsWellMade (config_of g) (view G rest) → WritesUnless (PassesLimits (config_of g) (view G left)) (OneMayRefuseThen G k left.customs) (λ (b : Vec ℕ). IsWellWritten (config_of g) (view G left) b.items) (told result))
           → AnswersStripped c bytes name result
       strip_answers left same g so result leaves writes =
-          by_result (view G left) result (leaves_whole G rest left same (told result) leaves)
-          (plain_well G rest left same (PassesLimits c (view G left)) (λ (b : Vec ℕ). IsWellWritten c (view G left) b.items) (told result)
-          (subst (λ (d : Config). IsWellMade d (view G rest) → WritesUnless (PassesLimits d (view G left)) (OneMayRefuseThen G k left.customs) (λ (b : Vec ℕ). IsWellWritten d (view G left) b.items) (told result)) so writes rest_well))
+          answered (LosesSection c bytes name) (LosesSection c bytes name) c bytes (IfNotFound ((v : Abstract) × IsParsed c bytes v × NoneNamed name v.customs)) (λ u h. h) result
+          (emitted G (LosesSection c bytes name) rest left same never lost c rest_well g so result leaves writes)
 
     -- ---- by what was taken out
 

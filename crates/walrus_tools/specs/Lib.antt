@@ -2,6 +2,7 @@ pub mod Count
 pub mod Counted
 pub mod Diagnosed
 pub mod Edited
+pub mod Ends
 pub mod Finding
 pub mod Found
 pub mod Handed
