@@ -202,7 +202,7 @@ module _ {V : Type 0} {O : V → Type 0} (G : (v : V) → Ghosts (O v)) (c : Con
       pub list_refused : (e : Error) → FindsListed theirs s.data_.items (Err e) → AnswersKeepListed c bytes name (Err e)
       list_refused (error.Memory memory) h = tt
       list_refused error.NotFound h =
-          (view G read, (parsed, record { before = customs_of g.before; bytes = s.data_.items; after = customs_of g.after; first = first; none = λ fs lists. h fs (lists_back fs lists) }))
+          (view G read, parsed, record { before = customs_of g.before; bytes = s.data_.items; after = customs_of g.after; first = first; none = λ fs lists. h fs (lists_back fs lists) })
       list_refused _ h = absurd h
 
       -- ---- the section that keeps them

@@ -79,7 +79,7 @@ module _ {V : Type 0} {O : V → Type 0} (G : (v : V) → Ghosts (O v)) where
 
     -- there is none
     strip_lacks : ((s : RawCustomSection) → Contains raws s → string_bytes s.name ≢ name) → AnswersStripped c bytes name (Err error.NotFound)
-    strip_lacks others = (view G read, (parsed, subst (NoneNamed name) (sym read_customs) (none_named name raws others)))
+    strip_lacks others = (view G read, parsed, subst (NoneNamed name) (sym read_customs) (none_named name raws others))
 
     module _ (k : ModuleCustomSections (SectionEntry V O)) (left_by : sections k ≡ without_first (first_raw name (sections read.customs)) (sections read.customs))
         (e : ℕ × SectionEntry V O) (is : first_raw name (sections read.customs) ≡ Some e) (f : IsFoundRaw name 0 raws e) where
