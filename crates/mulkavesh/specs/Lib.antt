@@ -1,6 +1,7 @@
 pub mod Command
 pub mod Entries
 pub mod Message
+pub mod Mistakes
 pub mod Order
 pub mod Steps
 pub mod Subcommands

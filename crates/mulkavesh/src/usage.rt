@@ -5,14 +5,13 @@ use crate::order::Work;
 /// The program's name and version.
 pub(crate) const VERSION: &str = "mulkavesh 0.1.0\n";
 
-/// What is told where the words say nothing.
-pub(crate) const UNKNOWN: &str =
-    "mulkavesh: these words say nothing; mulkavesh --help tells the words\n";
+/// What is told where an argument is no text.
+pub(crate) const UNREADABLE: &str = "mulkavesh: an argument isn't UTF-8\n";
 
-/// All subcommands, the words that several have, and the statuses.
-pub(crate) const USAGE: &str = "usage: mulkavesh gc | report | list | check [words] [IN] [-o OUT]
-       mulkavesh strip SECTION | snip EXPORT | stub MODULE | why FUNCTION [words] [IN] [-o OUT]
-       mulkavesh SUBCOMMAND --help | --help | --version
+/// All subcommands, the options that several have, and the statuses.
+pub(crate) const USAGE: &str = "usage: mulkavesh gc | report | list | check [options] [IN] [-o OUT]
+       mulkavesh strip SECTION | snip EXPORT | stub MODULE | why FUNCTION [options] [IN] [-o OUT]
+       mulkavesh help [SUBCOMMAND] | SUBCOMMAND --help | --help | --version
 
   gc              drops what nothing reaches
   report          counts the items that gc would keep and drop
@@ -24,23 +23,27 @@ pub(crate) const USAGE: &str = "usage: mulkavesh gc | report | list | check [wor
   why FUNCTION    says by which references a function stays
 
 IN and OUT are files, or standard input and output where left out or -. A plain file OUT is written whole or not at all.
-Words stand anywhere behind the subcommand; behind -- each word is a name or a file.
+Options stand anywhere behind the subcommand; behind -- each argument is a name or a file.
+
+  -o OUT, -oOUT, --output OUT, --output=OUT    where the answer goes
+  -h, --help                                   the help, of the subcommand or of the program
+  -V, --version                                the version, without a subcommand
 
 Status 0: done. 1: refused, with one line on standard error; with none where nobody reads the output any more.
-2: these words say nothing, and nothing is read.
+2: the arguments say nothing, and one line on standard error says what is wrong with them; nothing is read.
 ";
 
-const GC: &str = "usage: mulkavesh gc [words] [IN] [-o OUT]
+const GC: &str = "usage: mulkavesh gc [options] [IN] [-o OUT]
 
 Drops what nothing reaches, and writes the smaller module. On standard error stands in one line what was dropped.
 
   --no-names      write no names
-  --no-producers  write no producers; without this word walrus 0.28.0 comes to be among them
+  --no-producers  write no producers; without this option walrus 0.28.0 comes to be among them
   --no-legacy     refuse bodies with legacy exceptions (try, catch, catch_all, rethrow, delegate)
-  --quiet         say nothing on standard error, unless gc refuses
+  -q, --quiet     say nothing on standard error, unless gc refuses
 ";
 
-const REPORT: &str = "usage: mulkavesh report [words] [IN] [-o OUT]
+const REPORT: &str = "usage: mulkavesh report [options] [IN] [-o OUT]
 
 Counts the items that gc would keep and drop, in seven lines: functions, tables, memories, tags, globals, elements, data.
 
@@ -49,7 +52,7 @@ Counts the items that gc would keep and drop, in seven lines: functions, tables,
   --no-names, --no-producers    known, as to gc; they change nothing here
 ";
 
-const LIST: &str = "usage: mulkavesh list [words] [IN] [-o OUT]
+const LIST: &str = "usage: mulkavesh list [options] [IN] [-o OUT]
 
 Lists the functions with a body that gc would keep, a line each: the bytes of its body in the smaller module, its index in IN, and its name.
 In a name a character that moves a terminal's cursor, or turns the order of what it shows, is a question mark; with --json it is escaped.
@@ -59,7 +62,7 @@ In a name a character that moves a terminal's cursor, or turns the order of what
   --no-names, --no-producers    known, as to gc; they change nothing here
 ";
 
-const CHECK: &str = "usage: mulkavesh check [words] [IN] [-o OUT]
+const CHECK: &str = "usage: mulkavesh check [options] [IN] [-o OUT]
 
 Says whether the module is accepted: then 'accepted' is written and the status is 0, and else what is wrong with it, and the
 status is 1. Accepted means well made. That is less than valid: the types of operands aren't checked.
@@ -69,7 +72,7 @@ status is 1. Accepted means well made. That is less than valid: the types of ope
   --no-names, --no-producers    known, as to gc; they change nothing here
 ";
 
-const STRIP: &str = "usage: mulkavesh strip SECTION [words] [IN] [-o OUT]
+const STRIP: &str = "usage: mulkavesh strip SECTION [options] [IN] [-o OUT]
 
 Removes a custom section, the first of this name. What nothing reaches stays, but all is written anew, as by gc. The sections of names, of
 producers and of debug information aren't found by their names.
@@ -90,7 +93,7 @@ const STUB: &str = "usage: mulkavesh stub MODULE [IN] [-o OUT]
 Makes each function trap that is imported from the module of this name: it is one of the module's own then. What nothing reaches then is dropped.
 ";
 
-const WHY: &str = "usage: mulkavesh why FUNCTION [words] [IN] [-o OUT]
+const WHY: &str = "usage: mulkavesh why FUNCTION [options] [IN] [-o OUT]
 
 Says by which references a function stays: a line for each item of a chain that leads to it, a root first. FUNCTION is an index, or else a
 name, or else that of an export; of several the first.
@@ -109,5 +112,29 @@ pub(crate) fn help_of(work: Work) -> &'static str {
         Work::Snip => SNIP,
         Work::Stub => STUB,
         Work::Why => WHY,
+    }
+}
+
+/// The subcommand's word.
+pub(crate) fn name_of(work: Work) -> &'static str {
+    match work {
+        Work::Gc => "gc",
+        Work::Report => "report",
+        Work::List => "list",
+        Work::Check => "check",
+        Work::Strip => "strip",
+        Work::Snip => "snip",
+        Work::Stub => "stub",
+        Work::Why => "why",
+    }
+}
+
+/// What the subcommand is about, as its usage calls it.
+pub(crate) fn operand_of(work: Work) -> &'static str {
+    match work {
+        Work::Strip => "SECTION",
+        Work::Snip => "EXPORT",
+        Work::Stub => "MODULE",
+        _ => "FUNCTION",
     }
 }
