@@ -34,9 +34,11 @@ Errs o words m = (pieces : List Piece) × (more : List Word) × Stands words pie
 -- at the first of them
 here : (o : Order) (words : List Word) (m : Wrong) → WrongAt o.work (one_value o.output) (held o) words m → Errs o words m
 here o words m wrong = (
-  [], words, record { are = refl; plain_words = All-nil IsPlain },
+  [],
+  words,
+  record { are = refl; plain_words = All-nil IsPlain },
   subst (λ (outs : List Word). WrongAt o.work outs (held o ++ []) words m) (sym (append-nil (one_value o.output)))
-  (subst (λ (plains : List Word). WrongAt o.work (one_value o.output) plains words m) (sym (append-nil (held o))) wrong),
+      (subst (λ (plains : List Word). WrongAt o.work (one_value o.output) plains words m) (sym (append-nil (held o))) wrong),
 )
 
 -- with a piece in front
@@ -44,16 +46,16 @@ more : (p : Piece) (o n : Order) (words : List Word) (m : Wrong) → n.work ≡ 
     → Errs o (piece_words p ++ words) m
 more p o n words m work outs plains is_plain (pieces, rest, stands, wrong) =
     let outs_are : one_value n.output ++ flat_map out_in pieces ≡ one_value o.output ++ (out_in p ++ flat_map out_in pieces) = ap (λ (l : List Word). l ++ flat_map out_in pieces) outs ∙ append_assoc (one_value o.output) (out_in p) (flat_map out_in pieces) in
-    let plains_are : held n ++ flat_map plain_in pieces ≡ held o ++ (plain_in p ++ flat_map plain_in pieces) = ap (λ (l : List Word). l ++ flat_map plain_in pieces) plains ∙ append_assoc (held o) (plain_in p) (flat_map plain_in pieces) in
-    (
-      p ∷ pieces, rest,
+    let plains_are : held n ++ flat_map plain_in pieces ≡ held o ++ (plain_in p ++ flat_map plain_in pieces) = ap (λ (l : List Word). l ++ flat_map plain_in pieces) plains ∙ append_assoc (held o) (plain_in p) (flat_map plain_in pieces) in (
+      p ∷ pieces,
+      rest,
       record {
         are = ap (λ (l : List Word). piece_words p ++ l) stands.are ∙ sym (append_assoc (piece_words p) (flat_map piece_words pieces) rest);
         plain_words = All-append IsPlain (plain_in p) (flat_map plain_in pieces) is_plain stands.plain_words;
       },
       subst (λ (w : Work). WrongAt w (one_value o.output ++ (out_in p ++ flat_map out_in pieces)) (held o ++ (plain_in p ++ flat_map plain_in pieces)) rest m) work
-      (subst (λ (l : List Word). WrongAt n.work l (held o ++ (plain_in p ++ flat_map plain_in pieces)) rest m) outs_are
-      (subst (λ (l : List Word). WrongAt n.work (one_value n.output ++ flat_map out_in pieces) l rest m) plains_are wrong)),
+          (subst (λ (l : List Word). WrongAt n.work l (held o ++ (plain_in p ++ flat_map plain_in pieces)) rest m) outs_are
+          (subst (λ (l : List Word). WrongAt n.work (one_value n.output ++ flat_map out_in pieces) l rest m) plains_are wrong)),
     )
 
 -- ---- behind `--`
@@ -75,24 +77,26 @@ behind_here o words m wrong = ([], words, refl, subst (λ (l : List Word). Wrong
 
 behind_more : (o n : Order) (v : Word) (words : List Word) (m : Wrong) → n.work ≡ o.work → held n ≡ held o ++ v ∷ [] → ErrsBehind n words m → ErrsBehind o (v ∷ words) m
 behind_more o n v words m work holds (before, rest, are, wrong) = (
-  v ∷ before, rest, ap (λ (l : List Word). v ∷ l) are,
+  v ∷ before,
+  rest,
+  ap (λ (l : List Word). v ∷ l) are,
   subst (λ (w : Work). WrongBehind w (held o ++ v ∷ before) rest m) work
-  (subst (λ (l : List Word). WrongBehind n.work l rest m) (ap (λ (l : List Word). l ++ before) holds ∙ append_assoc (held o) (v ∷ []) before) wrong),
+      (subst (λ (l : List Word). WrongBehind n.work l rest m) (ap (λ (l : List Word). l ++ before) holds ∙ append_assoc (held o) (v ∷ []) before) wrong),
 )
 
 no_behind : (words : List Word) → ◌≡◌ {A = Option (List Word)} (Some words) None → ⊥
 no_behind words same = cc
 
 ends : (o : Order) (words : List Word) (m : Wrong) → ErrsBehind o words m → Errs o (codes "--" ∷ words) m
-ends o words (SecondInput a) (before, more, are, rest, here_is, full) = here o (codes "--" ∷ words) (SecondInput a)
+ends o words (SecondInput a) (before, left, are, (rest, here_is, full)) = here o (codes "--" ∷ words) (SecondInput a)
     (Some before, rest, ap (λ (l : List Word). codes "--" ∷ l) (are ∙ ap (λ (l : List Word). before ++ l) here_is), (λ none. absurd (no_behind before none)), full)
-ends o words OperandMissing (before, more, are, none, has, empty) = here o (codes "--" ∷ words) OperandMissing
+ends o words OperandMissing (before, left, are, (none, has, empty)) = here o (codes "--" ∷ words) OperandMissing
     (Some before, ap (λ (l : List Word). codes "--" ∷ l) (are ∙ ap (λ (l : List Word). before ++ l) none ∙ append-nil before), has, empty)
-ends o words (UnknownOption a) (before, more, are, never) = absurd never
-ends o words (NotTaken a) (before, more, are, never) = absurd never
-ends o words (TakesNoValue a) (before, more, are, never) = absurd never
-ends o words (NoValue n) (before, more, are, never) = absurd never
-ends o words (SecondOutput v) (before, more, are, never) = absurd never
+ends o words (UnknownOption a) (before, left, are, never) = absurd never
+ends o words (NotTaken a) (before, left, are, never) = absurd never
+ends o words (TakesNoValue a) (before, left, are, never) = absurd never
+ends o words (NoValue n) (before, left, are, never) = absurd never
+ends o words (SecondOutput v) (before, left, are, never) = absurd never
 
 -- ---- what is refused
 

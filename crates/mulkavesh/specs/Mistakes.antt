@@ -4,7 +4,7 @@ use Rattle.mulkavesh.specs.declared.order.Work.{Work}
 use Rattle.mulkavesh.specs.declared.order.Flag.{Flag}
 use Rattle.mulkavesh.specs.declared.order.Order.{Order}
 use Rattle.mulkavesh.specs.declared.order.Asked.{Asked}
-use Rattle.mulkavesh.specs.declared.order.Asked.TheVariants.{HelpOf, Version}
+use Rattle.mulkavesh.specs.declared.order.Asked.TheVariants.{Version}
 use Rattle.mulkavesh.specs.declared.mistakes.Wrong.{Wrong}
 use Rattle.mulkavesh.specs.declared.mistakes.Wrong.TheVariants.{UnknownOption, NotTaken, TakesNoValue, NoValue, SecondOutput, SecondInput, OperandMissing}
 use Rattle.mulkavesh.specs.declared.mistakes.Mistake.{Mistake}
@@ -65,8 +65,8 @@ pub record IsNoSubcommand (word : Word) : Type 0 where
 
 -- they ask for the version, or by its name for the help of a subcommand, and nothing can stand behind them
 pub data IsFull (words : List Word) : Type 0 where
-  version : Says words Version → IsFull words
-  help_of : (w : Work) → words ≡ codes "help" ∷ work_word w ∷ [] → IsFull words
+  at_version : Says words Version → IsFull words
+  at_help : (w : Work) → words ≡ codes "help" ∷ work_word w ∷ [] → IsFull words
 
 -- this is wrong with the arguments
 abbrev pub IsMistake : (words : List Word) → Mistake → Type 0

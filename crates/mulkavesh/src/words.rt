@@ -5,7 +5,7 @@ ghost use Rattle.std.specs.Vec.Iter.{into_iter_items};
 ghost use Rattle.mulkavesh.specs.Mistakes.{IsOrdered, IsTold};
 ghost use Rattle.mulkavesh.specs.Order.{work_word};
 ghost use Rattle.mulkavesh.specs.Steps.{IsAlone, IsPut, asks_help, has_value, lacking, look, look_at, put_spelled, put_word, put_words};
-ghost use Rattle.mulkavesh.specs.Steps.{spelling_of, spelled_otherwise, then_at, with_flag, with_output, with_plain};
+ghost use Rattle.mulkavesh.specs.Steps.{spelled_as, spelled_otherwise, spelling_of, then_at, with_flag, with_output, with_plain};
 ghost use Rattle.mulkavesh.specs.Words.{IsNoWork, IsUnhelped};
 
 use crate::mistakes::{Mistake, Wrong};
@@ -57,6 +57,7 @@ fn asked_itself(first: String, rest: IntoIter<String>) -> Result<Asked, Mistake>
 }
 
 // What is asked for behind `help`.
+#[tactic(auto, using(crate::proofs::Itself::told_help_alone))]
 fn help_asked(rest: IntoIter<String>) -> Result<Asked, Mistake>
     ensures { IsUnhelped (codes "help" ∷ map string_bytes (into_iter_items rest)) →
         IsTold (codes "help" ∷ map string_bytes (into_iter_items rest)) result }
@@ -232,10 +233,17 @@ fn spelling_of(word: &str) -> Spelling
         "--" => Spelling::Ending,
         "-o" => Spelling::Output(Naming::Short),
         "--output" => Spelling::Output(Naming::Long),
-        _ => match flag_of(word) {
-            Some(flag) => Spelling::Flag(flag),
-            None => spelled_otherwise(word.as_bytes()),
-        },
+        _ => spelled_as(flag_of(word), word.as_bytes()),
+    }
+}
+
+// This option without a value, if it is one, and else what the argument is.
+fn spelled_as(flag: Option<Flag>, word: &[u8]) -> Spelling
+    ensures { result ≡ spelled_as flag word.now }
+{
+    match flag {
+        Some(flag) => Spelling::Flag(flag),
+        None => spelled_otherwise(word),
     }
 }
 
