@@ -687,12 +687,14 @@ def completed(*words):
 
 def try_completions(words, flags):
     same("bash -n of the completions", subprocess.run(["bash", "-n", TOP / "completions" / "mulkavesh.bash"], check=False).returncode, 0)
-    same("the first word", completed("mulkavesh", ""), {*words, "--help", "--version"})
+    same("the first word", completed("mulkavesh", ""), {*words, "help", "--help", "--version"})
     same("a word that is begun", completed("mulkavesh", "s"), {"strip", "snip", "stub"})
+    same("a word behind help", completed("mulkavesh", "help", "st"), {"strip", "stub"})
     for word in words:
-        same(f"the flags of {word}", completed("mulkavesh", word, "-"), {*flags[word], "--help", "-o"})
+        same(f"the options of {word}", completed("mulkavesh", word, "-"), {*flags[word], "--help", "-o", "--output"})
     same("a file", "samples" in completed("mulkavesh", "gc", "sam"), True)
-    same("a file behind -o", "samples" in completed("mulkavesh", "gc", "-o", "sam"), True)
+    for option in ("-o", "--output"):
+        same(f"a file behind {option}", "samples" in completed("mulkavesh", "gc", option, "sam"), True)
 
 
 def try_manual(words, flags):
@@ -703,7 +705,7 @@ def try_manual(words, flags):
     done = subprocess.run(["groff", "-man", "-Tascii", "-ww", page], capture_output=True, check=False)
     same("what groff says of the manual page", (done.returncode, done.stderr), (0, b""))
     text = page.read_text().replace("\\-", "-")
-    for word in [*words, *flags, "--help", "--version"]:
+    for word in [*words, *flags, "-h", "--help", "-V", "--version", "-q", "-o", "--output", "--output="]:
         same(f"the manual page names {word}", word in text, True)
 
 

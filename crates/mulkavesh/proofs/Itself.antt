@@ -109,7 +109,7 @@ pub told_first : (a : String Global) (words : List Word) → IsNoWork (string_by
 told_first a words never no_help no_short no_long none = (
   inl (words, refl, record { no_work = never; no_help = no_help; no_version = no_short; no_long_version = no_long }),
   unasked (string_bytes a) words never none (λ is. no_help (sym (first_is (string_bytes a) (codes "help") words [] is))) (λ w is. no_help (sym (first_is (string_bytes a) (codes "help") words (work_word w ∷ []) is)))
-  (λ is. ⊎_elim (λ e. no_short (sym (first_is (string_bytes a) (codes "-V") words [] e))) (λ e. no_long (sym (first_is (string_bytes a) (codes "--version") words [] e))) is),
+      (λ is. ⊎_elim (λ e. no_short (sym (first_is (string_bytes a) (codes "-V") words [] e))) (λ e. no_long (sym (first_is (string_bytes a) (codes "--version") words [] e))) is),
 )
 
 no_version_work : (first : Word) → (first ≡ codes "-V") ⊎ (first ≡ codes "--version") → IsNoWork first
@@ -129,7 +129,7 @@ pub told_named : (a : String Global) (words : List Word) → IsNoWork (string_by
 told_named a words never none = (
   inr (words, refl, never),
   unasked (codes "help") (string_bytes a ∷ words) help_is_none none (λ is. some_more (string_bytes a) words (rest_is (codes "help") (codes "help") (string_bytes a ∷ words) [] is))
-  (λ w is. never w (sym (first_is (string_bytes a) (work_word w) words [] (rest_is (codes "help") (codes "help") (string_bytes a ∷ words) (work_word w ∷ []) is)))) (help_no_version (string_bytes a ∷ words)),
+      (λ w is. never w (sym (first_is (string_bytes a) (work_word w) words [] (rest_is (codes "help") (codes "help") (string_bytes a ∷ words) (work_word w ∷ []) is)))) (help_no_version (string_bytes a ∷ words)),
 )
 
 pub told_help_of : (w : Work) (words : List Word) (r : Result Asked Mistake) → IsAlone (HelpOf w) words r → IsUnhelped (codes "help" ∷ work_word w ∷ words) → IsTold (codes "help" ∷ work_word w ∷ words) r
@@ -139,7 +139,7 @@ told_help_of w words (Err m) (a, rest, is, are) none =
     subst (λ (x : Mistake). IsTold (codes "help" ∷ work_word w ∷ words) (Err x)) (sym is) (
       (codes "help" ∷ work_word w ∷ [], rest, ap (λ (l : List Word). codes "help" ∷ work_word w ∷ l) are, at_help w refl),
       unasked (codes "help") (work_word w ∷ words) help_is_none none (λ is. some_more (work_word w) words (rest_is (codes "help") (codes "help") (work_word w ∷ words) [] is))
-      (λ v is. some_more (string_bytes a) rest (sym are ∙ rest_is (work_word w) (work_word v) words [] (rest_is (codes "help") (codes "help") (work_word w ∷ words) (work_word v ∷ []) is))) (help_no_version (work_word w ∷ words)),
+          (λ v is. some_more (string_bytes a) rest (sym are ∙ rest_is (work_word w) (work_word v) words [] (rest_is (codes "help") (codes "help") (work_word w ∷ words) (work_word v ∷ []) is))) (help_no_version (work_word w ∷ words)),
     )
 
 pub told_version : (first : Word) (words : List Word) (r : Result Asked Mistake) → (first ≡ codes "-V") ⊎ (first ≡ codes "--version") → IsAlone Version words r → IsUnhelped (first ∷ words) → IsTold (first ∷ words) r
@@ -149,8 +149,8 @@ told_version first words (Err m) is (a, rest, same, are) none =
     subst (λ (x : Mistake). IsTold (first ∷ words) (Err x)) (sym same) (
       (first ∷ [], rest, ap (λ (l : List Word). first ∷ l) are, at_version (version (⊎_elim (λ e. inl (ap (λ (v : Word). v ∷ []) e)) (λ e. inr (ap (λ (v : Word). v ∷ []) e)) is))),
       unasked first words (no_version_work first is) none (λ e. some_more (string_bytes a) rest (sym are ∙ rest_is first (codes "help") words [] e))
-      (λ w e. no_named first is words w e)
-      (λ e. ⊎_elim (λ s. some_more (string_bytes a) rest (sym are ∙ rest_is first (codes "-V") words [] s)) (λ s. some_more (string_bytes a) rest (sym are ∙ rest_is first (codes "--version") words [] s)) e),
+          (λ w e. no_named first is words w e)
+          (λ e. ⊎_elim (λ s. some_more (string_bytes a) rest (sym are ∙ rest_is first (codes "-V") words [] s)) (λ s. some_more (string_bytes a) rest (sym are ∙ rest_is first (codes "--version") words [] s)) e),
     )
   where
     no_named : (first : Word) → (first ≡ codes "-V") ⊎ (first ≡ codes "--version") → (words : List Word) (w : Work) → first ∷ words ≡ codes "help" ∷ work_word w ∷ [] → ⊥

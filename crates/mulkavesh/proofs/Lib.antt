@@ -1,5 +1,6 @@
 mod Answered
 mod Complete
+mod Help
 mod Itself
 mod Lines
 mod Ordered
@@ -7,3 +8,5 @@ mod Pieces
 mod Refusals
 mod Showing
 mod Sound
+mod Spelling
+mod Wrongs

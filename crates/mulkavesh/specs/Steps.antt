@@ -1,6 +1,8 @@
 -- Where each argument behind the subcommand goes, as the program puts it there.
-use Rattle.std.specs.Prelude.{◌≡◌, ℕ, Bool, true, false, not, ◌&&◌, ◌||◌, List, [], ◌∷◌, Option, Some, None, Result, Ok, Err, bytes_eq, is_some, codes, string_bytes, String, if◌then◌else◌}
+use Rattle.std.specs.Prelude.{◌≡◌, ℕ, Bool, true, false, not, ◌&&◌, ◌||◌, List, [], ◌∷◌, Option, Some, None, Result, Ok, Err, bytes_eq, is_some, codes, map, string_bytes, String, if◌then◌else◌}
 use Rattle.std.specs.declared.alloc.Global.{Global}
+use Rattle.std.specs.declared.vec.IntoIter.{IntoIter}
+use Rattle.std.specs.Vec.Iter.{into_iter_items}
 use Rattle.mulkavesh.specs.declared.order.Flag.{Flag}
 use Rattle.mulkavesh.specs.declared.order.Flag.TheVariants.{NoNames, NoProducers, NoLegacy, Quiet, Json}
 use Rattle.mulkavesh.specs.declared.order.Naming.{Naming}
@@ -143,3 +145,8 @@ IsPut (Ok s) o result = (o ≡ s.0) × (result ≡ Ok s.1)
 abbrev pub IsAlone : Asked → List (List ℕ) → Result Asked Mistake → Type 0
 IsAlone asked words (Ok answer) = (answer ≡ asked) × (words ≡ [])
 IsAlone asked words (Err mistake) = (a : String Global) × (rest : List (List ℕ)) × (mistake ≡ Extra a) × (words ≡ string_bytes a ∷ rest)
+
+-- the first argument and the others; or there is none
+abbrev pub IsFirst : List (List ℕ) → Option (String Global × IntoIter (String Global) Global) → Type 0
+IsFirst words None = words ≡ []
+IsFirst words (Some r) = words ≡ string_bytes r.0 ∷ map string_bytes (into_iter_items r.1)

@@ -24,6 +24,17 @@ const FIRST: &[&str] = &[
     "--version",
 ];
 
+// What is said behind the argument that is wrong, or in front of it.
+const NOT_TAKEN: &str = " is no option of this subcommand";
+
+const VALUED: &str = " has a value, but this option takes none";
+
+const NO_FILE: &str = "FILE is missing behind ";
+
+const SECOND_OUTPUT: &str = "' is a second output; there can be one -o";
+
+const SECOND_INPUT: &str = "' is a second input; the output goes behind -o";
+
 // The option without a value, where the subcommand has it; and else one that each has.
 fn option_of(work: Work, flag: Flag) -> &'static str {
     if !takes(work, flag) {
@@ -112,52 +123,48 @@ fn naming_text(naming: Naming) -> &'static str {
     }
 }
 
-// Tells what is wrong behind a subcommand.
-fn tell_wrong<E: Sink>(errors: &mut E, work: Work, wrong: &Wrong) -> Result<(), DeviceFailed> {
+// Tells what is wrong with an argument behind a subcommand, or what is missing, and that its help tells more.
+fn tell_about<E: Sink>(
+    errors: &mut E,
+    work: Work,
+    about: &str,
+    text: &str,
+) -> Result<(), DeviceFailed> {
     let name = name_of(work);
-    let (about, argument, text) = match wrong {
-        Wrong::UnknownOption(argument) => return tell_option(errors, work, argument.as_str()),
-        Wrong::NotTaken(argument) => ("", argument.as_str(), " is no option of this subcommand"),
-        Wrong::TakesNoValue(argument) => (
-            "",
-            argument.as_str(),
-            " has a value, but this option takes none",
-        ),
-        Wrong::NoValue(naming) => ("FILE is missing behind ", naming_text(*naming), ""),
-        Wrong::SecondOutput(value) => {
-            let texts = [
-                "mulkavesh: ",
-                name,
-                ": '",
-                value.text(),
-                "' is a second output; there can be one -o",
-            ];
-            return write_texts(errors, &texts);
-        }
-        Wrong::SecondInput(argument) => {
-            let texts = [
-                "mulkavesh: ",
-                name,
-                ": '",
-                argument.as_str(),
-                "' is a second input; the output goes behind -o",
-            ];
-            return write_texts(errors, &texts);
-        }
-        Wrong::OperandMissing => (operand_of(work), "", " is missing"),
-    };
     let texts = [
         "mulkavesh: ",
         name,
         ": ",
         about,
-        argument,
         text,
         "; mulkavesh ",
         name,
         " --help tells more",
     ];
     write_texts(errors, &texts)
+}
+
+// Tells of a second file, and what helps.
+fn tell_second<E: Sink>(
+    errors: &mut E,
+    work: Work,
+    file: &str,
+    text: &str,
+) -> Result<(), DeviceFailed> {
+    write_texts(errors, &["mulkavesh: ", name_of(work), ": '", file, text])
+}
+
+// Tells what is wrong behind a subcommand.
+fn tell_wrong<E: Sink>(errors: &mut E, work: Work, wrong: &Wrong) -> Result<(), DeviceFailed> {
+    match wrong {
+        Wrong::UnknownOption(word) => tell_option(errors, work, word.as_str()),
+        Wrong::NotTaken(word) => tell_about(errors, work, word.as_str(), NOT_TAKEN),
+        Wrong::TakesNoValue(word) => tell_about(errors, work, word.as_str(), VALUED),
+        Wrong::NoValue(naming) => tell_about(errors, work, NO_FILE, naming_text(*naming)),
+        Wrong::SecondOutput(value) => tell_second(errors, work, value.text(), SECOND_OUTPUT),
+        Wrong::SecondInput(word) => tell_second(errors, work, word.as_str(), SECOND_INPUT),
+        Wrong::OperandMissing => tell_about(errors, work, operand_of(work), " is missing"),
+    }
 }
 
 /// Tells of a mistake in one line, of no arguments by the usage, and answers the status of a run of which nothing was read.

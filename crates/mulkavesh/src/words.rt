@@ -4,7 +4,7 @@ ghost use Rattle.std.specs.Prelude.{◌≡◌, ◌∷◌, codes, map, string_byt
 ghost use Rattle.std.specs.Vec.Iter.{into_iter_items};
 ghost use Rattle.mulkavesh.specs.Mistakes.{IsOrdered, IsTold};
 ghost use Rattle.mulkavesh.specs.Order.{work_word};
-ghost use Rattle.mulkavesh.specs.Steps.{IsAlone, IsPut, asks_help, has_value, lacking, look, look_at, put_spelled, put_word, put_words};
+ghost use Rattle.mulkavesh.specs.Steps.{IsAlone, IsFirst, IsPut, asks_help, has_value, lacking, look, look_at, put_spelled, put_word, put_words};
 ghost use Rattle.mulkavesh.specs.Steps.{spelled_as, spelled_otherwise, spelling_of, then_at, with_flag, with_output, with_plain};
 ghost use Rattle.mulkavesh.specs.Words.{IsNoWork, IsUnhelped};
 
@@ -57,18 +57,27 @@ fn asked_itself(first: String, rest: IntoIter<String>) -> Result<Asked, Mistake>
 }
 
 // What is asked for behind `help`.
-#[tactic(auto, using(crate::proofs::Itself::told_help_alone))]
 fn help_asked(rest: IntoIter<String>) -> Result<Asked, Mistake>
     ensures { IsUnhelped (codes "help" ∷ map string_bytes (into_iter_items rest)) →
         IsTold (codes "help" ∷ map string_bytes (into_iter_items rest)) result }
 {
-    let mut left = rest;
-    match left.next() {
+    match first_of(rest) {
         None => Ok(Asked::Help),
-        Some(name) => match work_of(name.as_str()) {
+        Some((name, left)) => match work_of(name.as_str()) {
             Some(work) => alone(Asked::HelpOf(work), left),
             None => Err(Mistake::UnknownSubcommand(name)),
         },
+    }
+}
+
+// The first argument and the others, if there is one.
+fn first_of(rest: IntoIter<String>) -> Option<(String, IntoIter<String>)>
+    ensures { IsFirst (map string_bytes (into_iter_items rest)) result }
+{
+    let mut left = rest;
+    match left.next() {
+        None => None,
+        Some(first) => Some((first, left)),
     }
 }
 

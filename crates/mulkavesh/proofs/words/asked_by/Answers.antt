@@ -21,9 +21,9 @@ returns-in-Some-work_of c =
 
 pub returns-in-Some-2 : goal.returns-in-Some-2
 returns-in-Some-2 c =
-    let w = c.in-Some-2.work in
+    let w = c.in-Some-work_of.work in
     let left = map string_bytes (into_iter_items c.next.new.self) in
-    let are : map string_bytes c.args.words.items ≡ work_word w ∷ left = ap (λ (l : List (String Global)). map string_bytes l) (sym c.into_iter-rest.ensures.rest ∙ c.in-Some.ensures.items) ∙ ap (λ (v : Word). v ∷ left) (sym c.as_str.ensures.value ∙ c.in-Some-2.ensures) in
+    let are : map string_bytes c.args.words.items ≡ work_word w ∷ left = ap (λ (l : List (String Global)). map string_bytes l) (sym c.into_iter-rest.ensures.rest ∙ c.in-Some.ensures.items) ∙ ap (λ (v : Word). v ∷ left) (sym c.as_str.ensures.value ∙ c.in-Some-work_of.ensures) in
     let unasked : asks_help (map string_bytes c.args.words.items) ≡ false = ap (λ (l : List (String Global)). asks_help (map string_bytes l)) (sym c.deref.ensures.value) ∙ sym c.asks_help-is_help.ensures ∙ c.if-is_help.false in
     subst (λ (l : List Word). IsTold l c.asked_of.result) (sym are) (c.asked_of.ensures (subst IsUnhelped are (unhelped _ unasked)))
 
