@@ -7,7 +7,7 @@ use Rattle.mulkavesh.specs.declared.order.Naming.TheVariants.{Short, Long}
 use Rattle.mulkavesh.specs.declared.words.Seen.{Seen}
 use Rattle.mulkavesh.specs.declared.words.Seen.TheVariants as seen
 use Rattle.mulkavesh.specs.Order.{naming_word}
-use Rattle.mulkavesh.specs.Steps.{asks_help, is_help, look, look_at, looks}
+use Rattle.mulkavesh.specs.Steps.{asks_help, is_help, look_at, looks}
 use Rattle.mulkavesh.specs.Words.{AsksHelp, Front, IsFront, IsHelp, IsUnhelped, Word, front_words, pair, single}
 use Rattle.mulkavesh.proofs.Spelling.{decided, differs}
 

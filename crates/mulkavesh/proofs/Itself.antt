@@ -1,6 +1,6 @@
 -- What the arguments ask of the program itself, and that those that are told as a mistake ask for nothing.
 use Rattle.std.proofs.Common.{◌≡◌, Bool, true, false, ◌||◌, List, [], ◌∷◌, ◌++◌, refl, sym, ap, ◌∙◌, subst, inl, inr, ◌⊎◌, ⊎_elim, codes, string_bytes}
-use Rattle.std.specs.Prelude.{All, bytes_eq, Result, Ok, Err, String, flat_map}
+use Rattle.std.specs.Prelude.{bytes_eq, Result, Ok, Err, String, flat_map}
 use Rattle.std.specs.declared.alloc.Global.{Global}
 use Rattle.mulkavesh.specs.declared.mistakes.Mistake.{Mistake}
 use Rattle.mulkavesh.specs.declared.mistakes.Mistake.TheVariants as mistake
@@ -10,7 +10,7 @@ use Rattle.mulkavesh.specs.declared.order.Asked.TheVariants.{Help, HelpOf, Versi
 use Rattle.mulkavesh.specs.declared.order.Order.{Order}
 use Rattle.mulkavesh.specs.declared.order.Work.{Work}
 use Rattle.mulkavesh.specs.declared.order.Work.TheVariants as work
-use Rattle.mulkavesh.specs.Mistakes.{IsNoSubcommand, IsOrdered, IsTold, at_help, at_version}
+use Rattle.mulkavesh.specs.Mistakes.{IsOrdered, IsTold, at_help, at_version}
 use Rattle.mulkavesh.specs.Order.{work_word}
 use Rattle.mulkavesh.specs.Steps.{IsAlone}
 use Rattle.mulkavesh.specs.Words.{AsksHelp, BeginsWith, Front, IsNoWork, IsUnhelped, Says, SaysOrder, Word, front_words, help, help_alone, help_named, help_of, order, pair, single, version}

@@ -1,8 +1,7 @@
 -- The arguments of an order, and the order that is made of them, or what is wrong with them.
-use Rattle.std.proofs.Common.{◌≡◌, ◌≤◌, Bool, true, false, not, ◌&&◌, ◌||◌, List, [], ◌∷◌, ◌++◌, map, length, refl, sym, ap, ap₂, ◌∙◌, subst, inr, ⊎_elim, codes, string_bytes, arith}
-use Rattle.std.specs.Prelude.{All, Option, Some, None, Result, Ok, Err, String, flat_map, bytes_eq, is_some, if◌then◌else◌}
+use Rattle.std.proofs.Common.{◌≡◌, ◌≤◌, Bool, true, false, not, ◌&&◌, List, [], ◌∷◌, ◌++◌, map, length, refl, sym, ap, ap₂, ◌∙◌, subst, inr, ⊎_elim, codes, string_bytes, arith}
+use Rattle.std.specs.Prelude.{All, Option, Some, None, Ok, Err, String, flat_map, bytes_eq, is_some, if◌then◌else◌}
 use Rattle.std.specs.declared.alloc.Global.{Global}
-use Rattle.std.proofs.lemmas.Bool.{and_parts, not-true}
 use Rattle.mulkavesh.specs.declared.order.Flag.{Flag}
 use Rattle.mulkavesh.specs.declared.order.Flag.TheVariants.{NoNames, NoProducers, NoLegacy, Quiet, Json}
 use Rattle.mulkavesh.specs.declared.order.Order.{Order}
@@ -14,12 +13,12 @@ use Rattle.mulkavesh.specs.declared.order.Value.{Value}
 use Rattle.mulkavesh.specs.declared.mistakes.Wrong.{Wrong}
 use Rattle.mulkavesh.specs.declared.mistakes.Wrong.TheVariants.{OperandMissing}
 use Rattle.mulkavesh.specs.Order.{has_flag, has_operand, is_set, new_order, work_word}
-use Rattle.mulkavesh.specs.Mistakes.{IsOrdered, IsWrong, room_if}
-use Rattle.mulkavesh.specs.Steps.{Put, lacking, put_words}
+use Rattle.mulkavesh.specs.Mistakes.{IsOrdered, room_if}
+use Rattle.mulkavesh.specs.Steps.{lacking, put_words}
 use Rattle.mulkavesh.specs.Words.{SaysOrder, Word, behind_words, ending_words, flag_in, one_value, one_word, out_in, piece_words, plain_in}
 use Rattle.mulkavesh.proofs.Complete.{complete}
 use Rattle.mulkavesh.proofs.Pieces.{IsWell, held}
-use Rattle.mulkavesh.proofs.Sound.{is_behind_output, same_order, sound}
+use Rattle.mulkavesh.proofs.Sound.{is_behind_output, sound}
 use Rattle.mulkavesh.proofs.Wrongs.{wrong_of, wrongs}
 
 -- ---- a new order

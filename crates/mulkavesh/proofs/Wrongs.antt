@@ -1,11 +1,10 @@
 -- What the program says is wrong behind a subcommand is wrong there.
-use Rattle.std.proofs.Common.{◌≡◌, ℕ, Bool, true, false, not, ◌&&◌, List, [], ◌∷◌, ◌++◌, map, length, refl, sym, ap, ap₂, ◌∙◌, subst, inl, inr, codes, string_bytes, arith}
+use Rattle.std.proofs.Common.{◌≡◌, Bool, true, false, not, ◌&&◌, List, [], ◌∷◌, ◌++◌, map, length, refl, sym, ap, ap₂, ◌∙◌, subst, inl, inr, codes, string_bytes}
 use Rattle.std.specs.Prelude.{All, Option, Some, None, Result, Ok, Err, String, flat_map, is_some, if◌then◌else◌}
 use Rattle.std.specs.declared.alloc.Global.{Global}
 use Rattle.std.proofs.lemmas.List.{append-nil, append_assoc}
 use Rattle.std.proofs.lemmas.List.Elements.{All-append, All-cons, All-nil}
 use Rattle.mulkavesh.specs.declared.order.Flag.{Flag}
-use Rattle.mulkavesh.specs.declared.order.Flag.TheVariants.{Quiet}
 use Rattle.mulkavesh.specs.declared.order.Naming.{Naming}
 use Rattle.mulkavesh.specs.declared.order.Naming.TheVariants.{Short, Long}
 use Rattle.mulkavesh.specs.declared.order.Order.{Order}
@@ -17,10 +16,10 @@ use Rattle.mulkavesh.specs.declared.words.Place.{Place}
 use Rattle.mulkavesh.specs.declared.words.Place.TheVariants.{Anywhere, Output, Behind}
 use Rattle.mulkavesh.specs.declared.words.Spelling.{Spelling}
 use Rattle.mulkavesh.specs.declared.words.Spelling.TheVariants as kind
-use Rattle.mulkavesh.specs.Mistakes.{IsUnknown, Stands, WrongAt, room, room_if}
-use Rattle.mulkavesh.specs.Order.{flag_word, has_flag, has_operand, naming_word, value_bytes}
+use Rattle.mulkavesh.specs.Mistakes.{Stands, WrongAt, room, room_if}
+use Rattle.mulkavesh.specs.Order.{has_flag, has_operand, naming_word, value_bytes}
 use Rattle.mulkavesh.specs.Steps.{Put, lacking, put_spelled, put_words, set, spelling_of, then_at, then_put, with_flag, with_output, with_plain}
-use Rattle.mulkavesh.specs.Words.{IsPlain, Piece, Word, behind_words, ending_words, flag, flag_in, one_value, one_word, out, out_behind, out_equals, out_in, piece_words, plain, plain_in, quiet}
+use Rattle.mulkavesh.specs.Words.{IsPlain, Piece, Word, flag, flag_in, one_value, one_word, out, out_behind, out_equals, out_in, piece_words, plain, plain_in, quiet}
 use Rattle.mulkavesh.proofs.Pieces.{IsWell, adds, held, set_input, set_operand, set_output, set_well, set_work}
 use Rattle.mulkavesh.proofs.Sound.{joined_value, output_well, value_in, whole_value, with_output_is}
 use Rattle.mulkavesh.proofs.Spelling.{IsFlagWord, IsSpelled, spelled_is}

@@ -1,5 +1,5 @@
 -- What is wrong with arguments that say nothing: each mistake is there, of its kind and with its argument.
-use Rattle.std.specs.Prelude.{◌≡◌, ◌≢◌, ◌⊎◌, ℕ, Bool, true, false, List, [], ◌∷◌, ◌++◌, Option, Some, None, Result, Ok, Err, All, flat_map, length, codes, string_bytes}
+use Rattle.std.specs.Prelude.{◌≡◌, ◌≢◌, ◌⊎◌, ℕ, Bool, true, false, List, [], ◌∷◌, ◌++◌, Option, None, Result, Ok, Err, All, flat_map, length, codes, string_bytes}
 use Rattle.mulkavesh.specs.declared.order.Work.{Work}
 use Rattle.mulkavesh.specs.declared.order.Flag.{Flag}
 use Rattle.mulkavesh.specs.declared.order.Order.{Order}
@@ -10,7 +10,7 @@ use Rattle.mulkavesh.specs.declared.mistakes.Wrong.TheVariants.{UnknownOption, N
 use Rattle.mulkavesh.specs.declared.mistakes.Mistake.{Mistake}
 use Rattle.mulkavesh.specs.declared.mistakes.Mistake.TheVariants.{NoArguments, UnknownSubcommand, Extra, Behind}
 use Rattle.mulkavesh.specs.Order.{flag_word, has_flag, has_operand, naming_word, value_bytes, work_word}
-use Rattle.mulkavesh.specs.Words.{IsNoWork, IsPlain, Piece, Says, SaysOrder, Word, behind_words, ending_words, flag_in, out_in, piece_words, plain, plain_in}
+use Rattle.mulkavesh.specs.Words.{IsNoWork, IsPlain, Piece, Says, SaysOrder, Word, behind_words, ending_words, flag_in, out_in, piece_words, plain_in}
 
 -- ---- behind a subcommand
 

@@ -8,7 +8,6 @@ use Rattle.mulkavesh.specs.declared.order.Flag.TheVariants.{NoNames, NoProducers
 use Rattle.mulkavesh.specs.declared.order.Naming.{Naming}
 use Rattle.mulkavesh.specs.declared.order.Naming.TheVariants.{Short, Long}
 use Rattle.mulkavesh.specs.declared.order.Order.{Order}
-use Rattle.mulkavesh.specs.declared.order.Value.{Value}
 use Rattle.mulkavesh.specs.declared.mistakes.Wrong.{Wrong}
 use Rattle.mulkavesh.specs.declared.mistakes.Wrong.TheVariants.{UnknownOption, NotTaken, TakesNoValue, NoValue, SecondOutput, SecondInput, OperandMissing}
 use Rattle.mulkavesh.specs.declared.mistakes.Mistake.{Mistake}

@@ -1,6 +1,6 @@
 -- What the arguments of the command line say, as the usage has it: a subcommand; behind it options and plain arguments in any order; and behind `--`
 -- plain ones alone. Of the plain ones the first is what the subcommand is about, if it is about anything, and the next one is IN.
-use Rattle.std.specs.Prelude.{◌≡◌, ◌≢◌, ◌⊎◌, ◌↔◌, ℕ, Bool, true, false, List, [], ◌∷◌, ◌++◌, Option, Some, None, All, Contains, is_some, flat_map, codes, string_bytes, String, ⊤}
+use Rattle.std.specs.Prelude.{◌≡◌, ◌≢◌, ◌⊎◌, ◌↔◌, ℕ, true, List, [], ◌∷◌, ◌++◌, Option, Some, None, All, Contains, is_some, flat_map, codes, string_bytes, String, ⊤}
 use Rattle.std.specs.declared.alloc.Global.{Global}
 use Rattle.mulkavesh.specs.declared.order.Work.{Work}
 use Rattle.mulkavesh.specs.declared.order.Flag.{Flag}

@@ -1,5 +1,5 @@
 use Rattle.std.proofs.Common.{sym, ◌∙◌, inl, inr, ⊎_elim}
-use Rattle.mulkavesh.proofs.Itself.{told_first, told_version}
+use Rattle.mulkavesh.proofs.Itself.{told_version}
 use Rattle.mulkavesh.proofs.words.asked_itself.Goals as goal
 
 pub returns-in-text : goal.returns-in-text
