@@ -6,7 +6,7 @@ use Rattle.wasm_frames.specs.declared.pieces.RawPiece.{RawPiece}
 use Rattle.wasm_frames.specs.declared.pieces.Pieced.{Pieced}
 use Rattle.wasm_frames.specs.declared.pieces.Pieced.TheVariants as found
 use Rattle.wasm_frames.specs.Record.{Module}
-use Rattle.wasm_frames.specs.Frames.{Section, IsSection, header, Frames}
+use Rattle.wasm_frames.specs.Frames.{header, Frames}
 use Rattle.wasm_frames.specs.Until.{LacksHeader}
 
 -- a section as it stands: the id, a custom section's name, the count in front of a list's entries, the place of the id in the
@@ -47,7 +47,8 @@ pub record IsPiece (place : ℕ) (bytes : List ℕ) (p : Piece) : Type 0 where
 -- sections one after another, the first at this place
 abbrev pub ArePieces : ℕ → List ℕ → List Piece → Type 0
 ArePieces place bytes [] = bytes ≡ []
-ArePieces place bytes (p ∷ ps) = (front : List ℕ) × ((back : List ℕ) × ((bytes ≡ front ++ back) × IsPiece place front p × ArePieces (place + length front) back ps))
+ArePieces place bytes (p ∷ ps) =
+    (front : List ℕ) × ((back : List ℕ) × ((bytes ≡ front ++ back) × IsPiece place front p × ArePieces (place + length front) back ps))
 
 -- the bytes are the header, and behind it these sections, which use all that is left
 pub record HasPieces (bytes : List ℕ) (ps : List Piece) : Type 0 where
