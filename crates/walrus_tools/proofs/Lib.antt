@@ -41,6 +41,7 @@ mod SizeEnds
 mod SizeLemmas
 mod SnipCall
 mod SnipStep
+mod StripLemmas
 mod Stars
 mod StubCall
 mod StubStep
