@@ -1,6 +1,8 @@
+mod Among
 mod BodiesRise
 mod CallBody
 mod CallSound
+mod ChoiceLists
 mod Chosen
 mod Closures
 mod CountEnds
@@ -36,6 +38,7 @@ mod ReadBodies
 mod ReasonEnds
 mod Records
 mod RenameSteps
+mod SectionLemmas
 mod Sections
 mod SizeEnds
 mod SizeLemmas

@@ -2,8 +2,8 @@
 use Rattle.std.proofs.Common.{◌≡◌, ◌<◌, ◌≤◌, ◌+◌, ◌↔◌, ◌⊎◌, inl, inr, ℕ, Bool, true, false, List, [], ◌∷◌, ◌++◌, length, get_or, map, take, All, flat_map, refl, sym, ap, ◌∙◌, subst, append_assoc, arith}
 use Rattle.std.specs.Prelude.{Contains, ◌||◌}
 use Rattle.std.proofs.lemmas.Grind.{flat_map-append}
-use Rattle.std.proofs.lemmas.List.Elements.{All-map, All-contains, All-more, Contains-get_or}
-use Rattle.std.proofs.lemmas.List.{append-nil, get_or-map, length-map, map_more, take_all}
+use Rattle.std.proofs.lemmas.List.Elements.{All-map, All-contains, All-more}
+use Rattle.std.proofs.lemmas.List.{append-nil, map_more, take_all}
 use Rattle.wasm_frames.specs.Frames.{header}
 use Rattle.wasm_frames.specs.Pieces.{Piece, HasPieces, piece_record}
 use Rattle.wasm_frames.specs.Until.{LacksHeader}
@@ -12,18 +12,13 @@ use Rattle.walrus_tools.specs.Choice.{Choice, choice_seen, choices_seen}
 use Rattle.walrus_tools.specs.Stripped.{AllFit, AreLeft, FitsName, FitsSection, IsWithout, OneFitsNone, SectionGoes}
 use Rattle.walrus_tools.specs.StripSteps.{IsLeftOf, IsMet}
 use Rattle.walrus_tools.specs.declared.choice.Choice.{Choice as HeldChoice}
+use Rattle.walrus_tools.proofs.Among.{among, none_among}
 
 pub is_not : (r : Bool) (P : Type 0) → (r ≡ true) ↔ P → r ≡ false → P → ⊥
 is_not r P iff isnt h = let yes : r ≡ true = iff.1 h in absurd cc
 
 untrue : false ≡ true → ⊥
 untrue h = cc
-
--- an item of a list in memory is one of what the list holds
-among : {X Y : Type 0} (seen : X → Y) (xs : List X) (i : ℕ) (d : X) → i < length xs → Contains (map seen xs) (seen (get_or xs i d))
-among seen xs i d below =
-    let short : length (map seen xs) ≡ length xs = length-map xs seen in
-    subst (Contains (map seen xs)) (get_or-map seen xs i d (seen d) below) (Contains-get_or (map seen xs) i (seen d) (omega (arith, short, below)))
 
 -- ---- one choice over all sections
 
@@ -33,16 +28,14 @@ NoneFits choice pieces = All (λ piece. FitsName (choice_seen choice) (piece_rec
 
 pub one_fits : (choice : HeldChoice) (pieces : List RawPiece) (i : ℕ) (d : RawPiece) → i < length pieces → FitsName (choice_seen choice) (piece_record (get_or pieces i d)).name
     → FitsSection (map piece_record pieces) (choice_seen choice)
-one_fits choice pieces i d below fits = (piece_record (get_or pieces i d), among piece_record pieces i d below, fits)
+one_fits choice pieces i d below fits = (piece_record (get_or pieces i d), (among piece_record pieces i d below, fits))
 
 pub none_more : (choice : HeldChoice) (pieces : List RawPiece) (i : ℕ) (d : RawPiece) → i < length pieces → (FitsName (choice_seen choice) (piece_record (get_or pieces i d)).name → ⊥)
     → NoneFits choice (take i pieces) → NoneFits choice (take (i + 1) pieces)
 none_more choice pieces i d below not none = All-more (λ piece. FitsName (choice_seen choice) (piece_record piece).name → ⊥) pieces i d below none not
 
 none_fits : (choice : HeldChoice) (pieces : List RawPiece) → NoneFits choice pieces → FitsSection (map piece_record pieces) (choice_seen choice) → ⊥
-none_fits choice pieces none found =
-    All-contains (λ (piece : Piece). FitsName (choice_seen choice) piece.name → ⊥) (map piece_record pieces) found.0
-    (All-map (λ (piece : Piece). FitsName (choice_seen choice) piece.name → ⊥) piece_record pieces none) found.1 found.2
+none_fits choice pieces none found = none_among (λ (piece : Piece). FitsName (choice_seen choice) piece.name) piece_record pieces none found.0 found.1.0 found.1.1
 
 pub none_at_all : (choice : HeldChoice) (pieces : List RawPiece) (i : ℕ) → length pieces ≤ i → NoneFits choice (take i pieces) → (false ≡ true) ↔ FitsSection (map piece_record pieces) (choice_seen choice)
 none_at_all choice pieces i past none = (λ h. absurd (untrue h), λ found. absurd (none_fits choice pieces (subst (NoneFits choice) (take_all i pieces past) none) found))
@@ -71,7 +64,7 @@ all_met pieces choices i past all = λ choice at.
 
 pub one_unmet : (pieces : List RawPiece) (choices : List HeldChoice) (i : ℕ) (d : HeldChoice) → i < length choices → (IsMet (map piece_record pieces) (choice_seen (get_or choices i d)) → ⊥)
     → OneFitsNone (map piece_record pieces) (choices_seen choices)
-one_unmet pieces choices i d below unmet = (choice, among choice_seen choices i d below, by_kind choice.is_kept refl, λ fits. unmet (λ kept. fits))
+one_unmet pieces choices i d below unmet = (choice, (among choice_seen choices i d below, (by_kind choice.is_kept refl, λ fits. unmet (λ kept. fits))))
   where
     choice : Choice
     choice = choice_seen (get_or choices i d)
