@@ -50,7 +50,7 @@ fn add_kind(alloc: Global, to: &mut Vec<u8>, id: u8) -> Result<(), AllocError>
 // Puts what the section is behind the text.
 fn add_what(alloc: Global, to: &mut Vec<u8>, id: u8, name: Option<&str>) -> Result<(), AllocError>
     ensures { OnOk result (to.new.items ≡ to.old.items
-        ++ what_text id (option_map (λ n. n.now) name)) }
+        ++ what_text id (option_map (λ n. n.now) name.entry)) }
 {
     match name {
         Some(name) => {
@@ -74,7 +74,7 @@ fn add_count(alloc: Global, to: &mut Vec<u8>, entries: Option<u32>) -> Result<()
 
 // Puts the line of a section behind the text.
 fn add_line(alloc: Global, to: &mut Vec<u8>, piece: RawPiece<'_>) -> Result<(), AllocError>
-    ensures { OnOk result (to.new.items ≡ to.old.items ++ section_line (piece_record piece)) }
+    ensures { OnOk result (to.new.items ≡ to.old.items ++ section_line (piece_record piece.entry)) }
 {
     add_decimal(alloc, to, piece.start as u64)?;
     to.push(b' ')?;

@@ -5,7 +5,10 @@ use Rattle.std.proofs.lemmas.Grind.{flat_map-append}
 use Rattle.std.proofs.lemmas.List.Elements.{All-map, All-contains, All-more}
 use Rattle.std.proofs.lemmas.List.{append-nil, map_more, take_all}
 use Rattle.wasm_frames.specs.Frames.{header}
-use Rattle.wasm_frames.specs.Pieces.{Piece, HasPieces, piece_record}
+use Rattle.std.specs.Global.{Vec}
+use Rattle.wasm_frames.specs.Pieces.{Piece, HasPieces, IsPieced, PiecesUntil, piece_record}
+use Rattle.wasm_frames.specs.declared.pieces.Pieced.{Pieced}
+use Rattle.wasm_frames.specs.declared.pieces.Pieced.TheVariants as found
 use Rattle.wasm_frames.specs.Until.{LacksHeader}
 use Rattle.wasm_frames.specs.declared.pieces.RawPiece.{RawPiece}
 use Rattle.walrus_tools.specs.Choice.{Choice, choice_seen, choices_seen}
@@ -17,7 +20,7 @@ use Rattle.walrus_tools.proofs.Among.{among, none_among}
 pub is_not : (r : Bool) (P : Type 0) → (r ≡ true) ↔ P → r ≡ false → P → ⊥
 is_not r P iff isnt h = let yes : r ≡ true = iff.1 h in absurd cc
 
-untrue : false ≡ true → ⊥
+pub untrue : false ≡ true → ⊥
 untrue h = cc
 
 -- ---- one choice over all sections
@@ -42,12 +45,11 @@ none_at_all choice pieces i past none = (λ h. absurd (untrue h), λ found. absu
 
 -- ---- all choices
 
-pub met : (pieces : List Piece) (choice : Choice) (fits : Bool) → (fits ≡ true) ↔ FitsSection pieces choice → ((choice.is_kept || fits) ≡ true) ↔ IsMet pieces choice
-met pieces choice fits iff = by_kind choice.is_kept refl
-  where
-    by_kind : (k : Bool) → choice.is_kept ≡ k → ((k || fits) ≡ true) ↔ IsMet pieces choice
-    by_kind true is = (λ h. λ kept. absurd (untrue (sym kept ∙ is)), λ h. refl)
-    by_kind false is = (λ h. λ kept. iff.0 h, λ h. iff.1 (h is))
+pub met_kept : (pieces : List Piece) (choice : Choice) → choice.is_kept ≡ true → (true ≡ true) ↔ IsMet pieces choice
+met_kept pieces choice is = (λ h. λ goes. absurd (untrue (sym goes ∙ is)), λ h. refl)
+
+pub met_fits : (pieces : List Piece) (choice : Choice) (fits : Bool) → choice.is_kept ≡ false → (fits ≡ true) ↔ FitsSection pieces choice → (fits ≡ true) ↔ IsMet pieces choice
+met_fits pieces choice fits is iff = (λ h. λ goes. iff.0 h, λ h. iff.1 (h is))
 
 -- those of these that say what goes are met
 abbrev pub AllMet : List RawPiece → List HeldChoice → Type 0
@@ -85,8 +87,8 @@ with_more P [] stay next stays is = inr (stays, ([], (ap (λ (l : List Piece). l
 with_more P (piece ∷ pieces) stay next stays (inl h) = inl (h.0, with_more P pieces stay next stays h.1)
 with_more P (piece ∷ pieces) stay next stays (inr h) = inr (h.0, (h.1.0 ++ next ∷ [], (ap (λ (l : List Piece). l ++ next ∷ []) h.1.1.0, with_more P pieces h.1.0 next stays h.1.1.1)))
 
-pub left_none : (choices : List Choice) (output : List ℕ) → output ≡ header → AreLeft choices [] output
-left_none choices output is = ([], (refl, is ∙ sym (append-nil header)))
+pub left_none : (choices : List Choice) (before output : List ℕ) → before ≡ [] → output ≡ before ++ header → AreLeft choices [] output
+left_none choices before output none is = ([], (refl, is ∙ ap (λ (b : List ℕ). b ++ header) none ∙ sym (append-nil header)))
 
 left_next : (choices : List Choice) (pieces : List Piece) (next : Piece) (output bytes : List ℕ) → AreLeft choices pieces output → IsLeftOf choices next bytes → AreLeft choices (pieces ++ next ∷ []) (output ++ bytes)
 left_next choices pieces next output bytes left (inl goes) =
@@ -116,3 +118,12 @@ left_all choices pieces i output past left = subst (λ (ps : List RawPiece). Are
 
 pub headless : (bytes : List ℕ) → LacksHeader bytes → (pieces : List Piece) → HasPieces bytes pieces → ⊥
 headless bytes lacks pieces has = lacks has.rest has.headed
+
+pub headless_found : (bytes : List ℕ) (p : Pieced) → p ≡ found.NoHeader → IsPieced bytes p → (pieces : List Piece) → HasPieces bytes pieces → ⊥
+headless_found bytes p is h = headless bytes (subst (IsPieced bytes) is h)
+
+pub whole_found : (bytes : List ℕ) (p : Pieced) (ps : Vec RawPiece) (held : List RawPiece) → p ≡ found.Whole ps → IsPieced bytes p → held ≡ ps.items → HasPieces bytes (map piece_record held)
+whole_found bytes p ps held is h same = subst (λ (l : List RawPiece). HasPieces bytes (map piece_record l)) (sym same) (subst (IsPieced bytes) is h)
+
+pub cut_found : (bytes : List ℕ) (p : Pieced) (ps : Vec RawPiece) (place : ℕ) (held : List RawPiece) → p ≡ found.Until ps place → IsPieced bytes p → held ≡ ps.items → PiecesUntil bytes (map piece_record held) place
+cut_found bytes p ps place held is h same = subst (λ (l : List RawPiece). PiecesUntil bytes (map piece_record l) place) (sym same) (subst (IsPieced bytes) is h)

@@ -41,10 +41,10 @@ fn counted(entries: Option<u32>) -> (u8, u32)
 // Puts the length of a section's name and the name behind the bytes, or what says that it has none.
 fn add_name(to: &mut Vec<u8>, name: Option<&str>) -> Result<()>
     ensures value { OnOk result (to.new.items ≡ to.old.items
-        ++ name_bytes (names_of (option_map (λ n. n.now) name))) }
-    ensures fits { OnOk result (IsLongName (names_of (option_map (λ n. n.now) name)) → ⊥) }
+        ++ name_bytes (names_of (option_map (λ n. n.now) name.entry))) }
+    ensures fits { OnOk result (IsLongName (names_of (option_map (λ n. n.now) name.entry)) → ⊥) }
     ensures refused { IfErr result (RefusesIf
-        (IsLongName (names_of (option_map (λ n. n.now) name)))) }
+        (IsLongName (names_of (option_map (λ n. n.now) name.entry)))) }
 {
     match name {
         Some(name) => add_text(to, name),
@@ -55,9 +55,9 @@ fn add_name(to: &mut Vec<u8>, name: Option<&str>) -> Result<()>
 // Puts a section behind the bytes.
 fn add_section(to: &mut Vec<u8>, piece: RawPiece<'_>) -> Result<()>
     ensures value { OnOk result (to.new.items ≡ to.old.items
-        ++ section_bytes (piece_record piece)) }
-    ensures fits { OnOk result (IsLongSection (piece_record piece) → ⊥) }
-    ensures refused { IfErr result (RefusesIf (IsLongSection (piece_record piece))) }
+        ++ section_bytes (piece_record piece.entry)) }
+    ensures fits { OnOk result (IsLongSection (piece_record piece.entry) → ⊥) }
+    ensures refused { IfErr result (RefusesIf (IsLongSection (piece_record piece.entry))) }
 {
     let start = narrow(piece.start)?;
     let size = narrow(piece.bytes.len())?;

@@ -3,7 +3,7 @@ use Rattle.walrus_tools.proofs.StripLemmas.{left_all, left_more, left_none}
 use Rattle.walrus_tools.proofs.tool.strip.what_is_left.Goals as goal
 
 pub loop-piece-init : goal.loop-piece-init
-loop-piece-init c = left_none (choices_seen c.args.choices.now) _ c.in_ok-extend_from_slice.ensures.items
+loop-piece-init c = left_none (choices_seen c.args.choices.now) c.new-output.result.items _ c.new-output.ensures.items c.in_ok-extend_from_slice.ensures.items
 
 pub loop-piece-preserved : goal.loop-piece-preserved
 loop-piece-preserved c =
