@@ -1,7 +1,7 @@
 use Rattle.std.proofs.Common.{ℕ, List, subst}
 use Rattle.std.specs.Prelude.{Ok, Err}
 use Rattle.walrus_tools.specs.Handed.{Stream, Tells, stream_of}
-use Rattle.mulkavesh.specs.Cause.{config_read, error_of, refused_text}
+use Rattle.mulkavesh.specs.Cause.{config_read, error_of, refused_text, said_text}
 use Rattle.mulkavesh.specs.Command.{Device, device_of}
 use Rattle.mulkavesh.specs.Made.{AnswersOrder}
 use Rattle.mulkavesh.specs.Message.{line}
@@ -45,7 +45,7 @@ returns-in-Err-Refused-clause-runs g c =
     let to : Device = device_of g.W.Sink.held g.W.Sink.write_failures g.W.Explains.name g.W.Explains.trouble g.W.Explains.is_left c.args.output.now c.carry.new.output in
     let errors : Stream = stream_of g.E.Sink.held g.E.Sink.write_failures c.args.errors.now c.refuse-in-Err-Refused.new.errors in
     let named = subst (λ (name : List ℕ). Tells errors (line name c.text_said.result.now)) c.name-in-Err-Refused.ensures c.refuse-in-Err-Refused.ensures.told in
-    let told = subst {y = said_text c.args.order.now.work c.in-Err-Refused.error c.in-Err-Refused.said} (λ (text : List ℕ). Tells errors (line from.name text)) c.text_said.ensures named in
+    let told = subst (λ (text : List ℕ). Tells errors (line from.name text)) {y = said_text c.args.order.now.work c.in-Err-Refused.error c.in-Err-Refused.said} c.text_said.ensures named in
     record {
       answer = Err (error_of c.in-Err-Refused.field-0);
       ran = c.in-Err-Refused.ensures.headline;
