@@ -327,14 +327,14 @@ def try_check(work):
 
 def try_faults(work):
     """Each subcommand that refuses bytes as invalid says in its line what `check` writes, under the same choice of legacy exceptions."""
-    with_words = [["gc"], ["report"], ["report", "--json"], ["list"], ["strip", "a"], ["strip", "a", "--no-names"]]
-    without = [["snip", "a"], ["stub", "env"], ["why", "0"], ["why", "a"], ["why", "--json", "0"]]
+    choosing = (["gc"], ["report"], ["report", "--json"], ["list"], ["strip", "a"], ["strip", "a", "--no-names"])
+    others = (["snip", "a"], ["stub", "env"], ["why", "0"], ["why", "a"], ["why", "--json", "0"])
     for legacy, kind, _, data, words in faults():
         flags = [] if legacy else ["--no-legacy"]
         if kind:
             said = run("check", *flags, data=data)[1].decode()
             same(f"check of {data.hex()}", said, f"{words}\n")
-            for order in [[*it, *flags] for it in with_words] + (without if legacy else []):
+            for order in (*([*it, *flags] for it in choosing), *(others if legacy else ())):
                 line = f"mulkavesh: standard input: the input WebAssembly is invalid: {said}"
                 same(f"{order} of {data.hex()}", run(*order, data=data), (1, b"", line))
 

@@ -1,14 +1,14 @@
 -- What is told of an order that was refused.
 use Rattle.std.proofs.Common.{◌≡◌, ℕ, Bool, true, false, List, inl, inr, sym, subst}
-use Rattle.std.specs.Prelude.{Option, Some, None, Result, Err, IfSome, String}
+use Rattle.std.specs.Prelude.{Option, Some, None, Result, Err, String}
 use Rattle.std.specs.declared.alloc.Global.{Global}
 use Rattle.walrus_tools.specs.Handed.{Config, Error, Stream}
 use Rattle.mulkavesh.specs.declared.cause.Cause.{Cause}
 use Rattle.mulkavesh.specs.declared.cause.Cause.TheVariants as cause
 use Rattle.mulkavesh.specs.declared.made.Made.{Made}
 use Rattle.mulkavesh.specs.declared.order.Work.{Work}
-use Rattle.mulkavesh.specs.Cause.{SaysRefused, error_of, refused_text, said_text}
-use Rattle.mulkavesh.specs.Command.{Device, FindsRead, ReadsAndMakes, TellsLine, TellsMade, TellsRefusal, TellsResult}
+use Rattle.mulkavesh.specs.Cause.{error_of, refused_text, said_text}
+use Rattle.mulkavesh.specs.Command.{Device, FindsRead, TellsLine, TellsMade, TellsRefusal, TellsResult}
 
 module _ (Answers : List ℕ → Result Made Error → Type 0) (w : Work) (c : Config) (from to : Device) (errors : Stream) (status : ℕ) where
   abbrev pub Line : List ℕ → Type 0
