@@ -1,6 +1,7 @@
 mod BodiesRise
 mod CallBody
 mod CallSound
+mod Chosen
 mod Closures
 mod CountEnds
 mod CountRead
@@ -33,13 +34,14 @@ mod PlacedSlots
 mod Places
 mod ReadBodies
 mod ReasonEnds
+mod Records
 mod RenameSteps
 mod Sections
 mod SizeEnds
 mod SizeLemmas
 mod SnipCall
 mod SnipStep
-mod StripEnds
+mod Stars
 mod StubCall
 mod StubStep
 mod StubTurn

@@ -1,8 +1,11 @@
+pub mod Choice
+pub mod Comparing
 pub mod Count
 pub mod Counted
 pub mod Diagnosed
 pub mod Edited
 pub mod Finding
+pub mod Fits
 pub mod Found
 pub mod Handed
 pub mod Hooked
@@ -12,12 +15,15 @@ pub mod Listing
 pub mod Measured
 pub mod Metadata
 pub mod Moves
+pub mod Numbers
 pub mod Placed
 pub mod Reasons
 pub mod Renamed
+pub mod Sections
 pub mod Sized
 pub mod Snip
 pub mod Snipped
+pub mod StripSteps
 pub mod Stripped
 pub mod Stub
 pub mod Stubbed

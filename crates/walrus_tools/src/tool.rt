@@ -5,6 +5,7 @@ pub mod find;
 pub mod gc;
 pub mod list;
 pub mod report;
+pub mod sections;
 pub mod snip;
 pub mod strip;
 pub mod stub;

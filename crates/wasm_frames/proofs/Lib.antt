@@ -6,3 +6,6 @@ pub mod Sections
 pub mod Modules
 pub mod Until
 pub mod SectionRows
+pub mod PieceText
+pub mod PieceRows
+pub mod PiecesReached

@@ -4,3 +4,5 @@ pub mod Frames
 pub mod Steps
 pub mod Until
 pub mod Spelling
+pub mod Pieces
+pub mod PieceSteps

@@ -7,11 +7,13 @@
 
 mod code;
 mod custom;
+mod pieces;
 mod read;
 mod record;
 mod section;
 mod spell;
 mod tag;
 
+pub use pieces::{Pieced, RawPiece, one_row, pieces_until};
 pub use read::{Framed, framed_until, one_place, one_record, read_module};
 pub use record::{Raw, RawBody, RawCustom};

@@ -25,7 +25,7 @@ pub enum Framed<'a> {
 }
 
 /// What stands behind the magic number and the version (Binary Format > Modules).
-fn read_header(bytes: &[u8]) -> Option<&[u8]>
+pub fn read_header(bytes: &[u8]) -> Option<&[u8]>
     ensures { ReadsHeader (λ r. r.now) bytes.now result }
 {
     match bytes {
