@@ -232,6 +232,19 @@ fn sections_are_told() {
 }
 
 #[test]
+fn each_custom_section_begins_with_a_name() {
+    // One whose name is longer than its content, and one whose name is no UTF-8.
+    for other in ["00 03 03 61 62", "00 03 02 C3 28"] {
+        let module = [bytes(CUSTOMS), bytes(other)].concat();
+        let found = sections(&module).expect("sections");
+        assert_eq!((found.end, found.is_whole), (27, false));
+        assert_eq!(found.sections.len(), 4);
+        let refused = strip(&module, &["a"], &[]);
+        assert_eq!(refused, Err(Error::Invalid(Fault::Section(27))));
+    }
+}
+
+#[test]
 fn sections_of_a_cut_module_are_told() {
     let module = bytes(TWO);
     for cut in 27..36 {
