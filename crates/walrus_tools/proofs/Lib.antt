@@ -1,6 +1,8 @@
+mod Among
 mod BodiesRise
 mod CallBody
 mod CallSound
+mod ChoiceLists
 mod Chosen
 mod Closures
 mod CountEnds
@@ -36,11 +38,13 @@ mod ReadBodies
 mod ReasonEnds
 mod Records
 mod RenameSteps
+mod SectionLemmas
 mod Sections
 mod SizeEnds
 mod SizeLemmas
 mod SnipCall
 mod SnipStep
+mod StripLemmas
 mod Stars
 mod StubCall
 mod StubStep

@@ -1,8 +1,8 @@
 -- A module's sections as bytes, by their framing alone ("Binary Format > Sections").
 use Rattle.std.specs.Prelude.{◌≡◌, ◌⊎◌, ◌^◌, ◌≤◌, List, [], ◌∷◌, ◌++◌, ℕ, Bool, true, false, Contains, Option, Some, None, Result, Ok, Err, flat_map, length, ⊤}
 use Rattle.std.specs.Global.{Vec}
-use Rattle.wasm_frames.specs.Pieces.{Piece, HasPieces, IsPieced, PiecesUntil}
-use Rattle.wasm_frames.specs.Until.{LacksHeader}
+pub use Rattle.wasm_frames.specs.Pieces.{Piece, HasPieces, IsPieced, PiecesUntil, piece_record}
+pub use Rattle.wasm_frames.specs.Until.{LacksHeader}
 use Rattle.wasm_frames.specs.declared.pieces.Pieced.{Pieced}
 use Rattle.walrus_items.specs.declared.error.Error.{Error}
 use Rattle.walrus_items.specs.declared.error.Error.TheVariants.{InvalidWasm, Memory, TooLarge}

@@ -48,10 +48,10 @@ pub use tool::snip::snip;
 pub use tool::strip::strip;
 pub use tool::stub::stub;
 pub use tool::why::why;
-pub use walrus::Error;
 pub use walrus::tool::{
     DeviceFailed, FromWrite, ReadAllError, Sink, Source, ToolError, read_all, write_all,
 };
+pub use walrus::{Error, ErrorKind};
 pub use walrus_reading::Fault;
 pub use wanted::Wanted;
 pub use wasm_frames::{Pieced, RawPiece};

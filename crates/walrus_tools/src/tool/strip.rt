@@ -4,7 +4,7 @@ ghost use Rattle.std.specs.Prelude.{◌≡◌, ◌↔◌, IfOk, false, map, true
 ghost use Rattle.wasm_frames.specs.Pieces.{piece_record};
 ghost use Rattle.walrus_tools.specs.Choice.{choice_seen, choices_seen};
 ghost use Rattle.walrus_tools.specs.Stripped.{AllFit, AnswersStripped, AreLeft, FitsName, FitsSection, OneFitsNone, SectionGoes};
-ghost use Rattle.walrus_tools.specs.StripSteps.{IsLeftOf};
+ghost use Rattle.walrus_tools.specs.StripSteps.{IsLeftOf, IsMet, ReadsPieces};
 
 use crate::choice::{Choice, goes};
 use crate::fits::fits;
@@ -39,7 +39,9 @@ fn fits_section(pieces: &[RawPiece<'_>], choice: &Choice<'_>) -> bool
 }
 
 // Whether the choice is one of what is kept, or fits the name of one of the sections.
-fn is_met(pieces: &[RawPiece<'_>], choice: &Choice<'_>) -> bool {
+fn is_met(pieces: &[RawPiece<'_>], choice: &Choice<'_>) -> bool
+    ensures { (result ≡ true) ↔ IsMet (map piece_record pieces.now) (choice_seen choice.now) }
+{
     choice.is_kept || fits_section(pieces, choice)
 }
 
@@ -95,6 +97,17 @@ fn what_is_left(
     Ok(output)
 }
 
+// The sections, where they are all of the bytes behind the header.
+fn whole_pieces(alloc: Global, bytes: &[u8]) -> Result<Vec<RawPiece<'_>>>
+    ensures { ReadsPieces bytes.now result }
+{
+    match pieces_until(alloc, bytes)? {
+        Pieced::Whole(pieces) => Ok(pieces),
+        Pieced::NoHeader => Err(Error::InvalidWasm(ErrorKind::InvalidWasm)),
+        Pieced::Until(_pieces, _place) => Err(Error::InvalidWasm(ErrorKind::InvalidWasm)),
+    }
+}
+
 /// The bytes without the custom sections that go by these choices: the header, and all other sections as they stand, byte for byte and in
 /// their order. What the sections hold isn't read. Takes time by the product of the number of sections, that of choices, and the lengths of
 /// their names.
@@ -106,9 +119,7 @@ fn what_is_left(
 pub fn strip(alloc: Global, bytes: &[u8], choices: &[Choice<'_>]) -> Result<Vec<u8>>
     ensures { AnswersStripped bytes.now (choices_seen choices.now) result }
 {
-    let Pieced::Whole(pieces) = pieces_until(alloc, bytes)? else {
-        return Err(Error::InvalidWasm(ErrorKind::InvalidWasm));
-    };
+    let pieces = whole_pieces(alloc, bytes)?;
     if !all_fit(&pieces, choices) {
         return Err(Error::NotFound);
     }
