@@ -24,7 +24,7 @@ ghost use Rattle.mulkavesh_c.specs.Flags.{is_known, wanted};
 ghost use Rattle.mulkavesh_c.specs.Answer.{Gives};
 ghost use Rattle.mulkavesh_c.specs.Names.{UnderChoices, UnderName};
 
-use crate::answer::{UNKNOWN_CHOICE, put, refused};
+use crate::answer::{UNKNOWN_FLAG, put, refused};
 use crate::flags::wanted_by;
 use std::alloc::Global;
 use walrus_tools::are_choices;
@@ -53,7 +53,7 @@ pub extern "C" fn mulkavesh_gc(
         output.old output.new length.new result }
 {
     let Some(wanted) = wanted_by(flags) else {
-        return refused(length, UNKNOWN_CHOICE);
+        return refused(length, UNKNOWN_FLAG);
     };
     let made = walrus_tools::gc(alloc, input, wanted);
     put(made, output, length)
@@ -72,7 +72,7 @@ pub extern "C" fn mulkavesh_report(
         output.old output.new length.new result }
 {
     let Some(wanted) = wanted_by(flags) else {
-        return refused(length, UNKNOWN_CHOICE);
+        return refused(length, UNKNOWN_FLAG);
     };
     let made = walrus_tools::report(alloc, input, wanted);
     put(made, output, length)
@@ -91,7 +91,7 @@ pub extern "C" fn mulkavesh_diagnose(
         output.old output.new length.new result }
 {
     let Some(wanted) = wanted_by(flags) else {
-        return refused(length, UNKNOWN_CHOICE);
+        return refused(length, UNKNOWN_FLAG);
     };
     let made = walrus_tools::fault(alloc, input, wanted);
     put(made, output, length)
@@ -110,7 +110,7 @@ pub extern "C" fn mulkavesh_list(
         output.old output.new length.new result }
 {
     let Some(wanted) = wanted_by(flags) else {
-        return refused(length, UNKNOWN_CHOICE);
+        return refused(length, UNKNOWN_FLAG);
     };
     let made = walrus_tools::list(alloc, input, wanted);
     put(made, output, length)
@@ -129,7 +129,7 @@ pub extern "C" fn mulkavesh_strip(
         output.old output.new length.new result }
 {
     if !are_choices(choice) {
-        return refused(length, UNKNOWN_CHOICE);
+        return refused(length, UNKNOWN_FLAG);
     }
     let made = names::stripped(alloc, input, choice);
     put(made, output, length)
