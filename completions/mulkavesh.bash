@@ -5,9 +5,8 @@ _mulkavesh_flags() {
   case $1 in
     gc) echo --no-names --no-producers --no-legacy --quiet --help ;;
     report | list | check) echo --json --no-legacy --no-names --no-producers --help ;;
-    strip) echo --no-names --no-producers --no-legacy --help ;;
-    why) echo --json --help ;;
-    snip | stub) echo --help ;;
+    sections | why) echo --json --help ;;
+    strip | snip | stub) echo --help ;;
   esac
 }
 
@@ -16,7 +15,7 @@ _mulkavesh() {
   local word=${COMP_WORDS[COMP_CWORD]} words
   COMPREPLY=()
   if [ "$COMP_CWORD" = 1 ]; then
-    words='gc report list check strip snip stub why --help --version'
+    words='gc report list check sections strip snip stub why --help --version'
   elif [ "${COMP_WORDS[COMP_CWORD - 1]}" != -o ] && [[ $word = -* ]]; then
     words="$(_mulkavesh_flags "${COMP_WORDS[1]}") -o"
   else

@@ -199,13 +199,81 @@ def try_list(work):
         same(f"list --json of {title}", found, [(it.index, it.size, it.name) for it in listed])
 
 
+# the standard's words for sections, by their ids
+WORDS = (None, "type", "import", "function", "table", "memory", "global", "export", "start", "element", "code", "data", "data count", "tag")
+
+
+def is_fit(title, text):
+    """Whether a text fits a NAME, in which a star stands for any bytes, and a backslash and a star for a star."""
+    parts = re.findall(rb"\\\*|.", title, re.DOTALL)
+    pattern = b"".join(b".*" if part == b"*" else b"\\*" if part == b"\\*" else re.escape(part) for part in parts)
+    return re.fullmatch(pattern, text, re.DOTALL) is not None
+
+
+def stripped(data, title):
+    """What is left of a module without the custom sections that fit, and whether one does."""
+    parts, found, at = [data[:8]], False, 8
+    for code, content, length in sections(data):
+        if code == 0 and is_fit(title, read_name(content, 0)[0]):
+            found = True
+        else:
+            parts.append(data[at : at + length])
+        at += length
+    return (0, b"".join(parts)) if found else (1, b"")
+
+
 def try_strip(work):
     for title, data in samples():
-        names = [text.decode() for text, _ in customs(data)] if title not in ("broken", "empty") else []
-        for text in [*dict.fromkeys(names), "no such section", ""]:
-            same(f"strip {text} of {title}", run("strip", text, data=data)[:2], answer(mulkavesh.strip, data, text))
-        wanted = answer(mulkavesh.strip, data, "notes", names=False, producers=False, legacy=False)
-        same(f"strip with all words of {title}", run("strip", *FLAGS, "notes", data=data)[:2], wanted)
+        whole = title not in ("broken", "empty")
+        names = [text.decode() for text, _ in customs(data)] if whole else []
+        for text in [*dict.fromkeys(names), ".debug*", "*", "*o*e*", "\\*", "no such section", ""]:
+            wanted = stripped(data, text.encode()) if whole else (1, b"")
+            same(f"strip {text} of {title}", run("strip", text, data=data)[:2], wanted)
+
+
+def section_rows(data):
+    """Each whole section: its id, its name, its place, its whole length, and the count of its entries; and the place where they end."""
+    rows, at = [], 8
+    while at < len(data):
+        try:
+            size, begin = read_number(data, at + 1)
+        except IndexError:
+            break
+        if begin + size > len(data):
+            break
+        code, content = data[at], data[begin : begin + size]
+        try:
+            count = read_number(content, 0)[0] if 0 < code < 14 and code not in (8, 12) else None
+        except IndexError:
+            count = None
+        rows.append((code, read_name(content, 0)[0].decode() if code == 0 else None, at, begin + size - at, count))
+        at = begin + size
+    return rows, at
+
+
+def section_text(code, text, at, length, count):
+    what = "custom" + shown_name(text) if code == 0 else WORDS[code] if code < len(WORDS) else f"unknown {code}"
+    return f"{at} {length} {what}" + ("" if count is None else f" {count}") + "\n"
+
+
+def section_object(code, text, at, length, count):
+    kind = "custom" if code == 0 else WORDS[code] if code < len(WORDS) else "unknown"
+    return {"id": code, "kind": kind, "name": text, "start": at, "size": length, "entries": count}
+
+
+def try_sections(work):
+    odd = module_of(section(1, b""), section(77, b"abc"), custom("a\nb", b""), section(8, b"\0"), section(10, b"\x80"))
+    for title, data in [*samples(), ("odd", odd), ("cut", TWO + b"\0\x05\1a"), ("header", TWO[:8])]:
+        found = run("sections", data=data)
+        if data[:8] != TWO[:8]:
+            same(f"sections of {title}", found[:2], (1, b""))
+            continue
+        rows, end = section_rows(data)
+        status = 0 if end == len(data) else 1
+        said = "" if status == 0 else f"mulkavesh: no section stands at byte {end}\n"
+        same(f"sections of {title}", found, (status, "".join(section_text(*it) for it in rows).encode(), said))
+        listed = run("sections", "--json", data=data)
+        same(f"sections --json of {title}", (listed[0], listed[2], json.loads(listed[1])), (status, said, [section_object(*it) for it in rows]))
 
 
 def try_snip_and_stub(work):
@@ -359,11 +427,14 @@ def try_note(work):
 def try_silence(work):
     """What is said on standard error where all was done: nothing, but for what gc says without --quiet, and for snip and stub, of which nothing is told here."""
     data = functions(2, [("run", 1)], [(0, "gone"), (1, "main")], [custom("notes", b"abc")])
-    for words in ("check", "report", "list", "why 0", "why main", "strip notes", "gc --quiet", "check --json", "report --json", "list --json", "why --json run"):
+    for words in (
+        "check", "report", "list", "why 0", "why main", "sections", "strip notes", "gc --quiet", "check --json", "report --json", "list --json", "sections --json",
+        "why --json run",
+    ):
         status, _, said = run(*words.split(), data=data)
         same(f"what {words} says", (status, said), (0, ""))
     for title, data in samples():
-        for words in ("check", "report", "list", "why 0", "strip producers", "gc --quiet"):
+        for words in ("check", "report", "list", "sections", "why 0", "strip producers", "gc --quiet"):
             status, _, said = run(*words.split(), data=data)
             same(f"how many lines {words} says of {title}", len(said.splitlines()), status)
 
@@ -556,7 +627,7 @@ def try_closed_streams(work):
 def try_readers_that_go(work):
     big = functions(20000, [(f"f{at}", at) for at in range(20000)], more=[custom("notes", b"abc")])
     (work / "big").write_bytes(big)
-    for words in ("gc --quiet", "list", "list --json", "strip notes"):
+    for words in ("gc --quiet", "list", "list --json", "sections", "strip notes"):
         found = shell(f'"$P" {words} "$IN" | head -c 1 | wc -c; echo "${{PIPESTATUS[0]}}"', IN=str(work / "big"))
         same(f"{words} into head", found, (0, b"1\n1\n", ""))
     many = work / "many"
@@ -577,6 +648,7 @@ def try_words(work):
     for words in (
         "", "nothing", "GC", "gc in out", "gc -o", "gc -o a -o b", "gc --json", "report --quiet", "list --quiet", "check -x", "gc -", "gc --",
         "strip", "strip -o out", "snip", "stub", "why", "why --json", "snip a --no-names", "stub a --json", "why a --no-legacy", "strip a b c",
+        "strip a --no-names", "sections --no-names", "sections --quiet", "sections in out",
         "why a b c", "gc --help in", "gc in --help", "--help gc", "--version gc", "--quiet gc", "gc --no-name", "gc --no-names=1", "-h", "gc -- a b",
     ):
         known = words in ("gc -", "gc --")
@@ -599,7 +671,7 @@ def try_words(work):
 def try_help(work):
     version = run("--version")
     same("--version", (version[0], version[2], re.fullmatch(rb"mulkavesh \d+\.\d+\.\d+\n", version[1]) is not None), (0, "", True))
-    words = ["gc", "report", "list", "check", "strip", "snip", "stub", "why"]
+    words = ["gc", "report", "list", "check", "sections", "strip", "snip", "stub", "why"]
     whole = run("--help")
     same("--help", (whole[0], whole[2]), (0, ""))
     flags = {}
@@ -609,7 +681,7 @@ def try_help(work):
         same(f"{word} --help", (status, said, text.startswith(f"usage: mulkavesh {word} ".encode())), (0, "", True))
         flags[word] = set(re.findall(r"--[a-z-]+", text.decode()))
         for flag in ("--no-names", "--no-producers", "--no-legacy", "--quiet", "--json"):
-            operand = ["x"] if word in words[4:] else []
+            operand = ["x"] if word in words[5:] else []
             known = run(word, flag, *operand, data=b"")[0] != 2
             same(f"{word} --help names {flag}", flag in flags[word], known)
     lines = [line for it in (whole, *(run(word, "--help") for word in words)) for line in it[1].decode().splitlines()]
@@ -629,7 +701,7 @@ def completed(*words):
 def try_completions(words, flags):
     same("bash -n of the completions", subprocess.run(["bash", "-n", TOP / "completions" / "mulkavesh.bash"], check=False).returncode, 0)
     same("the first word", completed("mulkavesh", ""), {*words, "--help", "--version"})
-    same("a word that is begun", completed("mulkavesh", "s"), {"strip", "snip", "stub"})
+    same("a word that is begun", completed("mulkavesh", "s"), {"sections", "strip", "snip", "stub"})
     for word in words:
         same(f"the flags of {word}", completed("mulkavesh", word, "-"), {*flags[word], "--help", "-o"})
     same("a file", "samples" in completed("mulkavesh", "gc", "sam"), True)

@@ -3,6 +3,7 @@ pub mod Command
 pub mod Entries
 pub mod Message
 pub mod Order
+pub mod Sections
 pub mod Steps
 pub mod Subcommands
 pub mod Visible

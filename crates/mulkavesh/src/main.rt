@@ -21,6 +21,7 @@ mod numbers;
 mod order;
 mod output;
 mod reports;
+mod sections;
 mod subcommands;
 mod usage;
 mod verdicts;

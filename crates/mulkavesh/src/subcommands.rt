@@ -1,17 +1,20 @@
 //! What each subcommand makes of the bytes of a module.
 
-ghost use Rattle.std.specs.Prelude.{◌≡◌, false};
+ghost use Rattle.std.specs.Prelude.{◌≡◌, ◌∷◌, [], false};
 ghost use Rattle.mulkavesh.specs.Entries.{TellsList};
-ghost use Rattle.mulkavesh.specs.Subcommands.{AnswersOrder, AnswersText, AnswersWhy, FindsMeant, IsSame, NotesNothing, Writes, WritesQuietly, operand_bytes, vec_bytes};
+ghost use Rattle.mulkavesh.specs.Subcommands.{AnswersOrder, AnswersText, AnswersWhy, FindsMeant, IsSame, NotesNothing, Writes, WritesQuietly, named, operand_bytes, vec_bytes};
 ghost use Rattle.walrus_tools.specs.Handed.{ReportsOn, RunsOn, config_of, defaults};
 ghost use Rattle.walrus_tools.specs.Sized.{AnswersListed};
+ghost use Rattle.walrus_tools.specs.Stripped.{AnswersStripped};
 ghost use Rattle.walrus_tools.specs.Wanted.{config_wanted};
 
 use crate::notes::note_of;
 use crate::order::{Order, Work};
-use crate::{chains, entries, reports, verdicts};
+use crate::{chains, entries, reports, sections, verdicts};
 use std::alloc::Global;
-use walrus_tools::{Error, Wanted, find, gc, gc_counted, list, report, snip, strip, stub, why};
+use walrus_tools::{
+    Choice, Error, Wanted, find, gc, gc_counted, list, report, snip, strip, stub, why,
+};
 
 /// What a subcommand makes.
 #[derive(Drop)]
@@ -57,7 +60,8 @@ pub(crate) fn make(alloc: Global, order: &Order, bytes: &[u8]) -> Result<Made, E
         Work::Report => Ok(only(alloc, reported(alloc, order, bytes)?)),
         Work::List => Ok(only(alloc, listed(alloc, order, bytes)?)),
         Work::Check => verdicts::checked(alloc, order, bytes),
-        Work::Strip => Ok(only(alloc, strip(alloc, bytes, operand, order.wanted)?)),
+        Work::Sections => sections::told(alloc, order, bytes),
+        Work::Strip => Ok(only(alloc, stripped(alloc, bytes, operand)?)),
         Work::Snip => Ok(only(alloc, snip(alloc, bytes, operand)?)),
         Work::Stub => Ok(only(alloc, stub(alloc, bytes, operand)?)),
         Work::Why => Ok(only(alloc, reasoned(alloc, order, bytes, operand)?)),
@@ -110,6 +114,17 @@ fn listed(alloc: Global, order: &Order, bytes: &[u8]) -> Result<Vec<u8>, Error>
         return Ok(entries::json(alloc, &list)?);
     }
     Ok(entries::text(alloc, &list)?)
+}
+
+// What is left without the custom sections of this name.
+fn stripped(alloc: Global, bytes: &[u8], operand: &str) -> Result<Vec<u8>, Error>
+    ensures { AnswersStripped bytes.now (named operand.now ∷ []) result }
+{
+    let choice = Choice {
+        is_kept: false,
+        name: operand.as_bytes(),
+    };
+    strip(alloc, bytes, &[choice])
 }
 
 // Why a function stays.

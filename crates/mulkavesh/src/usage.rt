@@ -10,15 +10,17 @@ pub(crate) const UNKNOWN: &str =
     "mulkavesh: these words say nothing; mulkavesh --help tells the words\n";
 
 /// All subcommands, the words that several have, and the statuses.
-pub(crate) const USAGE: &str = "usage: mulkavesh gc | report | list | check [words] [IN] [-o OUT]
-       mulkavesh strip SECTION | snip EXPORT | stub MODULE | why FUNCTION [words] [IN] [-o OUT]
+pub(crate) const USAGE: &str =
+    "usage: mulkavesh gc | report | list | check | sections [words] [IN] [-o OUT]
+       mulkavesh strip NAME | snip EXPORT | stub MODULE | why FUNCTION [words] [IN] [-o OUT]
        mulkavesh SUBCOMMAND --help | --help | --version
 
   gc              drops what nothing reaches
   report          counts the items that gc would keep and drop
   list            lists the functions that gc would keep, with the bytes of each
   check           says whether a module is accepted (well made), and else what is wrong with it
-  strip SECTION   removes a custom section, the first of this name
+  sections        lists the sections as they stand, with the place and the size of each
+  strip NAME      removes the custom sections of this name, as '.debug*'; all else stays, byte for byte
   snip EXPORT     makes an exported function trap, and drops what nothing reaches then
   stub MODULE     makes the functions that are imported from this module trap, and drops what nothing reaches then
   why FUNCTION    says by which references a function stays
@@ -69,14 +71,19 @@ status is 1. Accepted means well made. That is less than valid: the types of ope
   --no-names, --no-producers    known, as to gc; they change nothing here
 ";
 
-const STRIP: &str = "usage: mulkavesh strip SECTION [words] [IN] [-o OUT]
+const SECTIONS: &str = "usage: mulkavesh sections [words] [IN] [-o OUT]
 
-Removes a custom section, the first of this name. What nothing reaches stays, but all is written anew, as by gc. The sections of names, of
-producers and of debug information aren't found by their names.
+Lists the sections as they stand, whatever they hold, a line each: its place in bytes from the start, its bytes, and what it is: custom and its
+name, or the standard's word and the count of its entries where one stands there, or unknown and its id. Where bytes are left in which no
+section stands, standard error says where, and the status is 1.
 
-  --no-names      write no names
-  --no-producers  write no producers
-  --no-legacy     refuse bodies with legacy exceptions
+  --json          an array of objects, as {\"id\":10,\"kind\":\"code\",\"name\":null,\"start\":30,\"size\":12,\"entries\":2}
+";
+
+const STRIP: &str = "usage: mulkavesh strip NAME [IN] [-o OUT]
+
+Removes the custom sections of this name. In NAME a star stands for any bytes, also none, and a backslash and a star for a star. All else stays,
+byte for byte, and no section is looked into.
 ";
 
 const SNIP: &str = "usage: mulkavesh snip EXPORT [IN] [-o OUT]
@@ -105,6 +112,7 @@ pub(crate) fn help_of(work: Work) -> &'static str {
         Work::Report => REPORT,
         Work::List => LIST,
         Work::Check => CHECK,
+        Work::Sections => SECTIONS,
         Work::Strip => STRIP,
         Work::Snip => SNIP,
         Work::Stub => STUB,

@@ -1,6 +1,9 @@
+mod Among
 mod BodiesRise
 mod CallBody
 mod CallSound
+mod ChoiceLists
+mod Chosen
 mod Closures
 mod CountEnds
 mod CountRead
@@ -33,13 +36,16 @@ mod PlacedSlots
 mod Places
 mod ReadBodies
 mod ReasonEnds
+mod Records
 mod RenameSteps
+mod SectionLemmas
 mod Sections
 mod SizeEnds
 mod SizeLemmas
 mod SnipCall
 mod SnipStep
-mod StripEnds
+mod StripLemmas
+mod Stars
 mod StubCall
 mod StubStep
 mod StubTurn

@@ -15,7 +15,6 @@ use crate::tool::gc::gc;
 use crate::tool::list::list;
 use crate::tool::report::report;
 use crate::tool::snip::snip;
-use crate::tool::strip::strip;
 use crate::tool::stub::stub;
 use crate::tool::why::why;
 use crate::wanted::Wanted;
@@ -113,26 +112,6 @@ fn one_of_two_is_listed(rt: HostRuntime) -> std::result::Result<(), Fail> {
         rt.alloc(),
         list(rt.alloc(), &bytes, no_producers()),
         "01 00 00 00 02 00 00 00 FF FF FF FF",
-    )
-}
-
-// ---- strip
-
-// Three custom sections: `a`, `a` and `b`.
-const SECTIONS: &str = "00 61 73 6D 01 00 00 00 00 03 01 61 01 00 03 01 61 02 00 03 01 62 03";
-
-#[test]
-fn the_first_section_of_a_name_goes(rt: HostRuntime) -> std::result::Result<(), Fail> {
-    let bytes = bytes_of(rt.alloc(), SECTIONS)?;
-    demand_output(
-        rt.alloc(),
-        strip(rt.alloc(), &bytes, "a", no_producers()),
-        "00 61 73 6D 01 00 00 00 00 03 01 61 02 00 03 01 62 03",
-    )?;
-    let missing = strip(rt.alloc(), &bytes, "c", no_producers());
-    demand(
-        is_refused(missing, "not found"),
-        "a section that isn't there",
     )
 }
 

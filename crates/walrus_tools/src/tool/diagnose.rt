@@ -5,7 +5,7 @@ ghost use Rattle.walrus_reading.specs.Faults.{FindsFault};
 ghost use Rattle.walrus_tools.specs.Diagnosed.{AnswersFault, Diagnoses, fault_text, numbers_of, rule_number, rule_text};
 ghost use Rattle.walrus_tools.specs.Wanted.{config_wanted};
 
-use crate::tool::list::{add_number, narrow};
+use crate::numbers::{add_number, narrow};
 use crate::wanted::Wanted;
 use std::alloc::{AllocError, Global};
 use std::result;

@@ -5,7 +5,7 @@ ghost use Rattle.walrus_items.specs.Functions.{functions};
 ghost use Rattle.walrus_module.specs.Flags.{config_of, defaults};
 ghost use Rattle.walrus_tools.specs.Found.{AnswersFound, FindsCalled};
 
-use crate::tool::list::narrow;
+use crate::numbers::narrow;
 use std::alloc::Global;
 use walrus::{FunctionId, Module, ModuleExports, ModuleFunctions, Result};
 
