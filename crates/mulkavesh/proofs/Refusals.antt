@@ -2,13 +2,13 @@
 use Rattle.std.proofs.Common.{◌≡◌, ℕ, Bool, true, false, List, inl, inr, sym, subst}
 use Rattle.std.specs.Prelude.{Option, Some, None, Result, Err, String}
 use Rattle.std.specs.declared.alloc.Global.{Global}
-use Rattle.walrus_tools.specs.Handed.{Config, Error, Stream}
+use Rattle.walrus_tools.specs.Handed.{Config, Error, Stream, Tells}
 use Rattle.mulkavesh.specs.declared.cause.Cause.{Cause}
 use Rattle.mulkavesh.specs.declared.cause.Cause.TheVariants as cause
 use Rattle.mulkavesh.specs.declared.subcommands.Made.{Made}
 use Rattle.mulkavesh.specs.declared.order.Work.{Work}
-use Rattle.mulkavesh.specs.Cause.{error_of, refused_text, said_text}
-use Rattle.mulkavesh.specs.Command.{Device, FindsRead, TellsLine, TellsMade, TellsRefusal, TellsResult}
+use Rattle.mulkavesh.specs.Cause.{error_of, said_text}
+use Rattle.mulkavesh.specs.Command.{Device, FindsRead, TellsLine, TellsMade, TellsRefusal, TellsResult, unaccepted_text}
 
 module _ (Answers : List ℕ → Result Made Error → Type 0) (w : Work) (c : Config) (from to : Device) (errors : Stream) (status : ℕ) where
   abbrev pub Line : List ℕ → Type 0
@@ -17,7 +17,7 @@ module _ (Answers : List ℕ → Result Made Error → Type 0) (w : Work) (c : C
   abbrev pub Told : Cause → Type 0
   Told x = TellsResult Answers w c from to errors status (Err (error_of x))
 
-  pub tells_refused : (is_refused : Bool) (note : List ℕ) → is_refused ≡ true → Line refused_text → TellsMade Answers w c from to errors status is_refused note
+  pub tells_refused : (is_refused : Bool) (note : List ℕ) → is_refused ≡ true → (status ≡ 1) × Tells errors (unaccepted_text from.name note) → TellsMade Answers w c from to errors status is_refused note
   tells_refused true note is told = told
   tells_refused false note is told = absurd (cc)
 

@@ -1,5 +1,5 @@
 -- What one order comes to, for all that was read and all that was written, and what is told of it.
-use Rattle.std.specs.Prelude.{ℕ, Bool, true, false, List, Option, Some, Result, Ok, Err, IfSome, OnOk, ◌≡◌, ◌⊎◌, ⊤}
+use Rattle.std.specs.Prelude.{ℕ, Bool, true, false, List, [], ◌∷◌, Option, Some, Result, Ok, Err, IfSome, OnOk, ◌≡◌, ◌⊎◌, ⊤}
 use Rattle.std.specs.Io.KnownBytes.{Appends, Keeps}
 use Rattle.walrus_tools.specs.Diagnosed.{Finds}
 use Rattle.walrus_tools.specs.Handed.{Config, CountsReads, CountsWrites, Error, Fault, IsUntouched, Memory, Module, Read, ReadsWhole, Stream, Tells, ToolError, Write, WroteFront, stream_of}
@@ -40,6 +40,11 @@ module _ (Answers : List ℕ → Result Made Error → Type 0) (from_old from_ne
 
 -- ---- what is told
 
+-- what is told of bytes that aren't accepted: what is noted of them, and where nothing is, that they are invalid
+abbrev pub unaccepted_text : (name note : List ℕ) → List ℕ
+unaccepted_text name [] = line name refused_text
+unaccepted_text name (byte ∷ more) = byte ∷ more
+
 -- a source or a sink: its stream, its name, why its last call failed, and whether its reader went away
 pub record Device : Type 0 where
   pub stream : Stream
@@ -73,9 +78,9 @@ module _ (Answers : List ℕ → Result Made Error → Type 0) (w : Work) (c : C
   abbrev pub TellsLine : List ℕ → List ℕ → Type 0
   TellsLine name text = (status ≡ 1) × Tells errors (line name text)
 
-  -- a module that isn't accepted is a refusal
+  -- bytes that aren't accepted are a refusal
   abbrev pub TellsMade : (is_refused : Bool) → (note : List ℕ) → Type 0
-  TellsMade true note = TellsLine from.name refused_text
+  TellsMade true note = (status ≡ 1) × Tells errors (unaccepted_text from.name note)
   TellsMade false note = (status ≡ 0) × Tells errors note
 
   -- a line says that the bytes are invalid, which are all of the source, and behind it something that is wrong with them
