@@ -393,6 +393,20 @@ def try_check(work):
     same("OUT of a check that was refused", out.read_bytes(), run("check", data=BROKEN)[1])
 
 
+def try_faults(work):
+    """Each subcommand that refuses bytes as invalid says in its line what `check` writes, under the same choice of legacy exceptions."""
+    choosing = (["gc"], ["report"], ["report", "--json"], ["list"], ["strip", "a"], ["strip", "a", "--no-names"])
+    others = (["snip", "a"], ["stub", "env"], ["why", "0"], ["why", "a"], ["why", "--json", "0"])
+    for legacy, kind, _, data, words in faults():
+        flags = [] if legacy else ["--no-legacy"]
+        if kind:
+            said = run("check", *flags, data=data)[1].decode()
+            same(f"check of {data.hex()}", said, f"{words}\n")
+            for order in (*([*it, *flags] for it in choosing), *(others if legacy else ())):
+                line = f"mulkavesh: standard input: the input WebAssembly is invalid: {said}"
+                same(f"{order} of {data.hex()}", run(*order, data=data), (1, b"", line))
+
+
 def try_note(work):
     for title, data in samples():
         status, made, said = run("gc", data=data)
@@ -494,8 +508,12 @@ def try_failures(work):
     ):
         same(f"{words}", run(*words, data=TWO), (1, b"", f"mulkavesh: {of}: {why}\n"))
         same(f"OUT of {words}", out.read_bytes(), b"as it was")
-    for work_word in ("gc", "report", "list", "check"):
-        same(f"{work_word} of what is refused", run(work_word, "-o", out, data=BROKEN), (1, b"", "mulkavesh: standard input: the input WebAssembly is invalid\n"))
+    line = f"mulkavesh: standard input: the input WebAssembly is invalid: {run('check', data=BROKEN)[1].decode()}"
+    for work_word in ("gc", "report", "list", "strip none", "snip none", "stub none", "why none"):
+        same(f"{work_word} of what is refused", run(*work_word.split(), "-o", out, data=BROKEN), (1, b"", line))
+        same(f"OUT of {work_word} of what is refused", out.read_bytes(), b"as it was")
+    line = "mulkavesh: standard input: the input WebAssembly is invalid\n"
+    same("check of what is refused", run("check", "-o", out, data=BROKEN), (1, b"", line))
     data = functions(1, [("a", 0), ("b", 0)])
     same("snip of a second name", run("snip", "b", data=data)[2], "mulkavesh: standard input: this function is imported, or exported before under another name\n")
     is_clean("what was refused", work)

@@ -2,6 +2,7 @@
 use Rattle.std.proofs.Common.{◌≡◌, ◌≤◌, Bool, true, false, not, ◌&&◌, ◌||◌, List, [], ◌∷◌, ◌++◌, map, length, refl, sym, ap, ap₂, ◌∙◌, subst, inr, ⊎_elim, codes, string_bytes, arith}
 use Rattle.std.specs.Prelude.{All, Option, Some, None, String, flat_map, bytes_eq, is_some, if◌then◌else◌}
 use Rattle.std.specs.declared.alloc.Global.{Global}
+use Rattle.std.proofs.lemmas.Bool.{and_parts, not-true}
 use Rattle.mulkavesh.specs.declared.order.Flag.{Flag}
 use Rattle.mulkavesh.specs.declared.order.Flag.TheVariants.{NoNames, NoProducers, NoLegacy, Quiet, Json}
 use Rattle.mulkavesh.specs.declared.order.Order.{Order}
@@ -58,14 +59,6 @@ same_work v w same = let e : ◌≡◌ {A = Option Work} (Some v) (Some w) = sym
 
 -- ---- what is made is said
 
-both : (a b : Bool) → (a && b) ≡ true → (a ≡ true) × (b ≡ true)
-both true b h = (refl, h)
-both false b h = absurd (cc)
-
-not_so : (a : Bool) → not a ≡ true → a ≡ false
-not_so true h = absurd (cc)
-not_so false h = refl
-
 about : (n : Order) → IsWell n → (h : Bool) → has_operand n.work ≡ h → (is_some n.operand || not h) ≡ true → is_some n.operand ≡ h
 about n well true has some = by n.operand some
   where
@@ -76,8 +69,8 @@ about n well false has some = ap is_some (well.none has)
 
 pub said : (first : Word) (w : Work) → first ≡ work_word w → (ws : List (String Global)) (n : Order) (p : Place) → put_words (new_order w) Anywhere ws ≡ Some (n, p) → is_whole n p ≡ true → SaysOrder (first ∷ map string_bytes ws) n
 said first w is ws n p put whole =
-    let parts = both (not (is_behind_output p)) (is_some n.operand || not (has_operand n.work)) whole in
-    let r = sound ws Anywhere (new_order w) n p (new_well w) put (not_so (is_behind_output p) parts.0) in
+    let parts = and_parts (not (is_behind_output p)) (is_some n.operand || not (has_operand n.work)) whole in
+    let r = sound ws Anywhere (new_order w) n p (new_well w) put (not-true (is_behind_output p) parts.0) in
     record {
       pieces = r.pieces;
       behind = r.behind;

@@ -1,3 +1,4 @@
+pub mod Cause
 pub mod Command
 pub mod Entries
 pub mod Message

@@ -7,6 +7,7 @@
 #![tactic(auto)]
 
 mod beside;
+mod cause;
 mod chains;
 mod command;
 mod entries;

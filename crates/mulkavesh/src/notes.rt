@@ -2,17 +2,13 @@
 
 use crate::numbers::add_grouped;
 use std::alloc::{AllocError, Global};
+use walrus_tools::Smaller;
 
-/// What was dropped of a module whose bytes and report these are, in a line: `2,073 bytes become 1,991; dropped: 1 of 20 functions`.
-pub(crate) fn note_of(
-    alloc: Global,
-    bytes: &[u8],
-    output: &[u8],
-    report: &[u8],
-) -> Result<Vec<u8>, AllocError> {
+/// What was dropped of a module whose bytes these are, in a line: `2,073 bytes become 1,991; dropped: 1 of 20 functions`.
+pub(crate) fn note_of(alloc: Global, bytes: &[u8], made: &Smaller) -> Result<Vec<u8>, AllocError> {
     let mut note = Vec::new(alloc);
-    add_sizes(alloc, &mut note, bytes.len(), output.len())?;
-    add_dropped(alloc, &mut note, report, debug_bytes(bytes))?;
+    add_sizes(alloc, &mut note, bytes.len(), made.output.len())?;
+    add_dropped(alloc, &mut note, made, debug_bytes(bytes))?;
     Ok(note)
 }
 
@@ -29,18 +25,44 @@ fn add_sizes(
     add_grouped(alloc, to, after as u64)
 }
 
-// Puts behind the text what a report says was dropped, and so many bytes of debug information.
+// Puts behind the text how many items of each kind were dropped, and so many bytes of debug information.
 fn add_dropped(
     alloc: Global,
     to: &mut Vec<u8>,
-    report: &[u8],
+    made: &Smaller,
     debug: u64,
 ) -> Result<(), AllocError> {
     to.extend_from_slice(b"; dropped: ")?;
     let begin = to.len();
-    for line in report.split(|byte| *byte == b'\n') {
-        add_line(alloc, to, line, begin)?;
-    }
+    let (before, after) = (made.before, made.after);
+    add_kind(
+        alloc,
+        to,
+        "functions",
+        before.functions,
+        after.functions,
+        begin,
+    )?;
+    add_kind(alloc, to, "tables", before.tables, after.tables, begin)?;
+    add_kind(
+        alloc,
+        to,
+        "memories",
+        before.memories,
+        after.memories,
+        begin,
+    )?;
+    add_kind(alloc, to, "tags", before.tags, after.tags, begin)?;
+    add_kind(alloc, to, "globals", before.globals, after.globals, begin)?;
+    add_kind(
+        alloc,
+        to,
+        "elements",
+        before.elements,
+        after.elements,
+        begin,
+    )?;
+    add_kind(alloc, to, "data", before.data_, after.data_, begin)?;
     add_debug(alloc, to, debug, begin)?;
     if to.len() == begin {
         to.extend_from_slice(b"nothing")?;
@@ -57,20 +79,24 @@ fn add_comma(to: &mut Vec<u8>, begin: usize) -> Result<(), AllocError> {
 }
 
 // Puts behind the text how many items of a kind were dropped, if any were.
-fn add_line(alloc: Global, to: &mut Vec<u8>, line: &[u8], begin: usize) -> Result<(), AllocError> {
-    let mut words = line.split(|byte| *byte == b' ');
-    let kind = words.next().unwrap_or(b"");
-    let kept = number(words.nth(1).unwrap_or(b""));
-    let dropped = number(words.nth(1).unwrap_or(b""));
+fn add_kind(
+    alloc: Global,
+    to: &mut Vec<u8>,
+    word: &str,
+    before: usize,
+    after: usize,
+    begin: usize,
+) -> Result<(), AllocError> {
+    let dropped = before.saturating_sub(after);
     if dropped == 0 {
         return Ok(());
     }
     add_comma(to, begin)?;
-    add_grouped(alloc, to, dropped)?;
+    add_grouped(alloc, to, dropped as u64)?;
     to.extend_from_slice(b" of ")?;
-    add_grouped(alloc, to, kept.saturating_add(dropped))?;
+    add_grouped(alloc, to, before as u64)?;
     to.push(b' ')?;
-    to.extend_from_slice(kind)
+    to.extend_from_slice(word.as_bytes())
 }
 
 // Puts behind the text how many bytes of debug information were dropped, if there were any.
@@ -81,17 +107,6 @@ fn add_debug(alloc: Global, to: &mut Vec<u8>, count: u64, begin: usize) -> Resul
     add_comma(to, begin)?;
     add_grouped(alloc, to, count)?;
     to.extend_from_slice(b" bytes of debug information")
-}
-
-// The number that these digits say.
-fn number(digits: &[u8]) -> u64 {
-    let mut number = 0u64;
-    for digit in digits {
-        number = number
-            .saturating_mul(10)
-            .saturating_add(digit.saturating_sub(b'0') as u64);
-    }
-    number
 }
 
 // How many bytes the custom sections have whose names begin with `.debug`, their headers among them.

@@ -12,7 +12,9 @@ use crate::notes::note_of;
 use crate::order::{Order, Work};
 use crate::{chains, entries, reports, sections, verdicts};
 use std::alloc::Global;
-use walrus_tools::{Choice, Error, Wanted, find, gc, list, report, snip, strip, stub, why};
+use walrus_tools::{
+    Choice, Error, Wanted, find, gc, gc_counted, list, report, snip, strip, stub, why,
+};
 
 /// What a subcommand makes.
 #[derive(Drop)]
@@ -81,10 +83,10 @@ fn smaller(alloc: Global, order: &Order, bytes: &[u8]) -> Result<Made, Error>
 fn noted(alloc: Global, wanted: Wanted, bytes: &[u8]) -> Result<Made, Error>
     ensures { Writes (RunsOn (config_wanted wanted) bytes.now vec_bytes) result }
 {
-    let output = gc(alloc, bytes, wanted)?;
-    let note = note_of(alloc, bytes, &output, &report(alloc, bytes, wanted)?)?;
+    let made = gc_counted(alloc, bytes, wanted)?;
+    let note = note_of(alloc, bytes, &made)?;
     Ok(Made {
-        output,
+        output: made.output,
         note,
         is_refused: false,
     })

@@ -1,7 +1,8 @@
 -- Writing one piece behind another.
-use Rattle.std.proofs.Common.{ℕ, List, ◌++◌, Option, Result, Ok, Err, OnOk, OnErr, sym, ap, ◌∙◌, append_assoc}
+use Rattle.std.proofs.Common.{ℕ, List, ◌++◌, Option, Result, Ok, Err, OnErr, sym, ap, ◌∙◌, append_assoc}
 use Rattle.std.specs.Io.KnownBytes.{Appends}
 use Rattle.std.proofs.KnownBytes.{Appends-trans}
+pub use Rattle.std.proofs.lemmas.Result.{on_ok_weaker as on_ok_map, on_err_weaker as on_err_map}
 use Rattle.walrus.specs.Device.{WroteFront}
 
 -- a fact under an error
@@ -18,13 +19,3 @@ front_of_first old new first second w =
 pub front_of_second : (old mid new : Option (List ℕ)) (first second : List ℕ) → Appends old mid first → WroteFront mid new second → WroteFront old new (first ++ second)
 front_of_second old mid new first second a w =
     (first ++ w.0, w.1, ap (λ x. first ++ x) w.2 ∙ sym (append_assoc first w.0 w.1), Appends-trans old mid new first w.0 a w.3)
-
--- what follows under the same outcome
-
-pub on_ok_map : {A E P Q : Type 0} (r : Result A E) → (P → Q) → OnOk r P → OnOk r Q
-on_ok_map (Ok x) f p = f p
-on_ok_map (Err e) f p = tt
-
-pub on_err_map : {A E P Q : Type 0} (r : Result A E) → (P → Q) → OnErr r P → OnErr r Q
-on_err_map (Ok x) f p = tt
-on_err_map (Err e) f p = f p

@@ -3,6 +3,7 @@ use Rattle.std.proofs.Common.{◌≡◌, ℕ, zero, suc, ◌+◌, ◌<◌, ◌==
 use Rattle.std.specs.Prelude.{◌↔◌, IsSome, MatchOption, slice_index_or}
 use Rattle.std.specs.Option.{is_some}
 use Rattle.std.proofs.lemmas.Bool.{false≢true, or_left}
+use Rattle.std.proofs.Math.Bool.{or-false}
 use Rattle.walrus_base.specs.Arena.{item_at}
 use Rattle.walrus_base.specs.Id.{place}
 use Rattle.walrus_base.specs.declared.id.Id.{Id}
@@ -112,9 +113,5 @@ module _ {K : Type 0} (marks : Marks K) where
         ap (λ (a : Bool). a || has rest p) (adds.others p (λ same. false≢true (sym e ∙ eq-eqb q p (sym same))))
         ∙ ap (λ (t : Bool). has_id old p || (t || has rest p)) (sym e)
 
-  or_none : (a : Bool) → a ≡ (a || false)
-  or_none true = refl
-  or_none false = refl
-
   pub made_ends : (ids : IdHashSet K) (left : List ℕ) → left ≡ [] → Made ids left → (p : ℕ) → has_id ids p ≡ is_marked marks p
-  made_ends ids left is made p = or_none (has_id ids p) ∙ ap (λ (ps : List ℕ). has_id ids p || has ps p) (sym is) ∙ made p
+  made_ends ids left is made p = sym (or-false (has_id ids p)) ∙ ap (λ (ps : List ℕ). has_id ids p || has ps p) (sym is) ∙ made p

@@ -1,8 +1,8 @@
 -- The report: numbers that are counted place by place, and what the module in memory says of the one that was read.
-use Rattle.std.proofs.Common.{◌≡◌, ℕ, zero, suc, ◌+◌, ◌<◌, Bool, true, false, not, ◌&&◌, cond, List, [], ◌∷◌, ◌++◌, length, get_or, filter, codes, decimal, append_assoc, inl, inr, Option, refl, sym, ap, ◌∙◌, subst, arith}
+use Rattle.std.proofs.Common.{◌≡◌, ℕ, zero, suc, ◌+◌, ◌<◌, Bool, true, false, not, cond, List, [], ◌∷◌, ◌++◌, length, get_or, filter, codes, decimal, append_assoc, inl, inr, Option, refl, sym, ap, ◌∙◌, subst, arith}
 use Rattle.std.specs.Prelude.{AllPairs, Contains, IsSome, count_by, ◌↔◌}
 use Rattle.std.specs.List.{range_with_len}
-use Rattle.std.proofs.lemmas.Bool.{false≢true, and_from as and_both}
+use Rattle.std.proofs.lemmas.Bool.{false≢true, false_from_ne_true, not_from_false, not_from_true, and_from as and_both, and_parts}
 use Rattle.std.proofs.lemmas.List.Elements.{All-contains, filter_passes}
 use Rattle.std.proofs.lemmas.List.FromFn.{get_or-range_with_len, length-range_with_len}
 use Rattle.std.proofs.lemmas.List.Kept.{AllPairs-filter}
@@ -48,24 +48,6 @@ seven : (t a b c d e f g h u v w x y z : List ℕ) → t ≡ [] → a ≡ t ++ h
 seven t a b c d e f g h u v w x y z none first second third fourth fifth sixth seventh =
     seventh ∙ ap (λ s. s ++ z) (sixth ∙ ap (λ s. s ++ y) (fifth ∙ ap (λ s. s ++ x) (fourth ∙ ap (λ s. s ++ w) (third ∙ ap (λ s. s ++ v) (second
     ∙ ap (λ s. s ++ u) (first ∙ ap (λ s. s ++ h) none))))))
-
--- ---- tests
-
-and_left : (a b : Bool) → (a && b) ≡ true → a ≡ true
-and_left true b h = refl
-and_left false b h = h
-
-and_right : (a b : Bool) → (a && b) ≡ true → b ≡ true
-and_right true b h = h
-and_right false b h = absurd (false≢true h)
-
-not_both : (b : Bool) → not b ≡ true → b ≡ true → ⊥
-not_both true h k = false≢true h
-not_both false h k = false≢true k
-
-not_is : (b : Bool) → (b ≡ true → ⊥) → not b ≡ true
-not_is true h = absurd (h refl)
-not_is false h = refl
 
 -- ---- the numbers from one on that pass a test
 
@@ -116,17 +98,17 @@ module _ (p : ℕ → Bool) where
 module _ {T : Type 0} (keeps : ℕ → Bool) (asked : Bool) (slots : List (Option T)) where
   -- as many are counted as numbers pass
   counted : (P : ℕ → Type 0) → ((i : ℕ) → is_counted keeps asked slots i ≡ true → P i) → ((i : ℕ) → P i → is_counted keeps asked slots i ≡ true) → Counts P (count_where keeps asked slots)
-  counted P there back = counted_below (is_counted keeps asked slots) (length slots) P there (λ i h. (back i h, below slots i (and_left _ _ (back i h))))
+  counted P there back = counted_below (is_counted keeps asked slots) (length slots) P there (λ i h. (back i h, below slots i (and_parts _ _ (back i h)).0))
 
 module _ {T : Type 0} (keeps : ℕ → Bool) (slots : List (Option T)) (K L : ℕ → Type 0) (kept : (i : ℕ) → (keeps i ≡ true) ↔ K i)
     (live : (i : ℕ) → IsSome (item_at slots i) → L i) (was : (i : ℕ) → L i → IsSome (item_at slots i)) (kept_live : (i : ℕ) → K i → L i) where
   kept_count : Counts K (count_where keeps true slots)
-  kept_count = counted keeps true slots K (λ i h. (kept i).0 (and_right _ _ h)) (λ i k. and_both _ _ (was i (kept_live i k)) ((kept i).1 k))
+  kept_count = counted keeps true slots K (λ i h. (kept i).0 (and_parts _ _ h).1) (λ i k. and_both _ _ (was i (kept_live i k)) ((kept i).1 k))
 
   dropped_count : Counts (λ i. L i × (K i → ⊥)) (count_where keeps false slots)
   dropped_count = counted keeps false slots (λ i. L i × (K i → ⊥))
-      (λ i h. (live i (and_left _ _ h), λ k. not_both (keeps i) (and_right _ _ h) ((kept i).1 k)))
-      (λ i h. and_both _ _ (was i h.0) (not_is (keeps i) (λ is. h.1 ((kept i).0 is))))
+      (λ i h. let both = and_parts _ _ h in (live i both.0, λ k. false≢true (sym (not_from_true (keeps i) ((kept i).1 k)) ∙ both.1)))
+      (λ i h. and_both _ _ (was i h.0) (not_from_false (keeps i) (false_from_ne_true (keeps i) (λ is. h.1 ((kept i).0 is)))))
 
 -- ---- the lines, of the module in memory
 

@@ -167,7 +167,7 @@ exported_replaced post old fid id new h = by_export post old fid id new (first (
 
 -- ---- the function of an import
 
-of_kind : (k : ImportKind) (fid : Id FunctionKey) → imported_function k ≡ Some fid → imported k ≡ function_item (place fid)
+pub of_kind : (k : ImportKind) (fid : Id FunctionKey) → imported_function k ≡ Some fid → imported k ≡ function_item (place fid)
 of_kind (kinds.Function f) fid e = ap (λ (i : Id FunctionKey). function_item (place i)) (some_inj f fid e)
 of_kind (kinds.Table t) fid e = absurd cc
 of_kind (kinds.Memory t) fid e = absurd cc

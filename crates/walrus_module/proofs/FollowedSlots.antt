@@ -1,7 +1,7 @@
 -- Sections that follow the code one after another.
 use Rattle.std.proofs.Common.{◌≡◌, ℕ, Bool, true, false, ◌+◌, ◌<◌, ◌≤◌, List, length, refl, sym, ap, subst, ◌∙◌, arith, inl, inr, ⊎_elim}
 use Rattle.std.specs.Prelude.{Contains, Option, Some, None, map, ◌⊎◌}
-use Rattle.walrus_base.specs.Arena.{entries, item_at, items}
+use Rattle.walrus_base.specs.Arena.{item_at, items}
 use Rattle.walrus_code.specs.Transform.{Transform}
 use Rattle.walrus_items.specs.declared.custom.CustomSection.{Ghosts}
 use Rattle.walrus_base.proofs.Lists.{Contains-map}
@@ -9,16 +9,13 @@ use Rattle.walrus_items.specs.declared.error.Error.{Error}
 use Rattle.walrus_items.specs.declared.error.Error.TheVariants as errors
 use Rattle.walrus_module.specs.Asked.{IsRefusedBy, OneAskedMayRefuse, is_in_turn}
 use Rattle.walrus_module.specs.Following.{EachComes, FollowedWrite, Follows, FollowsBy, MayFollow, MayRefuseAt, OneComes, SameKind, SlotComes, Stays}
-use Rattle.walrus_model.proofs.Slots.{entry_in}
+use Rattle.walrus_plan.proofs.Counted.{item_in}
 use Rattle.walrus_module.proofs.Asking.{no_debug}
 use Rattle.walrus_module.specs.Meaning.{Meaning, meaning}
 use Rattle.walrus_module.specs.declared.entry.SectionEntry.{SectionEntry}
 use Rattle.walrus_module.specs.declared.entry.SectionEntry.TheVariants.{Raw, Boxed}
 use Rattle.std.proofs.lemmas.Bool.{cases_lt, cases_order}
 use Rattle.walrus_reading.proofs.NamesTold.{past_end}
-
-item_in : {X : Type 0} (slots : List (Option X)) (i : ℕ) (x : X) → item_at slots i ≡ Some x → Contains (items slots) x
-item_in {X} slots i x e = Contains-map (λ (entry : ℕ × X). entry.1) (i, x) (entries slots) (entry_in slots i x e)
 
 pub same_kind : {V : Type 0} {O : V → Type 0} (s : SectionEntry V O) → SameKind s s
 same_kind (Raw s) = refl

@@ -5,6 +5,7 @@ use Rattle.std.specs.List.{list_all}
 use Rattle.std.proofs.lemmas.Bool.{false≢true}
 use Rattle.std.proofs.lemmas.List.Elements.{Contains-append_cases, Contains-append_left, Contains-append_right}
 use Rattle.std.proofs.lemmas.List.Folds.{list_all-map}
+use Rattle.std.proofs.Math.Bool.{and-true}
 use Rattle.walrus_base.specs.Arena.{entries, item_at, items}
 use Rattle.walrus_base.specs.Types.{CompType, Func, Struct, Array, FieldType, HeapType, OfHeap, Concrete, Exact, IsNotExact, StorageType, Unpacked, I8, I16, ValType, I32, I64, F32, F64, V128, Ref, comp_heaps, field_heaps, storage_heaps, val_heaps}
 use Rattle.walrus_base.specs.ConstOps.{const_op, const_ops}
@@ -161,12 +162,8 @@ judged false os some plain = inr plain
 some_op : (o : ConstOp) (os : List ConstOp) → map const_op (o ∷ os) ≢ []
 some_op o os e = cc
 
-and_true : (b : Bool) → (b && true) ≡ b
-and_true true = refl
-and_true false = refl
-
 alone : (o : ConstOp) → Judged (op_is_spelled o) (const_op o ∷ [])
-alone o = subst (λ (b : Bool). Judged b (const_op o ∷ [])) (and_true (op_is_spelled o)) (judged (op_is_spelled o && true) (const_op o ∷ []) (some_op o []) (ops_plain (o ∷ [])))
+alone o = subst (λ (b : Bool). Judged b (const_op o ∷ [])) (and-true (op_is_spelled o)) (judged (op_is_spelled o && true) (const_op o ∷ []) (some_op o []) (ops_plain (o ∷ [])))
 
 listed : (os : List ConstOp) → Judged (not (is_nothing os) && list_all op_is_spelled os) (map const_op os)
 listed [] = inl refl

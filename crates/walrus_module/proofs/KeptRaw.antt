@@ -41,7 +41,7 @@ not_both : (b : Bool) → b ≡ false → b ≡ true → ⊥
 not_both b p q = let no_such : false ≡ true = sym p ∙ q in cc
 
 module _ {V : Type 0} {O : V → Type 0} (G : (v : V) → Ghosts (O v)) where
-  mean_from : (place : ℕ) (raws : List RawCustomSection) → map (meaning G) (map (λ (e : ℕ × SectionEntry V O). e.1) (entries_from place (raw_sections raws))) ≡ map raw_meaning raws
+  pub mean_from : (place : ℕ) (raws : List RawCustomSection) → map (meaning G) (map (λ (e : ℕ × SectionEntry V O). e.1) (entries_from place (raw_sections raws))) ≡ map raw_meaning raws
   mean_from place [] = refl
   mean_from place (r ∷ raws) = ap (λ (l : List Meaning). raw_meaning r ∷ l) (mean_from (place + 1) raws)
 

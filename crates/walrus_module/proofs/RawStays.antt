@@ -16,7 +16,7 @@ use Rattle.walrus_module.specs.declared.customs.ModuleCustomSections.{ModuleCust
 use Rattle.walrus_module.specs.declared.entry.SectionEntry.{SectionEntry}
 use Rattle.walrus_module.specs.declared.module.Module.{Module}
 
-each_raw : (V : Type 0) (O : V → Type 0) (raws : List RawCustomSection) (i : ℕ) → IsRaw {V = V} {O = O} (item_at (raw_sections raws) i)
+pub each_raw : (V : Type 0) (O : V → Type 0) (raws : List RawCustomSection) (i : ℕ) → IsRaw {V = V} {O = O} (item_at (raw_sections raws) i)
 each_raw V O [] i = tt
 each_raw V O (r ∷ raws) zero = tt
 each_raw V O (r ∷ raws) (suc i) = each_raw V O raws i

@@ -1,7 +1,8 @@
 -- Which custom sections are asked for their data when a module is written, and which refusals come of that ("Binary Format > Custom Section").
-use Rattle.std.specs.Prelude.{ℕ, Bool, true, false, not, ◌||◌, List, ◌++◌, map, None, Contains, bytes_eq, codes, filter, ◌≡◌, ⊤}
+use Rattle.std.specs.Prelude.{ℕ, Bool, true, false, not, ◌||◌, List, ◌++◌, map, None, Contains, filter, ◌≡◌, ⊤}
 use Rattle.std.specs.Str.{IsUtf8}
 use Rattle.wasm_frames.specs.Record as wire
+pub use Rattle.wasm_wire.specs.ModuleSpelling.{is_dylink as is_dylink_name}
 use Rattle.walrus_code.specs.Names.{Lookup}
 use Rattle.walrus_model.specs.Customs.{is_debug_name}
 use Rattle.walrus_items.specs.declared.error.Error.{Error}
@@ -29,9 +30,6 @@ abbrev pub section_under : Lookup → Meaning → wire.Custom
 section_under names s = record { name = s.name; bytes = s.contents names }
 
 -- ---- the turns in which they are asked: dynamic linking first, then all others but debug information
-
-abbrev pub is_dylink_name : List ℕ → Bool
-is_dylink_name name = bytes_eq name (codes "dylink") || bytes_eq name (codes "dylink.0")
 
 abbrev pub is_in_turn : (first : Bool) → List ℕ → Bool
 is_in_turn true name = is_dylink_name name

@@ -3,14 +3,10 @@ use Rattle.std.specs.Prelude.{ℕ, Option, Some, None, ◌≡◌}
 use Rattle.std.specs.Fn.{FnReturnsAt}
 use Rattle.std.specs.declared.alloc.Global.{Global}
 use Rattle.std.specs.declared.dyn_box.DynBox.{DynBox}
-use Rattle.walrus_code.specs.Location.{location, location_at}
 use Rattle.walrus_code.specs.declared.location.InstrLocId.{InstrLocId}
+pub use Rattle.walrus_reading.specs.Taken.{IsPlace}
 use Rattle.walrus_module.specs.declared.config.ModuleConfig.{ModuleConfig}
 use Rattle.walrus_module.specs.declared.hook.LocationHook.{LocationHook}
-
--- the location is the place
-abbrev pub IsPlace : ℕ → InstrLocId → Type 0
-IsPlace place loc = location loc ≡ location_at place
 
 module _ {V : Type 0} {O : V → Type 0} {calls : _} where
   -- the function may answer this for the place

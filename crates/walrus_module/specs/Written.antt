@@ -1,5 +1,5 @@
 -- What parts of a module and its custom sections are written as, and what custom sections are told of the code ("Binary Format > Modules").
-use Rattle.std.specs.Prelude.{ℕ, Bool, true, List, All, IfErr, IfOk, Result, Err, ◌≡◌, ◌⊎◌}
+use Rattle.std.specs.Prelude.{ℕ, Bool, true, All, IfErr, IfOk, Result, Err, ◌≡◌, ◌⊎◌}
 use Rattle.std.specs.Global.{Vec}
 use Rattle.std.specs.Str.{IsUtf8}
 use Rattle.walrus_code.specs.Names.{Lookup}

@@ -169,7 +169,7 @@ segment_seen (Some x) h = (x, (refl, passive_seen x.kind h))
 
 -- ---- the module
 
-item_in : {X : Type 0} (slots : List (Option X)) (i : ℕ) (x : X) → item_at slots i ≡ Some x → Contains (items slots) x
+pub item_in : {X : Type 0} (slots : List (Option X)) (i : ℕ) (x : X) → item_at slots i ≡ Some x → Contains (items slots) x
 item_in {X} slots i x e = Contains-map (λ (entry : ℕ × X). entry.1) (i, x) (entries slots) (entry_in slots i x e)
 
 module _ (p : Parts) where

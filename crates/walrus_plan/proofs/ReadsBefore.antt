@@ -31,17 +31,12 @@ use Rattle.walrus_plan.specs.Local.{is_own}
 use Rattle.walrus_items.specs.declared.error.Error.{Error}
 use Rattle.walrus_plan.specs.Reads.{AreReadEarlier, AreReadImported, ReadsInOrder, may_name, may_name_all, may_read}
 use Rattle.walrus_code.proofs.Somes.{none_some}
-use Rattle.std.proofs.lemmas.Bool.{and_parts as both_pass, or_parts as neither}
+pub use Rattle.walrus_groups.proofs.OrderWhole.{each_passes}
+use Rattle.std.proofs.lemmas.Bool.{or_parts as neither}
 use Rattle.walrus_base.proofs.Noted.{or_cases as either}
 use Rattle.walrus_contents.proofs.ConstNames.{value_named as value_names_nothing}
 
 -- ---- lists
-
-pub each_passes : {X : Type 0} (p : X → Bool) (xs : List X) (x : X) → list_all p xs ≡ true → Contains xs x → p x ≡ true
-each_passes p [] x all at = absurd (Contains-none x at)
-each_passes p (y ∷ ys) x all at =
-    let both = both_pass (p y) (list_all p ys) all in
-    ⊎_elim (λ (e : y ≡ x). subst (λ z. p z ≡ true) e both.0) (λ rest. each_passes p ys x both.1 rest) (Contains-uncons y x ys at)
 
 pub one_fails : {X : Type 0} (p : X → Bool) (xs : List X) → list_all p xs ≡ false → (x : X) × (Contains xs x × (p x ≡ false))
 one_fails p [] none = absurd (none_there (sym none))

@@ -21,8 +21,8 @@ use Rattle.walrus_tools.proofs.CountRead.{call_formed}
 use Rattle.walrus_tools.proofs.CountStep.{after, after_whole, types_kept}
 use Rattle.walrus_tools.proofs.EditEnds.{parsed_whole}
 use Rattle.walrus_tools.specs.Count.{SlotCalls}
-use Rattle.walrus_tools.specs.Counted.{Counts, CountsAll, CountsHeld, ImportsTo, RefusesCount}
-use Rattle.walrus_tools.specs.Edited.{IsWhole}
+use Rattle.walrus_tools.specs.Counted.{Counts, CountsAll, CountsHeld, ImportsTo}
+use Rattle.walrus_tools.specs.Edited.{ForMemory, IsWhole}
 
 -- both steps together
 pub both_steps : {S : Type 0} (from name : List ℕ) (old middle new : Module S) (called : Id FunctionKey) → ImportsTo from name old middle called → new ≡ record middle { funcs = new.funcs } → (result : Result (Unit {0}) Error)
@@ -46,7 +46,7 @@ same_settings from name old new counts = ap settings counts.others ∙ ap settin
 -- what was parsed is whole once calls are counted
 pub count_whole : {V : Type 0} {O : V → Type 0} (G : (v : V) → Ghosts (O v)) (c : Config) (bytes from name : List ℕ) (read edited : Module (SectionEntry V O)) → IsParsed c bytes (view G read) → Counts from name read edited → IsWhole c edited
 count_whole {V} {O} G c bytes from name read edited parsed counts =
-    let whole : IsWhole c read = parsed_whole G (CountsHeld from name) RefusesCount c bytes read parsed in
+    let whole : IsWhole c read = parsed_whole G (CountsHeld from name) ForMemory c bytes read parsed in
     let before : IsWholeModule c (held_view read) = record { made = whole.made; reached = whole.reached } in
     let now : IsWholeModule c (contents_view (after c from name read edited counts before)) =
     after_whole c from name read edited counts before

@@ -1,12 +1,12 @@
 -- What was parsed, edited, collected, then written or refused: what the whole way comes to.
 use Rattle.std.proofs.Common.{◌≡◌, ℕ, List, [], false, refl, sym, ap, ◌∙◌, subst}
-use Rattle.std.specs.Prelude.{Contains, map, Result, Ok, Err, ⊤}
+use Rattle.std.specs.Prelude.{Contains, map, Result, Err, ⊤}
 use Rattle.std.specs.Global.{Vec}
 use Rattle.walrus_base.specs.Arena.{items}
 use Rattle.walrus_base.specs.Operators.{Item}
 use Rattle.walrus_model.specs.Abstract.{Abstract, Custom}
 use Rattle.walrus_model.specs.Config.{Config}
-use Rattle.walrus_model.specs.Pipeline.{Collected, ReachedIsLive}
+use Rattle.walrus_model.specs.Pipeline.{ReachedIsLive}
 use Rattle.walrus_base.proofs.Lists.{Contains-none}
 use Rattle.walrus_theorem.specs.EditLaws.{StaysWhole}
 use Rattle.walrus_theorem.specs.WellMade.{IsWellMade}
@@ -33,9 +33,10 @@ use Rattle.walrus_module.specs.declared.customs.ModuleCustomSections.{ModuleCust
 use Rattle.walrus_module.specs.declared.entry.SectionEntry.{SectionEntry}
 use Rattle.walrus_module.specs.declared.module.Module.{Module}
 use Rattle.walrus_module.proofs.KeptRaw.{none_refuses}
-use Rattle.walrus_tools.specs.Edited.{AnswersEdited, EditsTo, IsWhole, with_customs}
+use Rattle.walrus_tools.specs.Edited.{AnswersEdited, EditsTo, IsWhole, RefusesEdit, with_customs}
+use Rattle.walrus_tools.specs.Ends.{Finishes, LeftOf}
 use Rattle.walrus_tools.specs.Finding.{FinishesReady, IsReady}
-use Rattle.walrus_tools.specs.Listing.{Finishes, LeftOf}
+use Rattle.walrus_tools.proofs.Finishing.{answered}
 
 -- where memory ran out nothing is asked
 pub memory_refused : (Edits : Contents → Contents → Type 0) (Refuses : Contents → Error → Type 0) (c : Config) (bytes : List ℕ) (e : Error) → e ≡ out_of_memory → AnswersEdited Edits Refuses c bytes (Err e)
@@ -97,9 +98,7 @@ module _ {V : Type 0} {O : V → Type 0} (G : (v : V) → Ghosts (O v)) (Edits :
         module_edited = contents_of edited;
         edits = edits;
         made = subst (λ (v : Abstract). IsWellMade c v) plain_edited edited_well;
-        module_collected = left.module_collected;
-        collected = subst (λ (v : Abstract). Collected v left.module_collected) plain_edited left.collected;
-        left = left.left;
+        left = subst (λ (v : Abstract). LeftOf v u) plain_edited left;
       }
 
       module _ (raws : List RawCustomSection) (are : sections read.customs ≡ raw_sections raws) where
@@ -116,11 +115,7 @@ module _ {V : Type 0} {O : V → Type 0} (G : (v : V) → Ghosts (O v)) (Edits :
             still = ap (λ (g : Flags). g.preserve_code_transform) same ∙ plain;
           }
 
-          comes_to : (result : Result (Vec ℕ) Error) → Finishes c (view G edited) result → AnswersEdited Edits Refuses c bytes result
-          comes_to (Ok x) h = record { module_left = h.module_left; edits = edited_to h.module_left h.leaves; written = h.written }
-          comes_to (Err (error.Memory e)) h = tt
-          comes_to (Err error.TooLarge) h = record { module_left = h.module_left; edits = edited_to h.module_left h.leaves; too_large = h.too_large }
-          comes_to (Err _) h = absurd h
-
           pub edit_finishes : (result : Result (Vec ℕ) Error) → FinishesReady G edited result → AnswersEdited Edits Refuses c bytes result
-          edit_finishes result finishes = comes_to result (subst (λ (d : Config). Finishes d (view G edited) result) (ap config_of same ∙ is) (finishes ready))
+          edit_finishes result finishes =
+              answered (LeftOf (view G edited)) (EditsTo Edits c bytes) c bytes (RefusesEdit Refuses c bytes) edited_to result
+              (subst (λ (d : Config). Finishes (LeftOf (view G edited)) d result) (ap config_of same ∙ is) (finishes ready))

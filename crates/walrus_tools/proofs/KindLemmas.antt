@@ -34,8 +34,8 @@ use Rattle.walrus.proofs.Marking.{below}
 use Rattle.walrus.proofs.ReportLemmas.{counted_below}
 use Rattle.walrus.proofs.ReportedLemmas.{kept_read, live_read}
 use Rattle.walrus_tools.specs.Kinds.{CountsKinds, IsCountedOf, kinds_in, there}
-use Rattle.walrus_tools.specs.declared.tool.gc.Kinds.{Kinds}
-use Rattle.walrus_tools.specs.declared.tool.gc.Smaller.{Smaller}
+use Rattle.walrus_tools.specs.declared.tool.gc_counted.Kinds.{Kinds}
+use Rattle.walrus_tools.specs.declared.tool.gc_counted.Smaller.{Smaller}
 
 -- ---- slots
 

@@ -43,10 +43,11 @@ use Rattle.walrus_module.proofs.KeptRaw.{none_refuses, raw_means}
 use Rattle.walrus_module.proofs.FirstRaw.{FoundRaw, IsFirstRaw, found, gone_at, mean_left}
 use Rattle.walrus_tools.proofs.ListedReached.{listed_made, reached_there}
 use Rattle.walrus_tools.proofs.ListedWritten.{lists_again}
+use Rattle.walrus_tools.specs.Ends.{Finishes, LeavesWritten, LeftOf}
 use Rattle.walrus_tools.specs.Finding.{FindsListed, IsReady, IsThere}
 use Rattle.walrus.specs.Listed.{found_bytes}
 use Rattle.walrus_tools.specs.Listed.{AsksToKeep, HasFirst, HasNone, KeepsListed, Lists, ListsFunctions, listing}
-use Rattle.walrus_tools.specs.Listing.{AnswersKeepListed, Finishes, IsFinished, MayListAgain}
+use Rattle.walrus_tools.specs.Listing.{AnswersKeepListed, MayListAgain}
 use Rattle.walrus_tools.specs.Metadata.{section_of}
 
 -- ---- what sections mean
@@ -108,12 +109,11 @@ module _ {V : Type 0} {O : V → Type 0} (G : (v : V) → Ghosts (O v)) (c : Con
   -- ---- what the way comes to, of any module that comes of this one
 
   by_result : (edited : Module (SectionEntry V O)) (listed : Option (List ℕ)) → KeepsListed name (view G read) (view G edited) listed
-      → ((output : List ℕ) (h : IsFinished c (view G edited) output) → MayListAgain c name (view G edited) output h listed)
-      → (result : Result (Vec ℕ) Error) → Finishes c (view G edited) result → AnswersKeepListed c bytes name result
+      → ((output : List ℕ) (h : LeavesWritten (LeftOf (view G edited)) c output) → MayListAgain c name (view G edited) output h listed)
+      → (result : Result (Vec ℕ) Error) → Finishes (LeftOf (view G edited)) c result → AnswersKeepListed c bytes name result
   by_result edited listed asks again (Ok output) h = record { module_parsed = view G read; parsed = parsed; listed = listed; module_asking = view G edited; asks = asks; finished = h; again = again output.items h }
   by_result edited listed asks again (Err (error.Memory e)) h = tt
   by_result edited listed asks again (Err error.TooLarge) h = record { module_parsed = view G read; parsed = parsed; listed = listed; module_asking = view G edited; asks = asks; too_large = h }
-  by_result edited listed asks again (Err (error.Caller text)) h = absurd h
   by_result edited listed asks again (Err _) h = absurd h
 
   module _ (is : config_of (settings read) ≡ c) (still : (settings read).preserve_code_transform ≡ false) (removed : ModuleCustomSections (SectionEntry V O)) (gone : sections removed ≡ without_first (first_raw name (sections read.customs)) (sections read.customs)) where
@@ -146,10 +146,10 @@ module _ {V : Type 0} {O : V → Type 0} (G : (v : V) → Ghosts (O v)) (c : Con
         still = still;
       }
 
-      pub passed_answers : (result : Result (Vec ℕ) Error) → Finishes (config_of (settings passed)) (view G passed) result → AnswersKeepListed c bytes name result
+      pub passed_answers : (result : Result (Vec ℕ) Error) → Finishes (LeftOf (view G passed)) (config_of (settings passed)) result → AnswersKeepListed c bytes name result
       passed_answers result h =
           by_result passed None (subst (λ (cs : List Custom). HasNone name cs) (sym read_customs) (names_apart name raws lacks.1), same_view) (λ output finished. tt) result
-          (subst (λ (d : Config). Finishes d (view G passed) result) is h)
+          (subst (λ (d : Config). Finishes (LeftOf (view G passed)) d result) is h)
 
     -- ---- there is one
 
@@ -201,11 +201,8 @@ module _ {V : Type 0} {O : V → Type 0} (G : (v : V) → Ghosts (O v)) (c : Con
 
       pub list_refused : (e : Error) → FindsListed theirs s.data_.items (Err e) → AnswersKeepListed c bytes name (Err e)
       list_refused (error.Memory memory) h = tt
-      list_refused error.NotFound h = record {
-        module_parsed = view G read;
-        parsed = parsed;
-        lists_none = record { before = customs_of g.before; bytes = s.data_.items; after = customs_of g.after; first = first; none = λ fs lists. h fs (lists_back fs lists) };
-      }
+      list_refused error.NotFound h =
+          (view G read, parsed, record { before = customs_of g.before; bytes = s.data_.items; after = customs_of g.after; first = first; none = λ fs lists. h fs (lists_back fs lists) })
       list_refused _ h = absurd h
 
       -- ---- the section that keeps them
@@ -285,10 +282,10 @@ module _ {V : Type 0} {O : V → Type 0} (G : (v : V) → Ghosts (O v)) (c : Con
           still = still;
         }
 
-        pub edited_answers : (result : Result (Vec ℕ) Error) → Finishes (config_of (settings edited)) (view G edited) result → AnswersKeepListed c bytes name result
+        pub edited_answers : (result : Result (Vec ℕ) Error) → Finishes (LeftOf (view G edited)) (config_of (settings edited)) result → AnswersKeepListed c bytes name result
         edited_answers result h =
             by_result edited (Some fs) asks
             (λ output finished. lists_again c name (view G edited) edited_live fs (ap (λ (v : Abstract). v.section_roots) becomes)
             (subst (λ (v : Abstract). Contains v.customs (listing name fs)) (sym becomes) (Contains-append_2 (listing name fs) others (listing name fs ∷ []) (Contains-head (listing name fs) [])))
             output finished) result
-            (subst (λ (d : Config). Finishes d (view G edited) result) is h)
+            (subst (λ (d : Config). Finishes (LeftOf (view G edited)) d result) is h)

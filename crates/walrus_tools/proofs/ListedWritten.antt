@@ -14,8 +14,9 @@ use Rattle.walrus_base.proofs.Lists.{Contains-head, Contains-map, Contains-tail}
 use Rattle.walrus_theorem.proofs.StepLeaves.{between}
 use Rattle.walrus_tools.proofs.Sections.{stands_among}
 use Rattle.walrus.specs.Listed.{found_bytes, list_bytes}
+use Rattle.walrus_tools.specs.Ends.{LeavesWritten, LeftOf}
 use Rattle.walrus_tools.specs.Listed.{HasListing, listing}
-use Rattle.walrus_tools.specs.Listing.{IsFinished, ListsAgain}
+use Rattle.walrus_tools.specs.Listing.{ListsAgain}
 use Rattle.walrus_tools.specs.Metadata.{section_of}
 
 -- ---- under indices
@@ -33,24 +34,24 @@ module _ (indices : Indices) (new : ℕ → ℕ) where
 -- ---- in the output
 
 module _ (c : Config) (name : List ℕ) (w : Abstract) (reached : ReachedIsLive w) (functions : List ℕ) (asks : w.section_roots ≡ map function_item functions) (stands : Contains w.customs (listing name functions))
-    (output : List ℕ) (h : IsFinished c w output) where
+    (output : List ℕ) (h : LeavesWritten (LeftOf w) c output) where
   kept : (f : ℕ) → Contains functions f → Kept w (Functions, f)
   kept f at = inl (root (Functions, f) (asked_for (subst (λ (rs : List Item). Contains rs (Functions, f)) (sym asks) (Contains-map function_item f functions at))))
 
-  same_left : h.module_left ≡ record h.leaves.module_collected { elements = h.module_left.elements }
-  same_left = (between h.leaves.module_collected h.module_left h.leaves.left).same
+  same_left : h.module_left ≡ record h.left.module_collected { elements = h.module_left.elements }
+  same_left = (between h.left.module_collected h.module_left h.left.left).same
 
   left_live : (f : ℕ) → Contains functions f → IsLive h.module_left (Functions, f)
   left_live f at =
       let live : IsSome (w.functions f) = reached (Functions, f) (root (Functions, f) (asked_for (subst (λ (rs : List Item). Contains rs (Functions, f)) (sym asks) (Contains-map function_item f functions at)))) in
-      let collected : IsSome (h.leaves.module_collected.functions f) = subst IsSome (sym (h.leaves.collected.functions.kept f (kept f at))) live in
+      let collected : IsSome (h.left.module_collected.functions f) = subst IsSome (sym (h.left.collected.functions.kept f (kept f at))) live in
       subst (λ (x : Abstract). IsSome (x.functions f)) (sym same_left) collected
 
   abbrev number : ℕ → ℕ
   number = h.written.written.written.renaming.numbers Functions
 
   same_customs : h.module_left.customs ≡ w.customs
-  same_customs = ap (λ (x : Abstract). x.customs) same_left ∙ h.leaves.collected.customs
+  same_customs = ap (λ (x : Abstract). x.customs) same_left ∙ h.left.collected.customs
 
   listed : HasListing name h.written.module_written.customs (map number functions)
   listed no_debug no_dylink =

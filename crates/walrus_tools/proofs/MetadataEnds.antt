@@ -38,9 +38,11 @@ use Rattle.walrus_module.specs.declared.entry.SectionEntry.TheVariants.{Raw}
 use Rattle.walrus_module.specs.declared.module.Module.{Module}
 use Rattle.walrus_module.proofs.EditedCustoms.{custom_added}
 use Rattle.walrus_module.proofs.KeptRaw.{none_asked_refuses}
-use Rattle.walrus_module.proofs.RawStays.{all_raw, leaves_whole, plain_well}
+use Rattle.walrus_module.proofs.RawStays.{all_raw}
 use Rattle.walrus_model.proofs.Looked.{differs}
+use Rattle.walrus_tools.proofs.Finishing.{emitted}
 use Rattle.walrus_tools.proofs.Sections.{is_written}
+use Rattle.walrus_tools.specs.Ends.{Finishes, LeavesWritten}
 use Rattle.walrus_tools.specs.Metadata.{CarriesMetadata, GainsSection, section_of, with_section}
 use Rattle.std.proofs.lemmas.Bool.{or_parts as or_left}
 
@@ -55,6 +57,19 @@ module _ (name : List ℕ) (free : is_apart name ≡ false) where
 
   pub own_name : (name ≢ codes "name") × (name ≢ codes "producers")
   own_name = (differs name (codes "name") parts.0, differs name (codes "producers") (or_left (bytes_eq name (codes "producers")) (is_debug_name name) parts.1).0)
+
+-- what is left of a module with such a section has it, and so has what is written
+module _ (c : Config) (bytes name payload : List ℕ) (free : is_apart name ≡ false) where
+  has_section : (u : Abstract) → GainsSection c bytes name payload u → Contains u.customs (section_of name payload)
+  has_section u g =
+      let same : u.customs ≡ g.module_parsed.customs ++ section_of name payload ∷ [] = ap (λ (x : Abstract). x.customs) (between (with_section name payload g.module_parsed) u g.left).same in
+      subst (λ (cs : List Custom). Contains cs (section_of name payload)) (sym same)
+      (Contains-append_2 (section_of name payload) g.module_parsed.customs (section_of name payload ∷ []) (Contains-head (section_of name payload) []))
+
+  pub section_stands : (output : List ℕ) (h : LeavesWritten (GainsSection c bytes name payload) c output) → Contains h.written.module_written.customs (section_of name payload)
+  section_stands output h =
+      let w = h.written.written.written in
+      subst (λ (cs : List Custom). Contains cs (section_of name payload)) (sym w.customs) (is_written w.indices h.module_left.customs name payload (has_section h.module_left h.left) (no_debug name free))
 
 -- ---- the module with the section
 
@@ -80,11 +95,8 @@ module _ {V : Type 0} {O : V → Type 0} (G : (v : V) → Ghosts (O v)) (m : Mod
     gained_is : view G gained ≡ with_section name payload (view G m)
     gained_is = same_view ∙ ap₂ (λ (n p : List ℕ). with_section n p (view G m)) named holds
 
-    read_well : IsWellMade c (view G m)
-    read_well = parsed_is_well c bytes parsed.module_read (view G m) parsed.reads parsed.holds parsed.parsed
-
     gained_well : IsWellMade c (view G gained)
-    gained_well = (custom_gained c (view G m) (view G gained) (section_of (string_bytes s.name) s.data_.items) [] gain read_well (subst IsFreeName (sym named) (own_name name free))).made
+    gained_well = (custom_gained c (view G m) (view G gained) (section_of (string_bytes s.name) s.data_.items) [] gain (parsed_is_well c bytes parsed.module_read (view G m) parsed.reads parsed.holds parsed.parsed) (subst IsFreeName (sym named) (own_name name free))).made
 
     never : OneAskedMayRefuse (meanings G gained) → ⊥
     never = none_asked_refuses G gained (raws ++ s ∷ []) are_more
@@ -92,29 +104,15 @@ module _ {V : Type 0} {O : V → Type 0} (G : (v : V) → Ghosts (O v)) (m : Mod
     gains : (u : Abstract) → Leaves (view G gained) u → GainsSection c bytes name payload u
     gains u left = record { module_parsed = view G m; parsed = parsed; left = subst (λ (v : Abstract). Leaves v u) gained_is left }
 
-    has_section : (u : Abstract) → Leaves (view G gained) u → Contains u.customs (section_of name payload)
-    has_section u left =
-        let same : u.customs ≡ (view G m).customs ++ section_of name payload ∷ [] = ap (λ (x : Abstract). x.customs) (between (view G gained) u left).same ∙ ap (λ (x : Abstract). x.customs) gained_is in
-        subst (λ (cs : List Custom). Contains cs (section_of name payload)) (sym same) (Contains-append_2 (section_of name payload) (view G m).customs (section_of name payload ∷ []) (Contains-head (section_of name payload) []))
-
-    stands : (u : Abstract) (output : List ℕ) → Leaves (view G gained) u → (w : IsWellWritten c u output) → Contains w.module_written.customs (section_of name payload)
-    stands u output left w =
-        subst (λ (cs : List Custom). Contains cs (section_of name payload)) (sym w.written.written.customs) (is_written w.written.written.indices u.customs name payload (has_section u left) (no_debug name free))
-
-    by_result : (u : Abstract) (result : Result (Vec ℕ) Error) → LeavesBy (view G gained) u (told result)
-        → WritesUnless (PassesLimits c u) (OneAskedMayRefuse (meanings G gained)) (λ (b : Vec ℕ). IsWellWritten c u b.items) (told result) → CarriesMetadata c bytes name payload result
-    by_result u (Ok x) left h = record { module_left = u; gains = gains u left; written = h; stands = stands u x.items left h; free = free }
-    by_result u (Err (error.Memory e)) left h = tt
-    by_result u (Err error.TooLarge) left h = record { module_left = u; gains = gains u left; too_large = h }
-    by_result u (Err (error.Caller text)) left h = absurd (never h)
-    by_result u (Err _) left h = absurd h
+    carries : (result : Result (Vec ℕ) Error) → Finishes (GainsSection c bytes name payload) c result → CarriesMetadata c bytes name payload result
+    carries (Ok x) h = record { gains = h; stands = section_stands c bytes name payload free x.items h; free = free }
+    carries (Err (error.Memory e)) h = tt
+    carries (Err error.TooLarge) h = h
+    carries (Err _) h = absurd h
 
     -- what emission says of the module is what the way comes to
     pub answered_whole : (left : Module (SectionEntry V O)) → (AreRaw (sections k) → left.customs ≡ k) → (f : Flags) → config_of f ≡ c → (result : Result (Vec ℕ) Error) → LeavesBy (view G gained) (view G (but_customs gained left)) (told result)
         → (IsWellMade (config_of f) (view G gained) → WritesUnless (PassesLimits (config_of f) (view G left)) (OneMayRefuseThen G k left.customs) (λ (b : Vec ℕ). IsWellWritten (config_of f) (view G left) b.items) (told result))
         → CarriesMetadata c bytes name payload result
     answered_whole left raw f is result leaves writes =
-        let same : left.customs ≡ k = raw (all_raw k (raws ++ s ∷ []) are_more) in
-        by_result (view G left) result (leaves_whole G gained left same (told result) leaves)
-        (plain_well G gained left same (PassesLimits c (view G left)) (λ (b : Vec ℕ). IsWellWritten c (view G left) b.items) (told result)
-        (subst (λ (d : Config). IsWellMade d (view G gained) → WritesUnless (PassesLimits d (view G left)) (OneMayRefuseThen G k left.customs) (λ (b : Vec ℕ). IsWellWritten d (view G left) b.items) (told result)) is writes gained_well))
+        carries result (emitted G (GainsSection c bytes name payload) gained left (raw (all_raw k (raws ++ s ∷ []) are_more)) never gains c gained_well f is result leaves writes)

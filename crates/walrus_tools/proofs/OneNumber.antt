@@ -25,16 +25,13 @@ use Rattle.walrus_theorem.proofs.StepRead.{read_is_plain}
 use Rattle.walrus_writing.specs.Transform.{imported_functions}
 use Rattle.walrus_tools.proofs.ReadBodies.{has_bytes, own_before}
 use Rattle.walrus_theorem.proofs.Numbers.{locals as by_size}
+use Rattle.walrus_writing.proofs.Parted.{live_body as is_there}
 
 -- ---- bodies under a renaming
 
 pub function_some : (o : Option Function) (d : Body) → body_of_function o ≡ Some d → (g : Function) × ((o ≡ Some g) × (body_of_kind g.kind ≡ Some d))
 function_some None d e = absurd (cc)
 function_some (Some g) d e = (g, (refl, e))
-
-pub is_there : (o : Option Function) (d : Body) → body_of_function o ≡ Some d → IsSome o
-is_there None d e = absurd (cc)
-is_there (Some g) d e = refl
 
 module _ (r : Renaming) (f : ℕ) where
   pub both_back : (o p : Option Function) (d : Body) → BothAnd (SameFunction r f) o p → body_of_function p ≡ Some d → (a : Body) × ((body_of_function o ≡ Some a) × SameBody r f a d)

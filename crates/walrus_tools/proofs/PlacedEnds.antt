@@ -9,7 +9,7 @@ use Rattle.walrus_base.specs.Operators.{Item}
 use Rattle.walrus_model.specs.Abstract.{Abstract, Custom}
 use Rattle.walrus_model.specs.Config.{Config}
 use Rattle.walrus_model.specs.Sections.{is_apart}
-use Rattle.walrus_base.proofs.Lists.{Contains-append_2, Contains-head, Contains-none, Contains-uncons}
+use Rattle.walrus_base.proofs.Lists.{Contains-none, Contains-uncons}
 use Rattle.walrus_model.proofs.PipelineOps.{from_map}
 use Rattle.walrus_theorem.specs.Chain.{Leaves}
 use Rattle.walrus_theorem.specs.Edits.{GainsCustom}
@@ -19,7 +19,6 @@ use Rattle.walrus_theorem.specs.WellMade.{IsWellMade}
 use Rattle.walrus_theorem.proofs.EditTops.{custom_gained}
 use Rattle.walrus_theorem.proofs.SameItems.{with_own}
 use Rattle.walrus_theorem.proofs.StepHandlers.{Contains-split}
-use Rattle.walrus_theorem.proofs.StepLeaves.{between}
 use Rattle.walrus_theorem.proofs.WellStays.{leaves_well}
 use Rattle.walrus_theorem.proofs.WritableParsed.{parsed_is_well}
 use Rattle.walrus_items.specs.Functions.{ModuleFunctions}
@@ -50,10 +49,10 @@ use Rattle.walrus_module.proofs.OwnSections.{leaves_on}
 use Rattle.walrus.specs.Places.{pairs_state, moved_by, last_place}
 use Rattle.walrus.specs.PlacesLaws.{state_bytes}
 use Rattle.walrus.proofs.StateLemmas.{writes_by_state}
-use Rattle.walrus_tools.proofs.MetadataEnds.{no_debug, own_name}
+use Rattle.walrus_tools.proofs.MetadataEnds.{no_debug, own_name, section_stands}
 use Rattle.walrus_tools.proofs.PlacedSlots.{Behind, SaysPlaces, TypeSaysPlaces, as_custom, behind, it_says, of_its_kind}
-use Rattle.walrus_tools.proofs.Sections.{is_written}
-use Rattle.walrus_tools.specs.Metadata.{section_of, with_section}
+use Rattle.walrus_tools.specs.Ends.{LeavesWritten}
+use Rattle.walrus_tools.specs.Metadata.{GainsSection, with_section}
 use Rattle.walrus_tools.specs.Placed.{CarriesPlaces, IsWithPlaces, carried, given}
 use Rattle.walrus_module.proofs.FollowedSlots.{by_turn as state_of}
 use Rattle.walrus_module.proofs.WrittenSections.{one_name as name_of}
@@ -100,11 +99,8 @@ module _ {V : Type 0} {O : V → Type 0} (G : (v : V) → Ghosts (O v)) (c : Con
         ∙ ap₂ (λ (cs : List Custom) (rs : List Item). with_own (held_view read) cs rs) (gain.customs ∙ ap (λ (s : Custom). (view G read).customs ++ s ∷ []) (as_custom (meaning G entry) name says named))
         (gain.roots_left ∙ ap (λ (rs : List Item). (view G read).section_roots ++ rs) no_roots ∙ append-nil (view G read).section_roots)
 
-    read_well : IsWellMade c (view G read)
-    read_well = parsed_is_well c bytes parsed.module_read (view G read) parsed.reads parsed.holds parsed.parsed
-
     pub well : IsWellMade c (view G (holding k))
-    well = (custom_gained c (view G read) (view G (holding k)) (custom_of (meaning G entry)) (kept_by (meaning G entry ∷ [])) gain read_well (subst IsFreeName (sym named) (own_name name free))).made
+    well = (custom_gained c (view G read) (view G (holding k)) (custom_of (meaning G entry)) (kept_by (meaning G entry ∷ [])) gain (parsed_is_well c bytes parsed.module_read (view G read) parsed.reads parsed.holds parsed.parsed) (subst IsFreeName (sym named) (own_name name free))).made
 
     pub never : OneAskedMayRefuse (meant G k) → ⊥
     never one = never_refuses raws (meaning G entry) says.quiet
@@ -117,14 +113,6 @@ module _ {V : Type 0} {O : V → Type 0} (G : (v : V) → Ghosts (O v)) (c : Con
 
       pub sayable : IsSayable u
       sayable = (leaves_well c (view G (holding k)) u well leaves).0.customs
-
-      pub has_section : Contains u.customs (section_of name payload)
-      has_section =
-          let same : u.customs ≡ (view G read).customs ++ section_of name payload ∷ [] = ap (λ (x : Abstract). x.customs) (between (view G (holding k)) u leaves).same ∙ ap (λ (x : Abstract). x.customs) holds in
-          subst (λ (cs : List Custom). Contains cs (section_of name payload)) (sym same) (Contains-append_2 (section_of name payload) (view G read).customs (section_of name payload ∷ []) (Contains-head (section_of name payload) []))
-
-      pub stands : (output : List ℕ) (w : IsWellWritten c u output) → Contains w.module_written.customs (section_of name payload)
-      stands output w = subst (λ (cs : List Custom). Contains cs (section_of name payload)) (sym w.written.written.customs) (is_written w.written.written.indices u.customs name payload has_section (no_debug name free))
 
   -- ---- what emission answers of it
 
@@ -168,18 +156,25 @@ module _ {V : Type 0} {O : V → Type 0} (G : (v : V) → Ghosts (O v)) (c : Con
       leaves_so : Leaves (view G (holding now)) (view G left_module)
       leaves_so = leaves_now leaves
 
+      abbrev gains : LeavesWritten (GainsSection c bytes name (carried x pairs)) c output
+      gains = record {
+        module_left = view G left_module;
+        left = record {
+          module_parsed = view G read;
+          parsed = parsed;
+          left = subst (λ (p : List ℕ). Leaves (with_section name p (view G read)) (view G left_module)) payload_is (left now b.entry b.are says named_now (view G left_module) leaves_so);
+        };
+        written = written;
+      }
+
       placed : IsWithPlaces c bytes name pairs output
       placed = record {
-        module_parsed = view G read;
-        parsed = parsed;
         funcs = read.funcs;
         located = located;
         transform = x;
-        module_left = view G left_module;
-        left = subst (λ (p : List ℕ). Leaves (with_section name p (view G read)) (view G left_module)) payload_is (left now b.entry b.are says named_now (view G left_module) leaves_so);
-        written = written;
+        gains = gains;
         told = subst (λ (funcs : ModuleFunctions). IsTransformOf c true (λ number. locations_of (record left_module { funcs = funcs }) number) (view G left_module) output x) same_funcs (told (sayable now b.entry b.are says named_now (view G left_module) leaves_so));
-        stands = subst (λ (p : List ℕ). Contains written.module_written.customs (section_of name p)) payload_is (stands now b.entry b.are says named_now (view G left_module) leaves_so output written);
+        stands = section_stands c bytes name (carried x pairs) free output gains;
       }
 
     -- one of its type and name stands behind the raw ones, whether it followed or not
@@ -214,14 +209,9 @@ module _ {V : Type 0} {O : V → Type 0} (G : (v : V) → Ghosts (O v)) (c : Con
       by_result (Err (error.Memory e)) leaves customs h = tt
       by_result (Err error.TooLarge) leaves customs h =
           let l = last_of Told customs in
-          record {
-            module_parsed = view G read;
-            parsed = parsed;
-            payload = state_bytes (meaning G l.last).state;
-            module_left = view G left_module;
-            left = left now l.last l.stands_last l.says_last l.named_last (view G left_module) (leaves_now leaves);
-            too_large = h;
-          }
+          let stays : Leaves (with_section name (payload now l.last l.stands_last l.says_last l.named_last) (view G read)) (view G left_module) =
+          left now l.last l.stands_last l.says_last l.named_last (view G left_module) (leaves_now leaves) in
+          (state_bytes (meaning G l.last).state, record { module_left = view G left_module; left = record { module_parsed = view G read; parsed = parsed; left = stays }; too_large = h })
       by_result (Err (error.Caller text)) leaves customs h = absurd (quiet_then (last_of Told customs) h)
       by_result (Err _) leaves customs h = absurd h
 

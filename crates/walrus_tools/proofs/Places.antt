@@ -2,22 +2,20 @@
 use Rattle.std.proofs.Common.{◌≡◌, ◌≢◌, ℕ, ◌+◌, ◌<◌, ◌≤◌, Bool, true, false, length, List, Option, Some, None, refl, sym, ap, ◌∙◌, ⊎_elim, arith}
 use Rattle.std.specs.Prelude.{nat_lt, ◌&&◌, is_some}
 use Rattle.std.proofs.Math.Path.{fun_ext}
-use Rattle.std.proofs.lemmas.Bool.{cases_lt, lt-ltb, ltb_from_iff}
+use Rattle.std.proofs.Math.Bool.{and-false}
+use Rattle.std.proofs.lemmas.Bool.{cases_lt, le-ltb, lt-ltb}
 use Rattle.walrus_base.specs.Arena.{item_at}
 use Rattle.walrus_items.specs.Imports.{ImportValue}
 use Rattle.walrus_reading.proofs.Carrying.{item_within}
 use Rattle.walrus_theorem.proofs.EditSpace.{equal_or}
 use Rattle.walrus_tools.specs.Stub.{comes_from, function_from}
 
-not_below : (p n : ℕ) → n ≤ p → nat_lt p n ≡ false
-not_below p n le = sym (ltb_from_iff {b = false} ((λ h. absurd (let no_such : false ≡ true = h in cc)), (λ lt. absurd (omega (arith, lt, le)))))
-
 -- no place is below 0
 pub none_below : (C : ℕ → Bool) → ◌≡◌ {A = ℕ → Bool} (λ p. false) (λ p. nat_lt p 0 && C p)
-none_below C = fun_ext (λ p. ap (λ (b : Bool). b && C p) (sym (not_below p 0 (omega arith))))
+none_below C = fun_ext (λ p. ap (λ (b : Bool). b && C p) (sym (le-ltb p 0 (omega arith))))
 
 pub not_yet : (C : ℕ → Bool) (n : ℕ) → (nat_lt n n && C n) ≡ false
-not_yet C n = ap (λ (b : Bool). b && C n) (not_below n n (omega arith))
+not_yet C n = ap (λ (b : Bool). b && C n) (le-ltb n n (omega arith))
 
 pub now_hit : (C : ℕ → Bool) (n : ℕ) → C n ≡ true → (nat_lt n (n + 1) && C n) ≡ true
 now_hit C n hit = ap (λ (b : Bool). b && C n) (lt-ltb n (n + 1) (omega arith)) ∙ hit
@@ -25,19 +23,15 @@ now_hit C n hit = ap (λ (b : Bool). b && C n) (lt-ltb n (n + 1) (omega arith)) 
 pub same_below : (C : ℕ → Bool) (n p : ℕ) → p ≢ n → (nat_lt p (n + 1) && C p) ≡ (nat_lt p n && C p)
 same_below C n p not = ap (λ (b : Bool). b && C p) (⊎_elim
     (λ (lt : p < n). lt-ltb p (n + 1) (omega (arith, lt)) ∙ sym (lt-ltb p n lt))
-    (λ (le : n ≤ p). ⊎_elim (λ (e : p ≡ n). absurd (not e)) (λ (e : p ≢ n). let more : n + 1 ≤ p = above n p le e in not_below p (n + 1) more ∙ sym (not_below p n le)) (equal_or p n))
+    (λ (le : n ≤ p). ⊎_elim (λ (e : p ≡ n). absurd (not e)) (λ (e : p ≢ n). let more : n + 1 ≤ p = above n p le e in le-ltb p (n + 1) more ∙ sym (le-ltb p n le)) (equal_or p n))
     (cases_lt p n)) where
       above : (n p : ℕ) → n ≤ p → p ≢ n → n + 1 ≤ p
       above n p le not = ⊎_elim (λ (lt : n < p). omega (arith, lt)) (λ (ge : p ≤ n). absurd (not (omega (arith, le, ge)))) (cases_lt n p)
 
-false_and : (b : Bool) → (b && false) ≡ false
-false_and true = refl
-false_and false = refl
-
 -- a place that the test doesn't tell changes nothing
 pub passes_over : (C : ℕ → Bool) (n : ℕ) → C n ≡ false → ◌≡◌ {A = ℕ → Bool} (λ p. nat_lt p n && C p) (λ p. nat_lt p (n + 1) && C p)
 passes_over C n miss = fun_ext (λ p. ⊎_elim
-    (λ (e : p ≡ n). ap (λ (b : Bool). nat_lt p n && b) (ap C e ∙ miss) ∙ false_and (nat_lt p n) ∙ sym (false_and (nat_lt p (n + 1))) ∙ ap (λ (b : Bool). nat_lt p (n + 1) && b) (sym (ap C e ∙ miss)))
+    (λ (e : p ≡ n). ap (λ (b : Bool). nat_lt p n && b) (ap C e ∙ miss) ∙ and-false (nat_lt p n) ∙ sym (and-false (nat_lt p (n + 1))) ∙ ap (λ (b : Bool). nat_lt p (n + 1) && b) (sym (ap C e ∙ miss)))
     (λ (e : p ≢ n). sym (same_below C n p e))
     (equal_or p n))
 
@@ -50,5 +44,5 @@ all_below from all n is = fun_ext (λ p. ⊎_elim
       past : (p : ℕ) → n ≤ p → (o : Option ImportValue) → item_at all p ≡ o → (nat_lt p n && comes_from from all p) ≡ comes_from from all p
       past p le None e =
           let miss : comes_from from all p ≡ false = ap (λ (o : Option ImportValue). is_some (function_from from o)) e in
-          ap (λ (b : Bool). nat_lt p n && b) miss ∙ false_and (nat_lt p n) ∙ sym miss
+          ap (λ (b : Bool). nat_lt p n && b) miss ∙ and-false (nat_lt p n) ∙ sym miss
       past p le (Some x) e = let lt : p < length all = item_within all p (ap is_some e) in absurd (omega (arith, lt, le, is))

@@ -22,7 +22,6 @@ use Rattle.walrus_items.specs.Errors.{out_of_memory}
 use Rattle.walrus_items.specs.Kinds.{imported}
 use Rattle.walrus_items.specs.declared.error.Error.{Error}
 use Rattle.walrus_items.specs.declared.function_kind.FunctionKind.{FunctionKind}
-use Rattle.walrus_items.specs.declared.kinds.ImportKind.{ImportKind}
 use Rattle.walrus_items.specs.declared.kinds.ImportKind.TheVariants as kinds
 use Rattle.walrus_items.specs.Functions.{FunctionValue, functions}
 use Rattle.walrus_items.specs.Imports.{ImportValue, imported_function, imports}
@@ -30,11 +29,12 @@ use Rattle.walrus_base.proofs.Standing.{some_of}
 use Rattle.walrus_module.specs.Replaced.{IsMadeLocal, IsNew, MakesBroughtLocal, MakesImportedLocal, MakesKindLocal, MakesLocal, MakesSlotLocal, OnlyLocals, RefusesLocal, ReplacesImport}
 use Rattle.walrus_module.specs.View.{contents_of}
 use Rattle.walrus_module.specs.declared.module.Module.{Module}
+use Rattle.walrus_module.proofs.EditedReplaced.{of_kind}
 use Rattle.walrus_tools.proofs.Matched.{IsBroughtBy, brought_by, theirs}
 use Rattle.walrus_tools.proofs.Places.{all_below, none_below, not_yet, now_hit, passes_over, same_below}
 use Rattle.walrus_tools.proofs.StubStep.{stub_whole}
 use Rattle.walrus_tools.proofs.StubTurn.{stubs_more, stubs_none}
-use Rattle.walrus_theorem.proofs.EditKept.{none_isnt, some_is, some_there}
+use Rattle.walrus_theorem.proofs.EditKept.{none_isnt, some_there}
 use Rattle.walrus_tools.specs.Edited.{IsWhole}
 use Rattle.walrus_tools.specs.Stub.{comes_from, function_from}
 use Rattle.walrus_tools.specs.Stubbed.{PutsTrap, Stubs, StubsAt, StubsHeld, StubsSome}
@@ -57,13 +57,6 @@ pub record Brings (from : List ℕ) (slot : Option ImportValue) (id : Id Functio
   pub there : slot ≡ Some x
   pub function : imported_function x.kind ≡ Some id
   pub brings : imported x.kind ≡ function_item (place id)
-
-of_kind : (k : ImportKind) (id : Id FunctionKey) → imported_function k ≡ Some id → imported k ≡ function_item (place id)
-of_kind (kinds.Function f) id e = ap (λ (i : Id FunctionKey). function_item (place i)) (some_is e)
-of_kind (kinds.Table t) id e = absurd (none_isnt e)
-of_kind (kinds.Memory t) id e = absurd (none_isnt e)
-of_kind (kinds.Global t) id e = absurd (none_isnt e)
-of_kind (kinds.Tag t) id e = absurd (none_isnt e)
 
 brings : (from : List ℕ) (o : Option ImportValue) (id : Id FunctionKey) → function_from from o ≡ Some id → Brings from o id
 brings from None id e = absurd (none_isnt e)

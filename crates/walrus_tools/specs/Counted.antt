@@ -13,7 +13,7 @@ use Rattle.walrus_items.specs.Imports.{imports}
 use Rattle.walrus_contents.specs.declared.parts.Contents.{Contents}
 use Rattle.walrus_module.specs.declared.module.Module.{Module}
 use Rattle.walrus_tools.specs.Count.{CountsIn, ImportsIn, SlotCalls}
-use Rattle.walrus_tools.specs.Edited.{AnswersEdited}
+use Rattle.walrus_tools.specs.Edited.{AnswersEdited, ForMemory}
 
 -- ---- what a module holds
 
@@ -46,10 +46,6 @@ pub record CountsHeld (from name : List ℕ) (old new : Contents) : Type 0 where
 
 -- ---- from bytes to bytes
 
--- counting refuses for want of memory alone
-abbrev pub RefusesCount : Contents → Error → Type 0
-RefusesCount m e = e ≡ out_of_memory
-
 -- the module that counts, or a refusal with its cause
 abbrev pub AnswersCounted : Config → (bytes from name : List ℕ) → Result (Vec ℕ) Error → Type 0
-AnswersCounted c bytes from name result = AnswersEdited (CountsHeld from name) RefusesCount c bytes result
+AnswersCounted c bytes from name result = AnswersEdited (CountsHeld from name) ForMemory c bytes result

@@ -20,8 +20,8 @@ use Rattle.walrus_module.specs.View.{meanings, view}
 use Rattle.walrus_module.specs.declared.entry.SectionEntry.{SectionEntry}
 use Rattle.walrus_module.specs.declared.module.Module.{Module}
 use Rattle.walrus.specs.Listed.{index_bytes}
+use Rattle.walrus_tools.specs.Ends.{Finishes, LeftOf}
 use Rattle.walrus_tools.specs.Listed.{Lists}
-use Rattle.walrus_tools.specs.Listing.{Finishes}
 
 -- ---- which functions bytes list
 
@@ -60,4 +60,4 @@ module _ {V : Type 0} {O : V → Type 0} (G : (v : V) → Ghosts (O v)) where
 
   -- of such a module what is kept is written
   abbrev pub FinishesReady : Module (SectionEntry V O) → Result (Vec ℕ) Error → Type 0
-  FinishesReady m result = IsReady m → Finishes (config_of (settings m)) (view G m) result
+  FinishesReady m result = IsReady m → Finishes (LeftOf (view G m)) (config_of (settings m)) result

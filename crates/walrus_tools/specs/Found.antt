@@ -1,19 +1,19 @@
 -- The function that is meant by a name ("Structure > Values > Names", "Structure > Modules > Exports").
-use Rattle.std.specs.Prelude.{ℕ, ◌^◌, ◌≤◌, List, Option, Some, None, Result, Ok, Err, option_map, ◌≡◌, ⊤}
+use Rattle.std.specs.Prelude.{ℕ, ◌^◌, ◌≤◌, List, Option, Some, None, Result, Ok, Err, option_map, ◌≡◌}
 use Rattle.walrus_base.specs.Id.{place}
 use Rattle.walrus_base.specs.declared.id.Id.{Id}
 use Rattle.walrus_base.specs.declared.keys.FunctionKey.{FunctionKey}
 use Rattle.walrus_model.specs.Abstract.{Custom}
 use Rattle.walrus_model.specs.Config.{Config}
 use Rattle.walrus_items.specs.declared.error.Error.{Error}
-use Rattle.walrus_items.specs.declared.error.Error.TheVariants.{InvalidWasm, Memory, NotFound, TooLarge}
+use Rattle.walrus_items.specs.declared.error.Error.TheVariants.{NotFound}
 use Rattle.walrus_items.specs.Exports.{ExportValue, exports, function_named}
 use Rattle.walrus_items.specs.Functions.{FunctionValue, functions, is_called}
 use Rattle.walrus_items.specs.Searches.{first}
 use Rattle.walrus_contents.specs.declared.parts.Contents.{Contents}
-use Rattle.walrus_theorem.specs.Headline.{Accepts}
 use Rattle.walrus_module.specs.Parsed.{IsParsed}
 use Rattle.walrus_tools.specs.Edited.{RefusesEdit, with_customs}
+use Rattle.walrus_tools.specs.Ends.{Answers, IfNotFound}
 
 -- ---- of what a module holds
 
@@ -47,13 +47,8 @@ pub record IsFound (c : Config) (bytes name : List ℕ) (function : ℕ) : Type 
 
 -- no function is meant
 abbrev pub LacksCalled : (name : List ℕ) → Contents → Error → Type 0
-LacksCalled name m NotFound = meant name m ≡ None
-LacksCalled name m _ = ⊥
+LacksCalled name m e = IfNotFound (meant name m ≡ None) e
 
 -- the index, or a refusal with its cause: the bytes aren't accepted, or no function is meant, or its index has more than 32 bits
 abbrev pub AnswersFound : Config → (bytes name : List ℕ) → Result ℕ Error → Type 0
-AnswersFound c bytes name (Ok function) = IsFound c bytes name function
-AnswersFound c bytes name (Err (Memory e)) = ⊤
-AnswersFound c bytes name (Err (InvalidWasm kind)) = Accepts c bytes → ⊥
-AnswersFound c bytes name (Err TooLarge) = (function : ℕ) × IsFound c bytes name function × (2 ^ 32 ≤ function)
-AnswersFound c bytes name (Err e) = RefusesEdit (LacksCalled name) c bytes e
+AnswersFound c bytes name result = Answers c bytes (IsFound c bytes name) ((function : ℕ) × IsFound c bytes name function × (2 ^ 32 ≤ function)) (RefusesEdit (LacksCalled name) c bytes) result

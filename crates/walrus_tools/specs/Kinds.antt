@@ -18,7 +18,7 @@ use Rattle.walrus_model.specs.Live.{IsLive}
 use Rattle.walrus_model.specs.Rules.{Holds}
 use Rattle.walrus_theorem.specs.Headline.{ReadsModule}
 use Rattle.walrus_theorem.specs.Report.{Counts}
-use Rattle.walrus_tools.specs.declared.tool.gc.Kinds.{Kinds}
+use Rattle.walrus_tools.specs.declared.tool.gc_counted.Kinds.{Kinds}
 
 -- of each kind so many items are those of which P holds
 pub record CountsKinds (P : Item → Type 0) (k : Kinds) : Type 0 where

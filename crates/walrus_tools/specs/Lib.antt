@@ -4,6 +4,7 @@ pub mod Count
 pub mod Counted
 pub mod Diagnosed
 pub mod Edited
+pub mod Ends
 pub mod Finding
 pub mod Fits
 pub mod Found

@@ -1,16 +1,13 @@
 -- A module with one custom section more ("Binary Format > Custom Section").
-use Rattle.std.specs.Prelude.{List, [], ◌∷◌, ◌++◌, ℕ, true, false, Contains, Result, Ok, Err, ◌≡◌, ⊤}
+use Rattle.std.specs.Prelude.{List, [], ◌∷◌, ◌++◌, ℕ, true, false, Contains, Result, ◌≡◌}
 use Rattle.std.specs.Global.{Vec}
 use Rattle.walrus_model.specs.Abstract.{Abstract, Custom}
 use Rattle.walrus_model.specs.Config.{Config}
 use Rattle.walrus_model.specs.Sections.{is_apart}
 use Rattle.walrus_theorem.specs.Chain.{Leaves}
-use Rattle.walrus_theorem.specs.Headline.{Accepts}
-use Rattle.walrus_theorem.specs.Refused.{PassesLimits}
 use Rattle.walrus_items.specs.declared.error.Error.{Error}
-use Rattle.walrus_items.specs.declared.error.Error.TheVariants.{Memory, InvalidWasm, TooLarge, Caller}
-use Rattle.walrus_module.specs.Answered.{IsWellWritten}
 use Rattle.walrus_module.specs.Parsed.{IsParsed}
+use Rattle.walrus_tools.specs.Ends.{Answers, IfCaller, LeavesLarge, LeavesWritten}
 
 -- a section of this name, whose data is the same under all indices
 abbrev pub section_of : (name payload : List ℕ) → Custom
@@ -28,23 +25,11 @@ pub record GainsSection (c : Config) (bytes name payload : List ℕ) (u : Abstra
 
 -- That is written: the output is the one spelling of one module of indices, reads as it, and it keeps the rules. The section stands in it.
 pub record IsWithSection (c : Config) (bytes name payload output : List ℕ) : Type 0 where
-  pub module_left : Abstract
-  pub gains : GainsSection c bytes name payload module_left
-  pub written : IsWellWritten c module_left output
-  pub stands : Contains written.module_written.customs (section_of name payload)
+  pub gains : LeavesWritten (GainsSection c bytes name payload) c output
+  pub stands : Contains gains.written.module_written.customs (section_of name payload)
   pub free : is_apart name ≡ false
 
--- the bytes are accepted, but what is to be written has a count, a size or a limit past 32 bits
-pub record IsLargeWithSection (c : Config) (bytes name payload : List ℕ) : Type 0 where
-  pub module_left : Abstract
-  pub gains : GainsSection c bytes name payload module_left
-  pub too_large : PassesLimits c module_left
-
--- the section is there, or a refusal with its cause
+-- the section is there, or a refusal with its cause, as that sections of this name are the writer's own
 abbrev pub CarriesMetadata : Config → (bytes name payload : List ℕ) → Result (Vec ℕ) Error → Type 0
-CarriesMetadata c bytes name payload (Ok output) = IsWithSection c bytes name payload output.items
-CarriesMetadata c bytes name payload (Err (Memory e)) = ⊤
-CarriesMetadata c bytes name payload (Err (InvalidWasm kind)) = Accepts c bytes → ⊥
-CarriesMetadata c bytes name payload (Err TooLarge) = IsLargeWithSection c bytes name payload
-CarriesMetadata c bytes name payload (Err (Caller text)) = is_apart name ≡ true
-CarriesMetadata c bytes name payload (Err _) = ⊥
+CarriesMetadata c bytes name payload result =
+    Answers c bytes (λ (output : Vec ℕ). IsWithSection c bytes name payload output.items) (LeavesLarge (GainsSection c bytes name payload) c) (IfCaller (is_apart name ≡ true)) result

@@ -1,25 +1,21 @@
 -- A module with a custom section of places, which follows the code ("Binary Format > Custom Section").
-use Rattle.std.specs.Prelude.{ℕ, List, map, true, Contains, Result, Ok, Err, ◌≡◌, ◌||◌, ⊤}
+use Rattle.std.specs.Prelude.{ℕ, List, map, true, Contains, Result, ◌≡◌, ◌||◌}
 use Rattle.std.specs.Global.{Vec}
 use Rattle.walrus_code.specs.Transform.{Transform}
-use Rattle.walrus_model.specs.Abstract.{Abstract}
 use Rattle.walrus_model.specs.Config.{Config}
 use Rattle.walrus_model.specs.Sections.{is_apart}
 use Rattle.walrus_theorem.specs.Chain.{Leaves}
-use Rattle.walrus_theorem.specs.Headline.{Accepts}
-use Rattle.walrus_theorem.specs.Refused.{PassesLimits}
 use Rattle.walrus_items.specs.Functions.{ModuleFunctions, functions}
 use Rattle.walrus_writing.specs.Parts.{local_in}
 use Rattle.walrus_writing.specs.Transform.{IsTransformOf, locations_in}
 use Rattle.walrus_items.specs.declared.error.Error.{Error}
-use Rattle.walrus_items.specs.declared.error.Error.TheVariants.{Memory, InvalidWasm, TooLarge, Caller}
-use Rattle.walrus_module.specs.Answered.{IsWellWritten}
 use Rattle.walrus_module.specs.Asked.{is_dylink_name}
 use Rattle.walrus_module.specs.Located.{IsPlace}
-use Rattle.walrus_module.specs.Parsed.{AreLocated, IsParsed}
+use Rattle.walrus_module.specs.Parsed.{AreLocated}
 use Rattle.walrus.specs.Places.{last_place, moved_by, new_pair, written_pairs}
 use Rattle.walrus.specs.declared.sections.places.PlacedPair.{PlacedPair}
-use Rattle.walrus_tools.specs.Metadata.{section_of, with_section}
+use Rattle.walrus_tools.specs.Ends.{Answers, IfCaller, LeavesLarge, LeavesWritten}
+use Rattle.walrus_tools.specs.Metadata.{GainsSection, section_of}
 
 -- pairs as a section of places is given them
 abbrev pub given : List (ℕ × ℕ) → List PlacedPair
@@ -33,31 +29,15 @@ carried x pairs = written_pairs (map (moved_by (last_place x.instruction_map)) (
 -- more behind its others, what is written: the output is the one spelling of one module of indices, reads as it, and it keeps the rules. The section
 -- stands in it, and says the pairs by the places that the one true transform of the output tells.
 pub record IsWithPlaces (c : Config) (bytes name : List ℕ) (pairs : List (ℕ × ℕ)) (output : List ℕ) : Type 0 where
-  pub module_parsed : Abstract
-  pub parsed : IsParsed c bytes module_parsed
   pub funcs : ModuleFunctions
   pub located : AreLocated IsPlace bytes funcs
   pub transform : Transform
-  pub module_left : Abstract
-  pub left : Leaves (with_section name (carried transform pairs) module_parsed) module_left
-  pub written : IsWellWritten c module_left output
-  pub told : IsTransformOf c true (λ number. locations_in (local_in (functions funcs) number)) module_left output transform
-  pub stands : Contains written.module_written.customs (section_of name (carried transform pairs))
+  pub gains : LeavesWritten (GainsSection c bytes name (carried transform pairs)) c output
+  pub told : IsTransformOf c true (λ number. locations_in (local_in (functions funcs) number)) gains.module_left output transform
+  pub stands : Contains gains.written.module_written.customs (section_of name (carried transform pairs))
 
--- the bytes are accepted, but what is to be written has a count, a size or a limit past 32 bits
-pub record IsLargeWithPlaces (c : Config) (bytes name : List ℕ) : Type 0 where
-  pub module_parsed : Abstract
-  pub parsed : IsParsed c bytes module_parsed
-  pub payload : List ℕ
-  pub module_left : Abstract
-  pub left : Leaves (with_section name payload module_parsed) module_left
-  pub too_large : PassesLimits c module_left
-
--- the section is there, or a refusal with its cause
+-- the section is there, or a refusal with its cause: what is too large has such a section, of whatever data
 abbrev pub CarriesPlaces : Config → (bytes name : List ℕ) → (pairs : List (ℕ × ℕ)) → Result (Vec ℕ) Error → Type 0
-CarriesPlaces c bytes name pairs (Ok output) = IsWithPlaces c bytes name pairs output.items
-CarriesPlaces c bytes name pairs (Err (Memory e)) = ⊤
-CarriesPlaces c bytes name pairs (Err (InvalidWasm kind)) = Accepts c bytes → ⊥
-CarriesPlaces c bytes name pairs (Err TooLarge) = IsLargeWithPlaces c bytes name
-CarriesPlaces c bytes name pairs (Err (Caller text)) = (is_apart name || is_dylink_name name) ≡ true
-CarriesPlaces c bytes name pairs (Err _) = ⊥
+CarriesPlaces c bytes name pairs result =
+    Answers c bytes (λ (output : Vec ℕ). IsWithPlaces c bytes name pairs output.items) ((payload : List ℕ) × LeavesLarge (GainsSection c bytes name payload) c)
+    (IfCaller ((is_apart name || is_dylink_name name) ≡ true)) result

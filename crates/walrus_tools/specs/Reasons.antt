@@ -1,6 +1,6 @@
 -- Why a function of a module stays, and what each function costs that does, as a text ("Structure > Modules > Indices", "Binary Format > Code
 -- Section").
-use Rattle.std.specs.Prelude.{ℕ, ◌-◌, List, ◌++◌, Option, Some, None, IsSome, Result, Ok, Err, String, codes, decimal, flat_map, string_bytes, ◌≡◌, ⊤}
+use Rattle.std.specs.Prelude.{ℕ, ◌-◌, List, ◌++◌, Option, Some, None, IsSome, Result, Ok, Err, String, codes, decimal, flat_map, string_bytes, ◌≡◌}
 use Rattle.std.specs.declared.alloc.Global.{Global}
 use Rattle.walrus_base.specs.Arena.{item_at}
 use Rattle.walrus_base.specs.Id.{place}
@@ -11,13 +11,13 @@ use Rattle.walrus_code.specs.Transform.{Transform}
 use Rattle.walrus_model.specs.Abstract.{Abstract, Custom}
 use Rattle.walrus_model.specs.Config.{Config}
 use Rattle.walrus_items.specs.declared.error.Error.{Error}
-use Rattle.walrus_items.specs.declared.error.Error.TheVariants.{InvalidWasm, Memory, NotFound, TooLarge}
+use Rattle.walrus_items.specs.declared.error.Error.TheVariants.{NotFound}
 use Rattle.walrus_items.specs.Functions.{FunctionValue, functions}
 use Rattle.walrus_contents.specs.declared.parts.Contents.{Contents}
-use Rattle.walrus_theorem.specs.Headline.{Accepts}
 use Rattle.walrus_module.specs.Parsed.{IsParsed}
 use Rattle.walrus.specs.Why.{Explains}
 use Rattle.walrus_tools.specs.Edited.{AnswersEdited, RefusesEdit, with_customs}
+use Rattle.walrus_tools.specs.Ends.{Answers, IfNotFound}
 use Rattle.walrus_tools.specs.Measured.{IsMeasured, IsSame}
 
 -- ---- the text
@@ -71,8 +71,7 @@ pub record IsReason (c : Config) (bytes : List ℕ) (function : ℕ) (text : Lis
 
 -- there is no function of this index
 abbrev pub LacksFunction : ℕ → Contents → Error → Type 0
-LacksFunction function m NotFound = item_at (functions m.funcs) function ≡ None
-LacksFunction function m _ = ⊥
+LacksFunction function m e = IfNotFound (item_at (functions m.funcs) function ≡ None) e
 
 -- the text, or a refusal with its cause: as that of a module that is parsed, not edited, rid of what nothing reaches and written; or there is
 -- no such function
@@ -92,11 +91,7 @@ pub record IsChain (c : Config) (bytes : List ℕ) (function : ℕ) (text : List
 
 -- the text, or a refusal with its cause: the bytes aren't accepted, or there is no such function
 abbrev pub AnswersChain : {X : Type 0} → Config → (bytes : List ℕ) → (function : ℕ) → (X → List ℕ) → Result X Error → Type 0
-AnswersChain c bytes function view (Ok text) = IsChain c bytes function (view text)
-AnswersChain c bytes function view (Err (Memory e)) = ⊤
-AnswersChain c bytes function view (Err (InvalidWasm kind)) = Accepts c bytes → ⊥
-AnswersChain c bytes function view (Err TooLarge) = ⊥
-AnswersChain c bytes function view (Err e) = RefusesEdit (LacksFunction function) c bytes e
+AnswersChain c bytes function view result = Answers c bytes (λ text. IsChain c bytes function (view text)) ⊥ (RefusesEdit (LacksFunction function) c bytes) result
 
 -- ---- of what a module holds
 

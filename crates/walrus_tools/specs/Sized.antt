@@ -1,6 +1,6 @@
 -- Which functions of a module stay, what each costs, and under which names, as bytes ("Structure > Modules > Indices", "Binary Format > Code
 -- Section").
-use Rattle.std.specs.Prelude.{ℕ, ◌-◌, ◌^◌, ◌≤◌, ◌⊎◌, List, ◌++◌, Contains, Option, Result, Ok, Err, flat_map, ◌≡◌, ⊤}
+use Rattle.std.specs.Prelude.{ℕ, ◌-◌, ◌^◌, ◌≤◌, ◌⊎◌, List, ◌++◌, Contains, Option, Result, flat_map, ◌≡◌}
 use Rattle.std.specs.Global.{Vec}
 use Rattle.walrus_base.specs.Arena.{item_at}
 use Rattle.walrus_base.specs.Operators.{function_item}
@@ -10,9 +10,8 @@ use Rattle.walrus_model.specs.Config.{Config}
 use Rattle.walrus_contents.specs.View.{name_at}
 use Rattle.walrus_items.specs.Functions.{FunctionValue}
 use Rattle.walrus_items.specs.declared.error.Error.{Error}
-use Rattle.walrus_items.specs.declared.error.Error.TheVariants.{InvalidWasm, Memory, TooLarge}
-use Rattle.walrus_theorem.specs.Headline.{Accepts}
-use Rattle.walrus_tools.specs.Edited.{IsLargeEdited}
+use Rattle.walrus_tools.specs.Edited.{EditsTo}
+use Rattle.walrus_tools.specs.Ends.{Answers, LeavesLarge}
 pub use Rattle.walrus_tools.specs.Numbers.{IsLongName, RefusesIf, name_bytes, no_name, number_bytes}
 use Rattle.walrus_tools.specs.Measured.{IsMeasured, IsSame}
 
@@ -68,8 +67,4 @@ pub record IsLongListed (c : Config) (bytes : List ℕ) : Type 0 where
 
 -- the list, or a refusal with its cause
 abbrev pub AnswersListed : Config → (bytes : List ℕ) → Result (Vec ℕ) Error → Type 0
-AnswersListed c bytes (Ok list) = IsListed c bytes list.items
-AnswersListed c bytes (Err (Memory e)) = ⊤
-AnswersListed c bytes (Err (InvalidWasm kind)) = Accepts c bytes → ⊥
-AnswersListed c bytes (Err TooLarge) = IsLargeEdited IsSame c bytes ⊎ IsLongListed c bytes
-AnswersListed c bytes (Err _) = ⊥
+AnswersListed c bytes result = Answers c bytes (λ (list : Vec ℕ). IsListed c bytes list.items) (LeavesLarge (EditsTo IsSame c bytes) c ⊎ IsLongListed c bytes) (λ e. ⊥) result

@@ -13,7 +13,7 @@ use Rattle.walrus_items.specs.Imports.{imports}
 use Rattle.walrus_contents.specs.declared.parts.Contents.{Contents}
 use Rattle.walrus_module.specs.Replaced.{Builds}
 use Rattle.walrus_module.specs.declared.module.Module.{Module}
-use Rattle.walrus_tools.specs.Edited.{AnswersEdited, IsWhole}
+use Rattle.walrus_tools.specs.Edited.{AnswersEdited, ForMemory, IsWhole}
 use Rattle.walrus_tools.specs.Stub.{StubsWhere, comes_from}
 
 -- what a closure does that puts a trap behind what was built, unless memory runs out
@@ -53,10 +53,6 @@ pub record StubsHeld (from : List ℕ) (old new : Contents) : Type 0 where
   pub locals : StaysInFront (locals old.locals) (locals new.locals)
   pub others : new ≡ record old { funcs = new.funcs; imports = new.imports; locals = new.locals }
 
--- stubbing refuses for want of memory alone
-abbrev pub RefusesStub : Contents → Error → Type 0
-RefusesStub m e = e ≡ out_of_memory
-
 -- the module with its stubs, or a refusal with its cause
 abbrev pub AnswersStubbed : Config → (bytes from : List ℕ) → Result (Vec ℕ) Error → Type 0
-AnswersStubbed c bytes from result = AnswersEdited (StubsHeld from) RefusesStub c bytes result
+AnswersStubbed c bytes from result = AnswersEdited (StubsHeld from) ForMemory c bytes result

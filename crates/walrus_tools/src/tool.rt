@@ -3,6 +3,7 @@
 pub mod diagnose;
 pub mod find;
 pub mod gc;
+pub mod gc_counted;
 pub mod list;
 pub mod report;
 pub mod sections;

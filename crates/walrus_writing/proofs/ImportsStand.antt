@@ -1,8 +1,9 @@
 -- The imports that the entries say, one behind another, are the imports of the module, renamed: each names the item that has its number.
-use Rattle.std.proofs.Common.{◌≡◌, ℕ, suc, List, [], ◌∷◌, ◌++◌, append_assoc, length, refl, sym, ap, ◌∙◌, subst, Some}
+use Rattle.std.proofs.Common.{◌≡◌, ℕ, List, [], ◌∷◌, ◌++◌, append_assoc, length, refl, sym, ap, ◌∙◌, subst, Some}
 use Rattle.std.specs.Prelude.{Option, filter_map, slice_get}
 use Rattle.std.specs.List.{AllZip, cons_option}
 use Rattle.std.proofs.lemmas.List.Elements.{filter_map-append}
+use Rattle.std.proofs.lemmas.Slice.Zip.{AllZip-long}
 use Rattle.wasm_entries.specs.Record as wire
 use Rattle.wasm_entries.specs.declared.record.RawDesc.{RawDesc}
 use Rattle.wasm_entries.specs.declared.record.RawDesc.TheVariants as descs
@@ -28,12 +29,6 @@ use Rattle.walrus_groups.proofs.TypeLists.{got_left as in_front}
 seam_at : {A : Type 0} (xs ys : List A) (y : A) → slice_get (xs ++ y ∷ ys) (length xs) ≡ Some y
 seam_at [] ys y = refl
 seam_at (x ∷ xs) ys y = seam_at xs ys y
-
-as_long : {A B : Type 0} (R : A → B → Type 0) (xs : List A) (ys : List B) → AllZip R xs ys → length ys ≡ length xs
-as_long R [] [] h = refl
-as_long R [] (y ∷ ys) h = elim h [ ]
-as_long R (x ∷ xs) [] h = elim h [ ]
-as_long R (x ∷ xs) (y ∷ ys) h = ap suc (as_long R xs ys h.1)
 
 -- ---- the item that a description brings, behind other imports
 
@@ -85,7 +80,7 @@ module _ (names : Lookup) (r : Renaming) (agrees : AgreesWith r names) (v : Abst
 
     -- as many items of a space are brought by earlier imports as are chosen of them
     many_before : (s : Space) → length (brought s earlier) ≡ length (filter_map (import_number v s) before)
-    many_before s = as_long (StandsFor (SameThing r s) (look v s)) (filter_map (import_number v s) before) (brought s earlier)
+    many_before s = AllZip-long (StandsFor (SameThing r s) (look v s)) (filter_map (import_number v s) before) (brought s earlier)
         (imported_zip r v s before earlier (entries_brought names r agrees v are before earlier index_before along))
 
     chosen_here : import_number v e.value.item.0 p ≡ Some e.value.item.1

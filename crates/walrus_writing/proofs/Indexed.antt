@@ -52,6 +52,7 @@ use Rattle.walrus_items.specs.declared.function_kind.FunctionKind.TheVariants as
 use Rattle.walrus_groups.specs.Indexed.{LacksAnIndex as TypesLackAnIndex}
 use Rattle.walrus_items.specs.Errors.{error_of_ir}
 use Rattle.walrus_model.proofs.Indices.{planned_named}
+use Rattle.walrus_model.proofs.TypeRules.{Contains-flat_map}
 use Rattle.walrus_model.proofs.Living.{AllLive, all_live}
 use Rattle.walrus_base.proofs.Lists.{Contains-head, Contains-tail, Contains-map, Contains-uncons, Contains-none, Contains-append_1, Contains-append_2}
 use Rattle.walrus_base.proofs.Standing.{none_there, some_inj, some_of, self_eq}
@@ -74,15 +75,6 @@ contains_placed (x ∷ xs) n c =
     ⊎_elim (λ (e : x ≡ n). subst (λ m. IsSome (place_in (x ∷ xs) m)) e (rw (self_eq x) refl))
     (λ (d : Contains xs n). placed_step (x == n) (place_in xs n) (contains_placed xs n d))
     (Contains-uncons x n xs c)
-
--- ---- lists
-
-flat_in : {X A : Type 0} (f : X → List A) (xs : List X) (x : X) (y : A) → Contains xs x → Contains (f x) y → Contains (flat_map f xs) y
-flat_in f [] x y c d = absurd (Contains-none x c)
-flat_in {X} f (z ∷ xs) x y c d = ⊎_elim
-    (λ (e : z ≡ x). Contains-append_1 y (f z) (flat_map f xs) (subst (λ (w : X). Contains (f w) y) (sym e) d))
-    (λ k. Contains-append_2 y (f z) (flat_map f xs) (flat_in f xs x y k d))
-    (Contains-uncons z x xs c)
 
 -- ---- the locals of a function
 
@@ -186,7 +178,7 @@ module _ (p : Parts) (none_dead : HasDead (parts_view p) → ⊥) (names : Looku
         v.0,
         (
           v.1,
-          λ y d. w.local_types y (flat_in (local_names (body p.locals.now f)) (locals_of (body_of f)) x y c
+          λ y d. w.local_types y (Contains-flat_map (local_names (body p.locals.now f)) (locals_of (body_of f)) x y c
               (subst (λ (o : Option (ValType ℕ)). Contains (named_by (λ u. map type_item (val_names u)) o) y) (sym v.1) d)),
         ),
       )

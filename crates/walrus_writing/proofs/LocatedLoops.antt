@@ -1,6 +1,6 @@
 -- What is done and what is left, step by step, where places are put in order.
 use Rattle.std.proofs.Common.{◌≡◌, ℕ, zero, suc, ◌+◌, ◌<◌, ◌≤◌, Bool, true, false, cond, List, [], ◌∷◌, ◌++◌, drop, length, map, refl, sym, subst, ap, ap₂, ◌∙◌, arith, append_assoc, append-nil}
-use Rattle.std.specs.Prelude.{Err, IfOk, Ok, Result, slice_index_or, zip}
+use Rattle.std.specs.Prelude.{slice_index_or, zip}
 use Rattle.std.specs.List.{AllZip}
 use Rattle.std.proofs.lemmas.List.{drop_all, drop_more}
 use Rattle.walrus_writing.specs.Located.{all_placed_from, first_if_last, is_first_last, is_last_of, lasts, placed_from, placed_one}
@@ -77,10 +77,3 @@ pub last_at_end : (xs : List (ℕ × ℕ)) (i : ℕ) → i < length xs → i + 1
 last_at_end xs i low past =
     let none : ℕ × ℕ = (0, 0) in
     ap is_first_last (drop_more xs i none low) ∙ ap (is_last_of (slice_index_or xs i none)) (drop_all (i + 1) xs (omega (arith, past)))
-
--- ---- one more
-
--- what one fact of an answer says, another does
-pub ok_also : {X E : Type 0} (P Q : X → Type 0) (r : Result X E) → ((x : X) → P x → Q x) → IfOk r P → IfOk r Q
-ok_also P Q (Ok x) law h = law x h
-ok_also P Q (Err e) law h = tt

@@ -1,11 +1,12 @@
 -- Custom sections that were asked for their data: those of dynamic linking first, and then others, none of which is a name, producers or
 -- debug section, where a module of indices can say them.
-use Rattle.std.proofs.Common.{◌≡◌, ℕ, zero, suc, Bool, true, false, List, [], ◌∷◌, ◌++◌, map, refl, sym, ap, ap₂, subst, ◌∙◌, arith}
-use Rattle.std.specs.Prelude.{All, ◌≢◌, codes, bytes_eq, cond, filter, not, ◌||◌, slice_index_or, length, ◌<◌}
+use Rattle.std.proofs.Common.{◌≡◌, ℕ, Bool, true, false, List, [], ◌∷◌, ◌++◌, map, refl, sym, ap, ap₂, subst, ◌∙◌}
+use Rattle.std.specs.Prelude.{All, ◌≢◌, codes, bytes_eq, cond, filter, not, ◌||◌, slice_index_or}
 use Rattle.std.specs.List.{AllByRecursion}
 use Rattle.std.specs.Str.{IsUtf8}
 use Rattle.std.proofs.lemmas.List.Elements.{All-filter, All-nil, All-from_recursion, recursion_from_All}
 use Rattle.std.proofs.lemmas.Slice.Eq.{bytes_eq-Decides}
+use Rattle.std.proofs.lemmas.List.{get_or_default}
 use Rattle.wasm_frames.specs.Record as wire
 use Rattle.walrus_contents.specs.declared.parts.Parts.{Parts}
 use Rattle.walrus_model.specs.Abstract.{Abstract, Custom, Indices, Name, ProducerField}
@@ -80,13 +81,8 @@ both_named : (all : List wire.Custom) → AllByRecursion (λ (c : wire.Custom). 
 both_named [] h k = tt
 both_named (c ∷ cs) h k = (other_named c h.0 k.0, both_named cs h.1 k.1)
 
-same_at : {A : Type 0} (xs : List A) (k : ℕ) (d e : A) → k < length xs → slice_index_or xs k d ≡ slice_index_or xs k e
-same_at [] k d e low = absurd (omega (arith, low))
-same_at (x ∷ xs) zero d e low = refl
-same_at (x ∷ xs) (suc k) d e low = same_at xs k d e (omega (arith, low))
-
 each_own : (v : Abstract) → IsSayable v → All (λ (s : Custom). IsOwn s.name) v.customs
-each_own v sayable k d low = let s = slice_index_or v.customs k d in sayable s (k, low, same_at v.customs k s d low)
+each_own v sayable k d low = let s = slice_index_or v.customs k d in sayable s (k, low, get_or_default v.customs k s d low)
 
 -- ---- the parts of the sections
 

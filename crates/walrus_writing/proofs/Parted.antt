@@ -88,7 +88,7 @@ own_body : (o : Option Function) (b : Body) → body_of_function o ≡ Some b �
 own_body (Some f) b e = not_imported f.kind b e
 own_body None b e = refl
 
-live_body : (o : Option Function) (b : Body) → body_of_function o ≡ Some b → IsSome o
+pub live_body : (o : Option Function) (b : Body) → body_of_function o ≡ Some b → IsSome o
 live_body (Some f) b e = refl
 live_body None b e = absurd (none_some b e)
 

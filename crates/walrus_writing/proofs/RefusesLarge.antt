@@ -1,6 +1,7 @@
 -- What passes 32 bits.
-use Rattle.std.proofs.Common.{inl, inr, ◌≡◌, ℕ, zero, suc, ◌<◌, List, [], ◌∷◌, length, refl, sym, ap, subst, arith}
+use Rattle.std.proofs.Common.{inl, inr, ℕ, List, sym, ap, subst, arith}
 use Rattle.std.specs.Prelude.{◌≢◌, Option, All, AllPairs, Contains, slice_index_or}
+use Rattle.std.proofs.lemmas.List.{get_or_default}
 use Rattle.walrus_base.specs.Types.{ValType}
 use Rattle.walrus_base.specs.Operators.{locals_of, Item}
 use Rattle.walrus_items.specs.Function.{body_of as ops_of_local, args_of}
@@ -28,21 +29,16 @@ use Rattle.walrus_theorem.proofs.SameItems.{live_on, with_own}
 
 -- ---- declared locals
 
-same_at : (xs : List ℕ) (k d e : ℕ) → k < length xs → slice_index_or xs k d ≡ slice_index_or xs k e
-same_at [] k d e low = absurd (omega (arith, low))
-same_at (x ∷ xs) zero d e low = refl
-same_at (x ∷ xs) (suc k) d e low = same_at xs k d e (omega (arith, low))
-
 module _ (slots : List (Option (ValType ℕ))) (used parameters order : List ℕ) (declared : AreDeclared slots used parameters order) where
   order_used : All (λ x. Contains used x) order
   order_used k d low =
       let x = slice_index_or order k d in
-      ((declared.which x).0 (k, low, same_at order k x d low)).is_used
+      ((declared.which x).0 (k, low, get_or_default order k x d low)).is_used
 
   order_apart : All (λ x. Contains parameters x → ⊥) order
   order_apart k d low =
       let x = slice_index_or order k d in
-      ((declared.which x).0 (k, low, same_at order k x d low)).no_parameter
+      ((declared.which x).0 (k, low, get_or_default order k x d low)).no_parameter
 
   order_differs : AllPairs (λ (x : ℕ) (y : ℕ). x ≢ y) order
   order_differs i j d less low same =

@@ -1,11 +1,12 @@
 -- The transform that is made of the places of bodies is that of all bytes that the parts are written as, with these sections of dynamic
 -- linking.
-use Rattle.std.proofs.Common.{◌≡◌, inl, inr, ℕ, zero, suc, ◌+◌, Bool, true, false, cond, List, [], ◌∷◌, ◌++◌, length, map, refl, sym, ap, ◌∙◌, subst, arith, Some, append-nil}
+use Rattle.std.proofs.Common.{◌≡◌, inl, inr, ℕ, zero, suc, ◌+◌, Bool, true, false, cond, List, [], ◌∷◌, ◌++◌, length, map, refl, sym, ap, ◌∙◌, subst, Some, append-nil}
 use Rattle.std.specs.Prelude.{All, Contains, filter, filter_map, slice_get, zip}
 use Rattle.std.specs.Str.{IsUtf8}
 use Rattle.std.specs.declared.ops.Range.{Range}
 use Rattle.std.proofs.lemmas.List.Elements.{filter-append}
 use Rattle.std.proofs.lemmas.List.Sorted.{length_permutation}
+use Rattle.std.proofs.lemmas.List.{nil_from_length}
 use Rattle.wasm_frames.specs.Record as wire
 use Rattle.wasm_frames.specs.Frames.{CustomSection, Frames, header}
 use Rattle.wasm_frames.specs.Spelling.{body_bytes}
@@ -61,10 +62,6 @@ use Rattle.walrus_model.proofs.Looked.{got_contains as is_there}
 
 -- ---- lists
 
-pub none_long : {A : Type 0} (xs : List A) → length xs ≡ 0 → xs ≡ []
-none_long [] e = refl
-none_long (x ∷ xs) e = absurd (omega (arith, e))
-
 filter_one : {A : Type 0} (test : A → Bool) (b : Bool) (x : A) (kept : List A) → test x ≡ b → filter test kept ≡ kept → filter test (cond b (x ∷ kept) kept) ≡ cond b (x ∷ kept) kept
 filter_one test true x kept e h = ap (λ (t : Bool). cond t (x ∷ filter test kept) (filter test kept)) e ∙ ap (λ (l : List _). x ∷ l) h
 filter_one test false x kept e h = h
@@ -104,7 +101,7 @@ placed_many n (x ∷ bs) = ap suc (placed_many (n + length (body_bytes (unplaced
 
 none_last : (keeps : Bool) (all found : List Pair) → all ≡ [] → LastPlaces keeps all found → found ≡ []
 none_last false all found none h = h
-none_last true all found none h = h.2 ∙ ap lasts (none_long h.0 (length_permutation all h.0 h.1.moved ∙ ap length none))
+none_last true all found none h = h.2 ∙ ap lasts (nil_from_length h.0 (length_permutation all h.0 h.1.moved ∙ ap length none))
 
 -- what is told of each body
 abbrev pub Offsets : Parts → (order : List ℕ) (bodies : List (List ℕ)) (rest : List (List Pair)) → Type 0
@@ -225,11 +222,11 @@ module _ (c : Config) (p : Parts) (job : Task) (with : IsWrittenWith c job.choic
             is_transform W R raw (imported_functions raw) order rest local listed (own_distinct r Functions) numbered as_many rest_many keeps bytes x (starts_with b bs some) sorted_here last_here,
           )
       holds_by [] none =
-          let no_order : order ≡ [] = none_long order (zip_length (HasBytes p r.names job.choices.features) order r.bodies r.bodies_are ∙ ap length none) in
+          let no_order : order ≡ [] = nil_from_length order (zip_length (HasBytes p r.names job.choices.features) order r.bodies r.bodies_are ∙ ap length none) in
           inr (
             λ f h. Contains-none f (subst (λ (l : List ℕ). Contains l f) no_order (listed f h)),
             parts_same x no_transform
-                (none_long x.function_ranges (length_permutation _ x.function_ranges sorted_here.moved ∙ ap (λ (l : List ℕ). length (zip l (map ends_of (map range_of raw.bodies)))) no_order))
+                (nil_from_length x.function_ranges (length_permutation _ x.function_ranges sorted_here.moved ∙ ap (λ (l : List ℕ). length (zip l (map ends_of (map range_of raw.bodies)))) no_order))
                 (count_here ∙ ap (λ (l : List (List ℕ)). count_place (code_place M) (map unplaced l)) none)
                 (none_last keeps _ x.instruction_map (ap (λ (l : List (List ℕ)). all_placed_from (map (λ (y : Range ℕ). y.start) (map range_of (placed_bodies (first_body (code_place M) (map unplaced l)) (map unplaced l)))) rest) none) last_here),
           )

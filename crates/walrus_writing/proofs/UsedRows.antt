@@ -1,5 +1,5 @@
 -- The used locals of each body, beside the function that it is written as.
-use Rattle.std.proofs.Common.{◌≡◌, ℕ, zero, suc, ◌+◌, ◌-◌, ◌<◌, true, List, [], ◌∷◌, ◌++◌, length, map, refl, sym, ap, ◌∙◌, arith, Some}
+use Rattle.std.proofs.Common.{◌≡◌, ℕ, suc, ◌+◌, ◌-◌, ◌<◌, true, List, [], ◌∷◌, ◌++◌, length, map, refl, sym, ap, ◌∙◌, arith, Some}
 use Rattle.std.specs.Prelude.{filter_map, option_and_then, slice_get, zip}
 use Rattle.std.specs.List.{AllZip}
 use Rattle.std.proofs.lemmas.List.{length-append}
@@ -10,6 +10,7 @@ use Rattle.walrus_functions.specs.Handlers.{params_of}
 use Rattle.walrus_contents.specs.View.{parts_view}
 use Rattle.walrus_contents.specs.declared.parts.Parts.{Parts}
 use Rattle.walrus_base.proofs.Lookups.{heads, there}
+use Rattle.walrus_model.proofs.Looked.{unzipped}
 use Rattle.walrus_model.proofs.PlacedTypes.{zip_length}
 use Rattle.walrus_model.specs.Abstract.{ALocal, Function}
 use Rattle.walrus_model.specs.Imported.{brought, import_number}
@@ -17,7 +18,7 @@ use Rattle.walrus_model.specs.Names.{body_of, body_of_function}
 use Rattle.walrus_model.specs.Ordered.{StandsFor}
 use Rattle.walrus_model.specs.Sections.{body_with, function_with, types_of}
 use Rattle.walrus_model.specs.Spaces.{SameThing, look}
-use Rattle.walrus_base.proofs.Standing.{some_inj, some_of, zip_right}
+use Rattle.walrus_base.proofs.Standing.{some_of, zip_right}
 use Rattle.walrus_theorem.specs.Namings.{has_local, is_in_range}
 use Rattle.walrus_theorem.specs.Text.{said}
 use Rattle.walrus_groups.proofs.OneList.{got_at}
@@ -32,15 +33,6 @@ use Rattle.walrus_writing.proofs.SameBodies.{in_body}
 use Rattle.walrus_writing.proofs.WithCustoms.{module_with}
 use Rattle.walrus_writing.proofs.WrittenAs.{laid_of, renaming_of}
 use Rattle.walrus_groups.proofs.TypeLists.{got_right as behind}
-use Rattle.walrus_writing.proofs.PlacedNames.{none_some}
-
-unzipped : {A B : Type 0} (xs : List A) (ys : List B) (k : ℕ) (z : A × B) → slice_get (zip xs ys) k ≡ Some z → (slice_get xs k ≡ Some z.0) × (slice_get ys k ≡ Some z.1)
-unzipped [] ys k z e = none_some z e
-unzipped (x ∷ xs) [] k z e = none_some z e
-unzipped {A} {B} (x ∷ xs) (y ∷ ys) zero z e =
-    let same : (x, y) ≡ z = some_inj (x, y) z e in
-    (ap (λ (q : A × B). Some q.0) same, ap (λ (q : A × B). Some q.1) same)
-unzipped (x ∷ xs) (y ∷ ys) (suc k) z e = unzipped xs ys k z e
 
 module _ {p : Parts} {features : Features} (r : Records p features) where
   abbrev order : List ℕ

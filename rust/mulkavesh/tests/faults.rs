@@ -1,7 +1,9 @@
 //! What is wrong with bytes, as it was worked out by hand in the file tests/faults.txt of the
 //! repository, and the words for it.
 
-use mulkavesh::{diagnose, gc, list, report, snip, strip, stub, why, Error, Fault, Flags, Rule};
+use mulkavesh::{
+    diagnose, gc, list, report, sections, snip, strip, stub, why, Error, Fault, Flags, Rule,
+};
 
 /// The lines, of which those that begin with `#` say why.
 const LINES: &str = include_str!("../../../tests/faults.txt");
@@ -87,10 +89,29 @@ fn a_refusal_has_the_fault() {
             refusal(gc(&it.bytes, it.flags)),
             refusal(report(&it.bytes, it.flags)),
             refusal(list(&it.bytes, it.flags)),
-            refusal(strip(&it.bytes, it.flags, "a")),
         ];
-        assert_eq!(found, [wanted; 4], "of {:02X?}", it.bytes);
+        assert_eq!(found, [wanted; 3], "of {:02X?}", it.bytes);
     }
+}
+
+/// Where what is wrong stands inside sections, they are told, and custom ones go.
+#[test]
+fn a_refusal_of_the_framing_has_the_fault() {
+    let mut whole = 0;
+    for it in lines() {
+        let told = sections(&it.bytes);
+        let is_whole = told.as_ref().map_or(false, |told| told.is_whole);
+        let invalid = it.fault.map(Error::Invalid).filter(|_| !is_whole);
+        let stripped = refusal(strip(&it.bytes, &["*"], &[]));
+        assert_eq!(stripped, invalid, "of {:02X?}", it.bytes);
+        let header = invalid.filter(|_| it.fault == Some(Fault::Header));
+        assert_eq!(told.err(), header, "of {:02X?}", it.bytes);
+        if !matches!(it.fault, Some(Fault::Header | Fault::Section(_))) {
+            assert!(is_whole, "of {:02X?}", it.bytes);
+            whole += 1;
+        }
+    }
+    assert!(whole > 11, "one for each rule, and a body");
 }
 
 /// The calls without flags refuse as under none.

@@ -8,14 +8,14 @@ use Rattle.walrus_base.specs.declared.keys.FunctionKey.{FunctionKey}
 use Rattle.walrus_items.specs.Transform.{range_of}
 use Rattle.walrus_base.proofs.ZipTurns.{sorted_seen}
 use Rattle.walrus_writing.specs.Located.{by_ends}
-use Rattle.walrus_writing.proofs.LocatedLoops.{ok_also}
+use Rattle.walrus_contents.proofs.ExportedRefs.{if_ok}
 use Rattle.walrus_writing.proofs.located.function_ranges.Goals as goal
 
 pub returns-clause-value : goal.returns-clause-value
 returns-clause-value c =
     let view : Id FunctionKey × (ℕ × ℕ) → ℕ × (ℕ × ℕ) = λ e. (place e.0, e.1) in
     let sorted = c.sort_unstable.new.self.items in
-    ok_also _ _ c.ranges_of.result
+    if_ok _ _ c.ranges_of.result
     (λ found same.
     let is : map range_of found.items ≡ map view sorted = same ∙ ap (map view) c.as_slice.ensures.value in
     record {

@@ -3,9 +3,9 @@ use Rattle.std.specs.Prelude.{IfOk}
 use Rattle.walrus_module.specs.Flags.{Flags, config_of}
 use Rattle.walrus.specs.Headline.{RunsOn}
 use Rattle.walrus_tools.specs.Kinds.{IsCountedOf}
-use Rattle.walrus_tools.specs.declared.tool.gc.Smaller.{Smaller}
+use Rattle.walrus_tools.specs.declared.tool.gc_counted.Smaller.{Smaller}
 use Rattle.walrus_tools.proofs.WantedLemmas.{asked}
-use Rattle.walrus_tools.proofs.tool.gc.gc_counted.Goals as goal
+use Rattle.walrus_tools.proofs.tool.gc_counted.gc_counted.Goals as goal
 
 pub returns-clause-runs : goal.returns-clause-runs
 returns-clause-runs c =

@@ -9,7 +9,7 @@ use Rattle.walrus_module.specs.Emitted.{told}
 use Rattle.walrus.proofs.HeadlineLemmas.{answers_gc, answers_kept, nothing_dead_left}
 use Rattle.walrus_module.proofs.RawStays.{all_raw, leaves_whole, none_refuses_then}
 use Rattle.walrus_tools.proofs.KindLemmas.{counted_with, runs_with}
-use Rattle.walrus_tools.proofs.tool.gc.counted_of.Goals as goal
+use Rattle.walrus_tools.proofs.tool.gc_counted.counted_of.Goals as goal
 
 pub returns-in_err-run-clause-runs : goal.returns-in_err-run-clause-runs
 returns-in_err-run-clause-runs g c =
