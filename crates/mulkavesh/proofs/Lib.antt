@@ -5,5 +5,6 @@ mod Lines
 mod Ordered
 mod Pieces
 mod Refusals
+mod SectionLines
 mod Showing
 mod Sound

@@ -1,7 +1,7 @@
 //! The sections of a module, as a text: for people a line each, for programs an array of objects.
 
 ghost use Rattle.std.specs.Prelude.{◌≡◌, ◌++◌, IfOk, OnOk, false, flat_map, map, option_map};
-ghost use Rattle.mulkavesh.specs.Sections.{count_text, kind_text, section_line, stop_text, what_text};
+ghost use Rattle.mulkavesh.specs.Sections.{count_text, kind_text, kind_word, section_line, stop_text, what_text};
 ghost use Rattle.mulkavesh.specs.Subcommands.{ForPeople, TellsSections};
 ghost use Rattle.walrus_tools.specs.Sections.{piece_record};
 
@@ -14,7 +14,9 @@ use std::alloc::{AllocError, Global};
 use walrus_tools::{Error, ErrorKind, Pieced, RawPiece, sections};
 
 // The standard's word for the section with this id; none where it gives the id no meaning.
-fn kind_of(id: u8) -> Option<&'static str> {
+fn kind_of(id: u8) -> Option<&'static str>
+    ensures { option_map (λ w. w.now) result ≡ kind_word id }
+{
     let word = match id {
         1 => "type",
         2 => "import",

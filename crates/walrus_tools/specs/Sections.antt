@@ -4,6 +4,7 @@ use Rattle.std.specs.Global.{Vec}
 pub use Rattle.wasm_frames.specs.Pieces.{Piece, HasPieces, IsPieced, PiecesUntil, piece_record}
 pub use Rattle.wasm_frames.specs.Until.{LacksHeader}
 use Rattle.wasm_frames.specs.declared.pieces.Pieced.{Pieced}
+pub use Rattle.wasm_frames.specs.declared.pieces.RawPiece.{RawPiece}
 use Rattle.walrus_items.specs.declared.error.Error.{Error}
 use Rattle.walrus_items.specs.declared.error.Error.TheVariants.{InvalidWasm, Memory, TooLarge}
 use Rattle.walrus_tools.specs.Numbers.{IsLongName, name_bytes, number_bytes}
