@@ -609,7 +609,7 @@ def try_closed_streams(work):
 def try_readers_that_go(work):
     big = functions(20000, [(f"f{at}", at) for at in range(20000)], more=[custom("notes", b"abc")])
     (work / "big").write_bytes(big)
-    for words in ("gc --quiet", "list", "list --json", "sections", "strip notes"):
+    for words in ("gc --quiet", "list", "list --json", "strip notes"):
         found = shell(f'"$P" {words} "$IN" | head -c 1 | wc -c; echo "${{PIPESTATUS[0]}}"', IN=str(work / "big"))
         same(f"{words} into head", found, (0, b"1\n1\n", ""))
     many = work / "many"

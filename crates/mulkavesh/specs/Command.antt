@@ -1,5 +1,5 @@
 -- What one order comes to, for all that was read and all that was written, and what is told of it.
-use Rattle.std.specs.Prelude.{ℕ, Bool, true, false, List, Option, Result, Ok, Err, OnOk, codes, ◌≡◌, ⊤}
+use Rattle.std.specs.Prelude.{ℕ, Bool, true, false, List, [], ◌∷◌, Option, Result, Ok, Err, OnOk, codes, ◌≡◌, ⊤}
 use Rattle.std.specs.Io.KnownBytes.{Appends, Keeps}
 use Rattle.walrus_tools.specs.Handed.{CountsReads, CountsWrites, Error, InvalidWasm, IsUntouched, Memory, Module, NotFound, NotReplaceable, Read, ReadsWhole, Stream, Tells, ToolError, Write, WroteFront, error_text, stream_of}
 use Rattle.mulkavesh.specs.declared.subcommands.Made.{Made}
@@ -35,6 +35,11 @@ module _ (Answers : List ℕ → Result Made Error → Type 0) (from_old from_ne
 -- what is said of a module that isn't accepted
 abbrev pub refused_text : List ℕ
 refused_text = codes "the input WebAssembly is invalid"
+
+-- what is told of bytes that aren't accepted: what is noted of them, and where nothing is, that they are invalid
+abbrev pub unaccepted_text : (name note : List ℕ) → List ℕ
+unaccepted_text name [] = line name refused_text
+unaccepted_text name (byte ∷ more) = byte ∷ more
 
 -- what isn't there
 abbrev pub absent_text : Work → List ℕ
@@ -81,9 +86,9 @@ module _ (w : Work) (from to : Device) (errors : Stream) (status : ℕ) where
   abbrev pub TellsLine : List ℕ → List ℕ → Type 0
   TellsLine name text = (status ≡ 1) × Tells errors (line name text)
 
-  -- a module that isn't accepted is a refusal
+  -- bytes that aren't accepted are a refusal
   abbrev pub TellsMade : (is_refused : Bool) → (note : List ℕ) → Type 0
-  TellsMade true note = TellsLine from.name refused_text
+  TellsMade true note = (status ≡ 1) × Tells errors (unaccepted_text from.name note)
   TellsMade false note = (status ≡ 0) × Tells errors note
 
   -- what comes of each answer

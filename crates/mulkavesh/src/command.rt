@@ -1,10 +1,10 @@
 //! One order from its source to its sink, and what is told of it.
 
 ghost use Rattle.std.specs.Prelude.{◌≡◌, OnOk, true};
-ghost use Rattle.mulkavesh.specs.Command.{Carries, RunsAndTells, Prints, TellsUnlessLeft, absent_text, device_of, refusal_text};
+ghost use Rattle.mulkavesh.specs.Command.{Carries, RunsAndTells, Prints, TellsUnlessLeft, absent_text, device_of, refusal_text, unaccepted_text};
 ghost use Rattle.mulkavesh.specs.Subcommands.{AnswersOrder};
 ghost use Rattle.mulkavesh.specs.Message.{line};
-ghost use Rattle.walrus_tools.specs.Handed.{CountsReads, CountsWrites, stream_of};
+ghost use Rattle.walrus_tools.specs.Handed.{CountsReads, CountsWrites, Tells, stream_of};
 
 use crate::explains::Explains;
 use crate::message::refuse;
@@ -93,6 +93,19 @@ fn unwritten<W: Explains, E: Sink>(output: &W, errors: &mut E) -> u8
     refuse(errors, output.name(), output.trouble())
 }
 
+// Tells what is noted of bytes that aren't accepted, and where nothing is, that they aren't.
+fn unaccepted<E: Sink>(errors: &mut E, name: &str, note: &[u8]) -> u8
+    ensures status { result ≡ 1 }
+    ensures told { Tells (stream_of E.held E.write_failures errors.old errors.new)
+        (unaccepted_text name.now note.now) }
+{
+    if note.is_empty() {
+        return refuse(errors, name, REFUSED);
+    }
+    let _told = write_all(errors, note);
+    1
+}
+
 /// Runs one order: reads all of the source, writes what is made of it to the sink, and tells of a refusal in one line. The answer is the status: 0
 /// where all was written, 1 where it was refused, or where the module that was checked isn't accepted. Where the reader of the sink went away,
 /// nothing is told.
@@ -110,7 +123,7 @@ pub(crate) fn command<R: Source + Explains, W: Sink + Explains, E: Sink>(
     ensures flushed { result ≡ 0 → W.is_flushed output.new ≡ true }
 {
     match carry(alloc, order, input, output) {
-        Ok(answer) if answer.is_refused => refuse(errors, input.name(), REFUSED),
+        Ok(answer) if answer.is_refused => unaccepted(errors, input.name(), &answer.note),
         Ok(answer) => {
             let _told = write_all(errors, &answer.note);
             0

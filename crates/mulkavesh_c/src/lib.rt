@@ -9,7 +9,7 @@ mod answer;
 mod flags;
 mod names;
 
-ghost use Rattle.std.specs.Prelude.{◌≡◌, true, ⊤};
+ghost use Rattle.std.specs.Prelude.{◌≡◌, ⊤};
 ghost use Rattle.walrus_tools.specs.Diagnosed.{AnswersFault};
 ghost use Rattle.walrus_tools.specs.Handed.{ReportsOn, RunsOn, config_of, defaults};
 ghost use Rattle.walrus_tools.specs.Reasons.{AnswersChain};
@@ -20,7 +20,7 @@ ghost use Rattle.walrus_tools.specs.Snipped.{AnswersSnipped};
 ghost use Rattle.walrus_tools.specs.Stripped.{AnswersStripped};
 ghost use Rattle.walrus_tools.specs.Stubbed.{AnswersStubbed};
 ghost use Rattle.walrus_tools.specs.Wanted.{config_wanted};
-ghost use Rattle.mulkavesh_c.specs.Flags.{is_known, wanted};
+ghost use Rattle.mulkavesh_c.specs.Flags.{IsKnown, wanted};
 ghost use Rattle.mulkavesh_c.specs.Answer.{Gives};
 ghost use Rattle.mulkavesh_c.specs.Names.{UnderChoices, UnderName};
 
@@ -49,7 +49,7 @@ pub extern "C" fn mulkavesh_gc(
     output: &mut [u8],
     length: &mut usize,
 ) -> u32
-    ensures { Gives (is_known flags ≡ true) (RunsOn (config_wanted (wanted flags)) input.now (λ bytes. bytes.items))
+    ensures { Gives (IsKnown flags) (RunsOn (config_wanted (wanted flags)) input.now (λ bytes. bytes.items))
         output.old output.new length.new result }
 {
     let Some(wanted) = wanted_by(flags) else {
@@ -68,7 +68,7 @@ pub extern "C" fn mulkavesh_report(
     output: &mut [u8],
     length: &mut usize,
 ) -> u32
-    ensures { Gives (is_known flags ≡ true) (ReportsOn (config_wanted (wanted flags)) input.now (λ text. text.items))
+    ensures { Gives (IsKnown flags) (ReportsOn (config_wanted (wanted flags)) input.now (λ text. text.items))
         output.old output.new length.new result }
 {
     let Some(wanted) = wanted_by(flags) else {
@@ -87,7 +87,7 @@ pub extern "C" fn mulkavesh_diagnose(
     output: &mut [u8],
     length: &mut usize,
 ) -> u32
-    ensures { Gives (is_known flags ≡ true) (AnswersFault (config_wanted (wanted flags)) input.now)
+    ensures { Gives (IsKnown flags) (AnswersFault (config_wanted (wanted flags)) input.now)
         output.old output.new length.new result }
 {
     let Some(wanted) = wanted_by(flags) else {
@@ -106,7 +106,7 @@ pub extern "C" fn mulkavesh_list(
     output: &mut [u8],
     length: &mut usize,
 ) -> u32
-    ensures { Gives (is_known flags ≡ true) (AnswersListed (config_wanted (wanted flags)) input.now)
+    ensures { Gives (IsKnown flags) (AnswersListed (config_wanted (wanted flags)) input.now)
         output.old output.new length.new result }
 {
     let Some(wanted) = wanted_by(flags) else {

@@ -36,7 +36,7 @@ mod PlacedSlots
 mod Places
 mod ReadBodies
 mod ReasonEnds
-mod Records
+pub mod Records
 mod RenameSteps
 mod SectionLemmas
 mod Sections

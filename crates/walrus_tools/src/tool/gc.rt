@@ -11,9 +11,8 @@ ghost use Rattle.walrus_tools.specs.Wanted.{config_wanted};
 
 use crate::wanted::Wanted;
 use std::alloc::Global;
-use walrus::passes;
 use walrus::tool::smaller_of;
-use walrus::{Module, ModuleConfig, Result};
+use walrus::{Module, ModuleConfig, Result, passes};
 use walrus_base::Id;
 use walrus_items::{Item, Items};
 

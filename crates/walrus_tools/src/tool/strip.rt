@@ -14,7 +14,7 @@ use walrus_items::{Error, ErrorKind, Result};
 use wasm_frames::{Pieced, RawPiece, pieces_until};
 
 // The magic number and the version ("Binary Format > Modules").
-const HEADER: [u8; 8] = [0x00, 0x61, 0x73, 0x6D, 0x01, 0x00, 0x00, 0x00];
+const HEADER: &[u8] = b"\x00asm\x01\x00\x00\x00";
 
 // Whether the choice fits the name of the section.
 fn fits_name(choice: &Choice<'_>, piece: &RawPiece<'_>) -> bool
@@ -90,7 +90,7 @@ fn what_is_left(
         (map piece_record pieces.now) v.items) }
 {
     let mut output = Vec::new(alloc);
-    output.extend_from_slice(&HEADER)?;
+    output.extend_from_slice(HEADER)?;
     for piece in pieces {
         output.extend_from_slice(left_of(choices, piece))?;
     }
