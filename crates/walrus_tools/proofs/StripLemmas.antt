@@ -45,8 +45,8 @@ none_at_all choice pieces i past none = (λ h. absurd (untrue h), λ found. absu
 
 -- ---- all choices
 
-pub met_kept : (pieces : List Piece) (choice : Choice) → choice.is_kept ≡ true → (true ≡ true) ↔ IsMet pieces choice
-met_kept pieces choice is = (λ h. λ goes. absurd (untrue (sym goes ∙ is)), λ h. refl)
+pub met_kept : (pieces : List Piece) (choice : Choice) → choice.is_kept ≡ true → (choice.is_kept ≡ true) ↔ IsMet pieces choice
+met_kept pieces choice is = (λ h. λ goes. absurd (untrue (sym goes ∙ is)), λ h. is)
 
 pub met_fits : (pieces : List Piece) (choice : Choice) (fits : Bool) → choice.is_kept ≡ false → (fits ≡ true) ↔ FitsSection pieces choice → (fits ≡ true) ↔ IsMet pieces choice
 met_fits pieces choice fits is iff = (λ h. λ goes. iff.0 h, λ h. iff.1 (h is))

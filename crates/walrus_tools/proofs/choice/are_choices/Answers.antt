@@ -8,7 +8,7 @@ pub returns-in_default : goal.returns-in_default
 returns-in_default c = list_none c.args.bytes.now c.records.left.now c.records.invariant (are_left c.records.left.now c.is_empty.result c.is_empty.ensures c.records-test.true) c.in_default.ensures
 
 pub records-preserved : goal.records-preserved
-records-preserved c = list_next c.args.bytes.now c.records.left.now c.in-Some.behind.now (choice_seen c.in-Some.choice) c.in-Some.ensures c.records.invariant
+records-preserved c = list_next c.args.bytes.now c.records.left.now c.in-Some.behind.now (choice_seen c.in-Some._choice) c.in-Some.ensures c.records.invariant
 
 pub returns : goal.returns
 returns c =

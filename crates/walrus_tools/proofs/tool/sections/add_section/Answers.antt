@@ -7,7 +7,7 @@ use Rattle.walrus_tools.proofs.tool.sections.add_section.Goals as goal
 
 pub returns-in_err-start-clause-refused : goal.returns-in_err-start-clause-refused
 returns-in_err-start-clause-refused c =
-    let p = err_from_is_err_and c.from_residual-in_err-start.result c.from_residual-in_err-start.ensures.1 in
+    let p = err_from_is_err_and c.from_residual.result c.from_residual.ensures.1 in
     rw (p.1, p.2) (long_start (piece_record c.args.piece) _ c.in_err-start.ensures.refused)
 
 pub returns-in_err-size-clause-refused : goal.returns-in_err-size-clause-refused
@@ -18,8 +18,8 @@ returns-in_err-size-clause-refused c =
 pub returns-clause-value : goal.returns-clause-value
 returns-clause-value c =
     on_ok_weaker c.add_name.result
-    (section_joined (piece_record c.args.piece) c.in_ok-start.start c.in_ok-size.size c.counted.result.0 c.counted.result.1
-    c.in_ok-start.ensures.value c.in_ok-size.ensures.value (ap (λ (p : ℕ × ℕ). p.0) c.counted.ensures) (ap (λ (p : ℕ × ℕ). p.1) c.counted.ensures)
+    (section_joined (piece_record c.args.piece) c.in_ok-start.start c.in_ok-size.size c.counted-is_counted.result.0 c.counted-is_counted.result.1
+    c.in_ok-start.ensures.value c.in_ok-size.ensures.value (ap (λ (p : ℕ × ℕ). p.0) c.counted-is_counted.ensures) (ap (λ (p : ℕ × ℕ). p.1) c.counted-is_counted.ensures)
     _ _ _ _ _ _ _ c.in_ok-push.ensures.items c.in_ok-push-2.ensures.items c.in_ok-add_number.ensures c.in_ok-add_number-2.ensures c.in_ok-add_number-3.ensures)
     c.add_name.ensures.value
 

@@ -1,10 +1,10 @@
-use Rattle.std.proofs.Common.{append-nil, sym}
+use Rattle.std.proofs.Common.{append-nil, arith, sym}
 use Rattle.std.proofs.lemmas.Result.{err_from_is_err_and}
 use Rattle.walrus_tools.proofs.SectionLemmas.{none_long, none_more, one_long, section_more, sections_all}
 use Rattle.walrus_tools.proofs.tool.sections.add_sections.Goals as goal
 
 pub loop-piece-init : goal.loop-piece-init
-loop-piece-init c = (sym (append-nil c.args.to.now.items), tt)
+loop-piece-init c = (sym (append-nil c.args.to.now.items), λ k d below. absurd (omega (arith, below)))
 
 pub loop-piece-preserved : goal.loop-piece-preserved
 loop-piece-preserved c = (

@@ -6,7 +6,7 @@ use Rattle.walrus_tools.proofs.tool.sections.told.Goals as goal
 
 pub returns-in_err-end-clause-refused : goal.returns-in_err-end-clause-refused
 returns-in_err-end-clause-refused c =
-    let p = err_from_is_err_and c.from_residual-in_err-end.result c.from_residual-in_err-end.ensures.1 in
+    let p = err_from_is_err_and c.from_residual.result c.from_residual.ensures.1 in
     rw (p.1, p.2) (long_place c.args.place (map piece_record c.args.pieces.now) _ c.in_err-end.ensures.refused)
 
 pub returns-in_err-add_sections-clause-refused : goal.returns-in_err-add_sections-clause-refused
