@@ -119,9 +119,9 @@ uint32_t mulkavesh_list(const uint8_t *input, size_t input_length, uint32_t flag
 
 /* What sections stand in the bytes, by their framing alone: an id, a size and so many bytes, which in a custom section begin with its name in UTF-8. What else
  * stands in them, and in which order they come, isn't looked at. First a byte, which is 1 where sections reach the end of the input and else 0, and the place where
- * they end, which is then that of the first byte that no section begins. Behind that for each section its id, a byte; a byte that is 1 where a count of entries stands
- * in front of its content and else 0; the place of its id; how many bytes all of it has; the count of its entries, 0 where none stands; the length of the name of
- * a custom section, or MULKAVESH_NO_NAME of others; and the name. Places, counts and lengths are numbers of 32 bits, little-endian, and places are in bytes from the
+ * they end: the length of the input, or where no section stands. Behind that for each section its id, a byte; a byte that is 1 where a count of entries stands in
+ * front of its content and else 0; the place of its id; how many bytes all of it has; the count of its entries, 0 where none stands; the length of the name of a
+ * custom section, or MULKAVESH_NO_NAME of others; and the name. Places, counts and lengths are numbers of 32 bits, little-endian, and places are in bytes from the
  * start. MULKAVESH_INVALID exactly where the magic number and the version don't stand in front; MULKAVESH_TOO_LARGE where a number passes 32 bits. */
 uint32_t mulkavesh_sections(const uint8_t *input, size_t input_length, uint8_t *output, size_t room, size_t *length);
 

@@ -269,7 +269,7 @@ class Refusals(unittest.TestCase):
                 with self.subTest(name, module=bytes(module)):
                     if name == "diagnose":
                         self.assertIsNotNone(call(module))
-                    elif name == "sections" and module.startswith(worked.HEADER):
+                    elif name == "sections" and bytes(module).startswith(worked.HEADER):
                         self.assertFalse(call(module).whole)
                     else:
                         self.assertRaises(InvalidModule, call, module)

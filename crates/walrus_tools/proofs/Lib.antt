@@ -39,7 +39,7 @@ mod ReasonEnds
 pub mod Records
 mod RenameSteps
 mod SectionLemmas
-mod Sections
+mod SectionsWritten
 mod SizeEnds
 mod SizeLemmas
 mod SnipCall
