@@ -38,7 +38,7 @@ pub use tool::report::report;
 pub use tool::snip::snip;
 pub use tool::strip::strip;
 pub use tool::stub::stub;
-pub use tool::why::why;
+pub use tool::why::{why, why_called};
 pub use walrus::Error;
 pub use walrus::tool::{
     DeviceFailed, FromWrite, ReadAllError, Sink, Source, ToolError, read_all, write_all,

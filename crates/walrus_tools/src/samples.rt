@@ -17,7 +17,7 @@ use crate::tool::report::report;
 use crate::tool::snip::snip;
 use crate::tool::strip::strip;
 use crate::tool::stub::stub;
-use crate::tool::why::why;
+use crate::tool::why::{why, why_called};
 use crate::wanted::Wanted;
 use std::alloc::Global;
 use std::test::Fail;
@@ -405,7 +405,7 @@ fn a_type_is_added(rt: HostRuntime) -> std::result::Result<(), Fail> {
     )
 }
 
-// ---- why_with_sizes, why
+// ---- why_with_sizes, why, why_called
 
 // Fails where the answer isn't this text.
 fn demand_text(answer: Result<String>, expected: &str) -> std::result::Result<(), Fail> {
@@ -434,6 +434,12 @@ fn a_chain_stands_alone(rt: HostRuntime) -> std::result::Result<(), Fail> {
     let bytes = bytes_of(rt.alloc(), TWO)?;
     demand_text(why(rt.alloc(), &bytes, 1), "function 1\n")?;
     demand_text(why(rt.alloc(), &bytes, 0), "function 0 isn't reached\n")
+}
+
+#[test]
+fn a_chain_stands_under_a_name(rt: HostRuntime) -> std::result::Result<(), Fail> {
+    let bytes = bytes_of(rt.alloc(), TWO)?;
+    demand_text(why_called(rt.alloc(), &bytes, "f"), "function 1\n")
 }
 
 // ---- find
