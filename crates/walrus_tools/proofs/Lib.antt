@@ -21,6 +21,7 @@ mod ListedEnds
 mod ListedReached
 mod ListedWritten
 mod Matched
+mod MeantThere
 mod MetadataEnds
 mod MovesEnds
 mod MovesOnce

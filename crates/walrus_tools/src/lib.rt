@@ -20,6 +20,7 @@ mod traps;
 mod wanted;
 
 pub use examples::count_calls::count_calls;
+pub use examples::find::find;
 pub use examples::keep_listed::keep_listed;
 pub use examples::moves::moves;
 pub use examples::rename_export::rename_export;
@@ -30,7 +31,6 @@ pub use examples::with_metadata::with_metadata;
 pub use examples::with_places::with_places;
 pub use law::moves_once;
 pub use tool::diagnose::{diagnose, fault, fault_words};
-pub use tool::find::find;
 pub use tool::gc::gc;
 pub use tool::gc_counted::{Kinds, Smaller, gc_counted};
 pub use tool::list::{NO_NAME, list};

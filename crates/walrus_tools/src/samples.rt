@@ -1,6 +1,7 @@
 //! Each caller on a small module, whose bytes were worked out by hand.
 
 use crate::examples::count_calls::count_calls;
+use crate::examples::find::find;
 use crate::examples::keep_listed::keep_listed;
 use crate::examples::moves::moves;
 use crate::examples::rename_export::rename_export;
@@ -10,7 +11,6 @@ use crate::examples::with_export::with_export;
 use crate::examples::with_metadata::with_metadata;
 use crate::examples::with_places::with_places;
 use crate::tool::diagnose::fault;
-use crate::tool::find::find;
 use crate::tool::gc::gc;
 use crate::tool::list::list;
 use crate::tool::report::report;
