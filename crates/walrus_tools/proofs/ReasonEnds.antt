@@ -128,7 +128,7 @@ module _ {V : Type 0} {O : V → Type 0} (G : (v : V) → Ghosts (O v)) (c : Con
     module _ (n : ℕ) (n_is : n ≡ function) (there : IsSome (item_at (functions read.funcs) function)) where
       -- a chain leads to it, or none does
       module _ (chain : Option (List Item)) (found : Explains (view G read) (function_item n) chain) where
-        explains : Explains (with_customs (view G read).customs (contents_of read)) (function_item function) chain
+        pub explains : Explains (with_customs (view G read).customs (contents_of read)) (function_item function) chain
         explains = subst (λ (v : Abstract). Explains v (function_item function) chain) (plain_read G IsSame Lacks c bytes read parsed) (subst (λ (k : ℕ). Explains (view G read) (function_item k) chain) n_is found)
 
         abbrev pub chain_told : (text : List ℕ) → text ≡ chain_text (function_item n) chain → IsChain c bytes function text
