@@ -123,11 +123,6 @@ abbrev pub MeansNone : Config → (bytes word : List ℕ) → Answer → Type 0
 MeansNone c bytes word (Ok answer) = ⊥
 MeansNone c bytes word (Err e) = ((i : ℕ) → IsIndex word i → ⊥) × AnswersFound c bytes word (Err e)
 
--- the function that is meant, or why there is none
-abbrev pub FindsMeant : Config → (bytes word : List ℕ) → Result ℕ Error → Type 0
-FindsMeant c bytes word (Ok function) = Means c bytes word function
-FindsMeant c bytes word (Err e) = MeansNone c bytes word (Err e)
-
 -- the chain to the function that is meant
 abbrev pub AnswersWhy : Config → (bytes word : List ℕ) → Answer → Type 0
 AnswersWhy c bytes word answer = ((function : ℕ) × Means c bytes word function × AnswersChain c bytes function vec_bytes answer) ⊎ MeansNone c bytes word answer

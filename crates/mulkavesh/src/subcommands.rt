@@ -2,7 +2,7 @@
 
 ghost use Rattle.std.specs.Prelude.{◌≡◌, ◌∷◌, [], false};
 ghost use Rattle.mulkavesh.specs.Entries.{TellsList};
-ghost use Rattle.mulkavesh.specs.Subcommands.{AnswersOrder, AnswersText, AnswersWhy, FindsMeant, IsSame, NotesNothing, Writes, WritesQuietly, named, operand_bytes, vec_bytes};
+ghost use Rattle.mulkavesh.specs.Subcommands.{AnswersOrder, AnswersText, AnswersWhy, IsSame, NotesNothing, Writes, WritesQuietly, named, operand_bytes, vec_bytes};
 ghost use Rattle.walrus_tools.specs.Handed.{ReportsOn, RunsOn, config_of, defaults};
 ghost use Rattle.walrus_tools.specs.Sized.{AnswersListed};
 ghost use Rattle.walrus_tools.specs.Stripped.{AnswersStripped};
@@ -13,7 +13,7 @@ use crate::order::{Order, Work};
 use crate::{chains, entries, reports, sections, verdicts};
 use std::alloc::Global;
 use walrus_tools::{
-    Choice, Error, Wanted, find, gc, gc_counted, list, report, snip, strip, stub, why,
+    Choice, Error, Wanted, gc, gc_counted, list, report, snip, strip, stub, why, why_called,
 };
 
 /// What a subcommand makes.
@@ -132,19 +132,19 @@ fn reasoned(alloc: Global, order: &Order, bytes: &[u8], operand: &str) -> Result
     ensures { AnswersText order.now.is_json IsSame
         (AnswersWhy (config_of defaults) bytes.now operand.now) result }
 {
-    let text = why(alloc, bytes, function_of(alloc, bytes, operand)?)?.into_bytes();
+    let text = chain_of(alloc, bytes, operand)?;
     if order.is_json {
         return Ok(chains::json(alloc, &text)?);
     }
     Ok(text)
 }
 
-// The function that is meant: an index, or else a name, or else that of an export.
-fn function_of(alloc: Global, bytes: &[u8], operand: &str) -> Result<u32, Error>
-    ensures { FindsMeant (config_of defaults) bytes.now operand.now result }
+// A chain to the function that is meant: by its index, or else by a name, its own or that of an export.
+fn chain_of(alloc: Global, bytes: &[u8], operand: &str) -> Result<Vec<u8>, Error>
+    ensures { AnswersWhy (config_of defaults) bytes.now operand.now result }
 {
     match operand.parse::<u32>() {
-        Ok(index) => Ok(index),
-        Err(_) => find(alloc, bytes, operand),
+        Ok(index) => Ok(why(alloc, bytes, index)?.into_bytes()),
+        Err(_) => Ok(why_called(alloc, bytes, operand)?.into_bytes()),
     }
 }

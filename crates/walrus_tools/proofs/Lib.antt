@@ -24,6 +24,7 @@ mod ListedEnds
 mod ListedReached
 mod ListedWritten
 mod Matched
+mod MeantThere
 mod MetadataEnds
 mod MovesEnds
 mod MovesOnce

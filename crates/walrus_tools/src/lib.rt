@@ -28,6 +28,7 @@ mod wanted;
 
 pub use choice::{Choice, are_choices, goes, read_choices};
 pub use examples::count_calls::count_calls;
+pub use examples::find::find;
 pub use examples::keep_listed::keep_listed;
 pub use examples::moves::moves;
 pub use examples::rename_export::rename_export;
@@ -39,7 +40,6 @@ pub use examples::with_places::with_places;
 pub use law::moves_once;
 pub use numbers::NO_NAME;
 pub use tool::diagnose::{diagnose, fault, fault_words};
-pub use tool::find::find;
 pub use tool::gc::gc;
 pub use tool::gc_counted::{Kinds, Smaller, gc_counted};
 pub use tool::list::list;
@@ -48,7 +48,7 @@ pub use tool::sections::{section_list, sections};
 pub use tool::snip::snip;
 pub use tool::strip::strip;
 pub use tool::stub::stub;
-pub use tool::why::why;
+pub use tool::why::{why, why_called};
 pub use walrus::tool::{
     DeviceFailed, FromWrite, ReadAllError, Sink, Source, ToolError, read_all, write_all,
 };

@@ -1,6 +1,7 @@
 //! Each caller on a small module, whose bytes were worked out by hand.
 
 use crate::examples::count_calls::count_calls;
+use crate::examples::find::find;
 use crate::examples::keep_listed::keep_listed;
 use crate::examples::moves::moves;
 use crate::examples::rename_export::rename_export;
@@ -10,13 +11,12 @@ use crate::examples::with_export::with_export;
 use crate::examples::with_metadata::with_metadata;
 use crate::examples::with_places::with_places;
 use crate::tool::diagnose::fault;
-use crate::tool::find::find;
 use crate::tool::gc::gc;
 use crate::tool::list::list;
 use crate::tool::report::report;
 use crate::tool::snip::snip;
 use crate::tool::stub::stub;
-use crate::tool::why::why;
+use crate::tool::why::{why, why_called};
 use crate::wanted::Wanted;
 use std::alloc::Global;
 use std::test::Fail;
@@ -384,7 +384,7 @@ fn a_type_is_added(rt: HostRuntime) -> std::result::Result<(), Fail> {
     )
 }
 
-// ---- why_with_sizes, why
+// ---- why_with_sizes, why, why_called
 
 // Fails where the answer isn't this text.
 fn demand_text(answer: Result<String>, expected: &str) -> std::result::Result<(), Fail> {
@@ -413,6 +413,12 @@ fn a_chain_stands_alone(rt: HostRuntime) -> std::result::Result<(), Fail> {
     let bytes = bytes_of(rt.alloc(), TWO)?;
     demand_text(why(rt.alloc(), &bytes, 1), "function 1\n")?;
     demand_text(why(rt.alloc(), &bytes, 0), "function 0 isn't reached\n")
+}
+
+#[test]
+fn a_chain_stands_under_a_name(rt: HostRuntime) -> std::result::Result<(), Fail> {
+    let bytes = bytes_of(rt.alloc(), TWO)?;
+    demand_text(why_called(rt.alloc(), &bytes, "f"), "function 1\n")
 }
 
 // ---- find

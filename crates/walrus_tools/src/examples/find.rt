@@ -1,23 +1,12 @@
 //! What a developer knows a function by: its name, or that of an export.
 
-ghost use Rattle.walrus_items.specs.Exports.{exports};
-ghost use Rattle.walrus_items.specs.Functions.{functions};
 ghost use Rattle.walrus_module.specs.Flags.{config_of, defaults};
-ghost use Rattle.walrus_tools.specs.Found.{AnswersFound, FindsCalled};
+ghost use Rattle.walrus_tools.specs.Found.{AnswersFound};
 
+use crate::functions::function_called;
 use crate::numbers::narrow;
 use std::alloc::Global;
-use walrus::{FunctionId, Module, ModuleExports, ModuleFunctions, Result};
-
-// The first function of this name, or else the first that is exported under it.
-fn called(all: &ModuleFunctions, exported: &ModuleExports, name: &str) -> Result<FunctionId>
-    ensures { FindsCalled name.now (functions all.now) (exports exported.now) result }
-{
-    match all.by_name(name) {
-        Some(id) => Ok(id),
-        None => exported.get_func(name),
-    }
-}
+use walrus::{Module, Result};
 
 /// The index of the function that is meant by this name: of the functions that have it in the name section the first, or else of the exports
 /// that name a function the first.
@@ -30,6 +19,6 @@ pub fn find(alloc: Global, bytes: &[u8], name: &str) -> Result<u32>
     ensures { AnswersFound (config_of defaults) bytes.now name.now result }
 {
     let module = Module::from_buffer(alloc, bytes)?;
-    let id = called(&module.funcs, &module.exports, name)?;
+    let id = function_called(&module.funcs, &module.exports, name)?;
     narrow(id.index())
 }
