@@ -61,7 +61,7 @@ enum {
 enum {
   /* Nothing: the bytes are accepted. The second number is 0. */
   MULKAVESH_FAULT_NONE = 0,
-  /* The bytes don't begin as a WebAssembly module. The second number is 0. */
+  /* The bytes don't begin as a WebAssembly module. The second number says what they begin as. */
   MULKAVESH_FAULT_HEADER = 1,
   /* No well-formed section stands at a byte. The second number is its place from the start of the input; whole sections stand up to there. */
   MULKAVESH_FAULT_SECTION = 2,
@@ -70,6 +70,32 @@ enum {
   /* The body of a function isn't made of allowed instructions, well nested, with declared indices. The second number is the function's index,
    * where imported ones come first; the bodies before it are well made. */
   MULKAVESH_FAULT_BODY = 4
+};
+
+/* What bytes begin as that don't begin as a module: the second number that mulkavesh_diagnose tells behind MULKAVESH_FAULT_HEADER. */
+enum {
+  /* None of these: the bytes don't begin as a WebAssembly module. */
+  MULKAVESH_BEGINS_OTHER = 0,
+  /* The bytes don't begin as a WebAssembly module: there are none. */
+  MULKAVESH_BEGINS_EMPTY = 1,
+  /* The bytes don't begin as a WebAssembly module: they end within the header. */
+  MULKAVESH_BEGINS_CUT = 2,
+  /* The bytes don't begin as a WebAssembly module: they are compressed by gzip. */
+  MULKAVESH_BEGINS_GZIP = 3,
+  /* The bytes don't begin as a WebAssembly module: they are a zip archive. */
+  MULKAVESH_BEGINS_ZIP = 4,
+  /* The bytes don't begin as a WebAssembly module: they are compressed by zstd. */
+  MULKAVESH_BEGINS_ZSTD = 5,
+  /* The bytes don't begin as a WebAssembly module: they are an ELF file. */
+  MULKAVESH_BEGINS_ELF = 6,
+  /* The bytes don't begin as a WebAssembly module: they are LLVM bitcode. */
+  MULKAVESH_BEGINS_BITCODE = 7,
+  /* The bytes don't begin as a WebAssembly module: they are WebAssembly text, not binary. */
+  MULKAVESH_BEGINS_TEXT = 8,
+  /* The bytes don't begin as a WebAssembly module: they are a component, not a module. */
+  MULKAVESH_BEGINS_COMPONENT = 9,
+  /* The bytes don't begin as a WebAssembly module: they have another version. */
+  MULKAVESH_BEGINS_OTHER_VERSION = 10
 };
 
 /* The rules on the whole: the second number that mulkavesh_diagnose tells behind MULKAVESH_FAULT_RULE. */

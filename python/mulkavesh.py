@@ -26,7 +26,7 @@ from dataclasses import dataclass
 from typing import Any, Dict, Iterable, Iterator, List, Optional, Tuple, Type, Union
 
 __all__ = [
-    "Fault", "FaultKind", "Function", "InvalidModule", "MulkaveshError", "NotFound", "Rule", "Section", "Sections", "TooLarge",
+    "Beginning", "Fault", "FaultKind", "Function", "InvalidModule", "MulkaveshError", "NotFound", "Rule", "Section", "Sections", "TooLarge",
     "diagnose", "gc", "list_functions", "report", "sections", "snip", "strip", "stub", "version", "why",
 ]
 
@@ -123,6 +123,22 @@ class FaultKind(enum.IntEnum):
     BODY = 4
 
 
+class Beginning(enum.IntEnum):
+    """What bytes begin as that don't begin as a module."""
+
+    OTHER = 0
+    EMPTY = 1
+    CUT = 2
+    GZIP = 3
+    ZIP = 4
+    ZSTD = 5
+    ELF = 6
+    BITCODE = 7
+    TEXT = 8
+    COMPONENT = 9
+    OTHER_VERSION = 10
+
+
 class Rule(enum.IntEnum):
     """A rule on the sections of a module as a whole."""
 
@@ -137,6 +153,21 @@ class Rule(enum.IntEnum):
     OFFSETS = 9
     LOCALS = 10
 
+
+# What is said of bytes that don't begin as a module, behind that they don't.
+_BEGINS: Dict[Beginning, str] = {
+    Beginning.OTHER: "",
+    Beginning.EMPTY: ": there are none",
+    Beginning.CUT: ": they end within the header",
+    Beginning.GZIP: ": they are compressed by gzip",
+    Beginning.ZIP: ": they are a zip archive",
+    Beginning.ZSTD: ": they are compressed by zstd",
+    Beginning.ELF: ": they are an ELF file",
+    Beginning.BITCODE: ": they are LLVM bitcode",
+    Beginning.TEXT: ": they are WebAssembly text, not binary",
+    Beginning.COMPONENT: ": they are a component, not a module",
+    Beginning.OTHER_VERSION: ": they have another version",
+}
 
 # What is said where a rule is broken.
 _BROKEN: Dict[Rule, str] = {
@@ -157,7 +188,7 @@ _BROKEN: Dict[Rule, str] = {
 class Fault:
     """What is wrong with bytes that are no module. `str` says it in plain words.
 
-    The number is 0 for the header; for a section the place, in bytes from the start, where none stands; for a rule the `Rule` that is broken;
+    The number is for the header the `Beginning` that stands there; for a section the place, in bytes from the start, where none stands; for a rule the `Rule` that is broken;
     and for a body the index of its function, where imported ones come first.
     """
 
@@ -166,7 +197,7 @@ class Fault:
 
     def __str__(self) -> str:
         if self.kind == FaultKind.HEADER:
-            return "the bytes don't begin as a WebAssembly module"
+            return f"the bytes don't begin as a WebAssembly module{_BEGINS[Beginning(self.number)]}"
         if self.kind == FaultKind.SECTION:
             return f"no well-formed section stands at byte {self.number} (0x{self.number:X})"
         if self.kind == FaultKind.RULE:
@@ -288,6 +319,8 @@ def _fault_of(told: bytes) -> Optional[Fault]:
     kind, number = _FAULT.unpack(told)
     if kind == 0:
         return None
+    if kind == FaultKind.HEADER:
+        return Fault(FaultKind.HEADER, Beginning(number))
     return Fault(FaultKind(kind), Rule(number) if kind == FaultKind.RULE else number)
 
 

@@ -52,15 +52,19 @@ export interface Sections {
 /** NAMEs of custom sections, in which `*` stands for any bytes, also for none, and `\*` for a star. */
 export type Names = string | Bytes | readonly (string | Bytes)[];
 
+/** What bytes begin as that don't begin as a module. */
+export type Beginning = 'empty' | 'cut' | 'gzip' | 'zip' | 'zstd' | 'elf' | 'bitcode' | 'text' | 'component' | 'other version';
+
 /** A rule on the sections of a module as a whole. */
 export type Rule = 'Order' | 'Types' | 'Indices' | 'FunctionTypes' | 'Limits' | 'Counts' | 'ExportNames' | 'Start' | 'Offsets' | 'Locals';
 
 /**
- * What is wrong with bytes that are no module: the header; the place, in bytes from the start, where no section stands; the rule that is broken; or the index of
- * a function whose body isn't well made, where imported ones come first. `text` says it in plain words.
+ * What is wrong with bytes that are no module: the header, with what stands there in its place, or null where that isn't known; the place, in bytes from the
+ * start, where no section stands; the rule that is broken; or the index of a function whose body isn't well made, where imported ones come first. `text` says
+ * it in plain words.
  */
 export type Fault =
-  | { kind: 'header'; text: string }
+  | { kind: 'header'; begins: Beginning | null; text: string }
   | { kind: 'section'; place: number; text: string }
   | { kind: 'rule'; rule: Rule; text: string }
   | { kind: 'body'; index: number; text: string };

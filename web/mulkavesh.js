@@ -220,10 +220,25 @@ const RULES = [
   ['Locals', 'a body declares more than 50,000 locals'],
 ];
 
+// What bytes begin as that don't begin as a module, by its number, and what is said of that.
+const BEGINNINGS = [
+  [null, ''],
+  ['empty', ': there are none'],
+  ['cut', ': they end within the header'],
+  ['gzip', ': they are compressed by gzip'],
+  ['zip', ': they are a zip archive'],
+  ['zstd', ': they are compressed by zstd'],
+  ['elf', ': they are an ELF file'],
+  ['bitcode', ': they are LLVM bitcode'],
+  ['text', ': they are WebAssembly text, not binary'],
+  ['component', ': they are a component, not a module'],
+  ['other version', ': they have another version'],
+];
+
 // What is wrong, by its kind and the number behind that.
 const FAULTS = [
   () => null,
-  () => ({ kind: 'header', text: "the bytes don't begin as a WebAssembly module" }),
+  (number) => ({ kind: 'header', begins: BEGINNINGS[number][0], text: `the bytes don't begin as a WebAssembly module${BEGINNINGS[number][1]}` }),
   (place) => ({ kind: 'section', place, text: `no well-formed section stands at byte ${place} (0x${place.toString(16).toUpperCase()})` }),
   (number) => ({ kind: 'rule', rule: RULES[number - 1][0], text: RULES[number - 1][1] }),
   (index) => ({ kind: 'body', index, text: `the body of function ${index} isn't made of allowed instructions, well nested, with declared indices` }),

@@ -2,6 +2,7 @@
 import base64
 import concurrent.futures
 import ctypes
+import gzip
 import hashlib
 import inspect
 import os
@@ -21,7 +22,7 @@ from unittest import mock
 
 import mulkavesh
 import packing
-from mulkavesh import Fault, FaultKind, Function, InvalidModule, MulkaveshError, NotFound, Rule, Section, Sections, TooLarge
+from mulkavesh import Beginning, Fault, FaultKind, Function, InvalidModule, MulkaveshError, NotFound, Rule, Section, Sections, TooLarge
 from tests import worked
 
 HERE = pathlib.Path(__file__).resolve().parent.parent
@@ -75,11 +76,14 @@ class Answers(unittest.TestCase):
         self.assertIsNone(mulkavesh.diagnose(worked.TWO))
         self.assertIsNone(mulkavesh.diagnose(worked.LEGACY))
         self.assertEqual(mulkavesh.diagnose(worked.LEGACY, legacy=False), Fault(FaultKind.BODY, 0))
-        self.assertEqual(mulkavesh.diagnose(b"no module"), Fault(FaultKind.HEADER, 0))
+        self.assertEqual(mulkavesh.diagnose(b"no module"), Fault(FaultKind.HEADER, Beginning.OTHER))
         self.assertEqual(mulkavesh.diagnose(worked.TWO + b"\0"), Fault(FaultKind.SECTION, len(worked.TWO)))
         found = mulkavesh.diagnose(worked.TWO[:-10])
         self.assertEqual(found, Fault(FaultKind.RULE, Rule.COUNTS))
         self.assertIsInstance(found and found.number, Rule)
+        found = mulkavesh.diagnose(gzip.compress(worked.TWO))
+        self.assertEqual(found, Fault(FaultKind.HEADER, Beginning.GZIP))
+        self.assertIsInstance(found and found.number, Beginning)
 
     def test_faults_that_were_worked_out(self) -> None:
         count = 0
@@ -455,7 +459,7 @@ class Declared(unittest.TestCase):
     def test_the_numbers_of_the_header(self) -> None:
         numbers = {name: int(number) for name, number in re.findall(r"MULKAVESH_(\w+) = (\d+)", HEADER.read_text(encoding="utf-8"))}
         wanted = {name: getattr(mulkavesh, f"_{name}") for name in ("NO_NAMES", "NO_PRODUCERS", "NO_LEGACY")}
-        for of_python, front in ((mulkavesh.Status, ""), (FaultKind, "FAULT_"), (Rule, "RULE_")):
+        for of_python, front in ((mulkavesh.Status, ""), (FaultKind, "FAULT_"), (Beginning, "BEGINS_"), (Rule, "RULE_")):
             wanted.update((front + name, member.value) for name, member in of_python.__members__.items())
         self.assertEqual(numbers, {**wanted, "FAULT_NONE": 0})
 

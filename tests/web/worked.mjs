@@ -85,11 +85,13 @@ function junk(size) {
 
 // The lines of tests/faults.txt: the options, the fault that is to be told, and the bytes.
 function faults() {
+  const begin = [null, 'empty', 'cut', 'gzip', 'zip', 'zstd', 'elf', 'bitcode', 'text', 'component', 'other version'];
   const rules = [, 'Order', 'Types', 'Indices', 'FunctionTypes', 'Limits', 'Counts', 'ExportNames', 'Start', 'Offsets', 'Locals'];
   const lines = readFileSync(new URL('../faults.txt', import.meta.url), 'utf8').split('\n').filter((it) => it !== '' && !it.startsWith('#'));
   return lines.map((line) => {
     const [numbers, digits, text] = line.split('|').map((it) => it.trim()), [flags, kind, which] = numbers.split(' ').map(Number);
-    const of = [null, { kind: 'header' }, { kind: 'section', place: which }, { kind: 'rule', rule: rules[which] }, { kind: 'body', index: which }][kind];
+    const header = { kind: 'header', begins: begin[which] };
+    const of = [null, header, { kind: 'section', place: which }, { kind: 'rule', rule: rules[which] }, { kind: 'body', index: which }][kind];
     const options = { names: !(flags & 1), producers: !(flags & 2), legacy: !(flags & 4) };
     return { options, fault: of && { ...of, text }, bytes: digits === '' ? new Uint8Array() : hex(digits) };
   });

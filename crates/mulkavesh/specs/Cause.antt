@@ -1,7 +1,7 @@
 -- Why an order isn't carried out, and what a refusal says: of invalid bytes also what is wrong with them, where that was found.
 use Rattle.std.specs.Prelude.{List, ◌++◌, ℕ, Option, Some, None, Result, Ok, Err, String, codes, string_bytes, ◌≡◌, ⊤}
 use Rattle.std.specs.declared.alloc.Global.{Global}
-use Rattle.walrus_tools.specs.Diagnosed.{Finds, fault_text}
+use Rattle.walrus_tools.specs.Diagnosed.{Finds, WordsFault}
 use Rattle.walrus_tools.specs.Handed.{Config, Error, Fault, InvalidWasm, Module, NotFound, NotReplaceable, Read, ToolError, Write, config_of, defaults, error_text}
 use Rattle.walrus_tools.specs.Wanted.{config_wanted}
 use Rattle.mulkavesh.specs.declared.cause.Cause.{Cause}
@@ -15,10 +15,6 @@ use Rattle.mulkavesh.specs.declared.order.Work.TheVariants as work
 -- what is said of a module that isn't accepted
 abbrev pub refused_text : List ℕ
 refused_text = codes "the input WebAssembly is invalid"
-
--- the same, and behind it what is wrong with the bytes
-abbrev pub with_fault : Fault → List ℕ
-with_fault fault = refused_text ++ (codes ": " ++ fault_text fault)
 
 -- what isn't there
 abbrev pub absent_text : Work → List ℕ
@@ -50,9 +46,13 @@ config_read_by _ wanted = wanted
 abbrev pub config_read : Order → Config
 config_read o = config_read_by o.work (config_wanted o.wanted)
 
--- the text says that the bytes are invalid, and behind it something that is wrong with them
-abbrev pub SaysFault : Config → (bytes : List ℕ) → (text : String Global) → Type 0
-SaysFault c bytes text = (fault : Fault) × Finds c bytes (Some fault) × (string_bytes text ≡ with_fault fault)
+-- the text says that the bytes are invalid, and behind it that this is wrong with them
+abbrev pub WordsRefusal : (bytes : List ℕ) → Fault → (text : List ℕ) → Type 0
+WordsRefusal bytes fault text = (words : List ℕ) × WordsFault bytes fault words × (text ≡ refused_text ++ (codes ": " ++ words))
+
+-- the same of something that is wrong with them
+abbrev pub SaysFault : Config → (bytes text : List ℕ) → Type 0
+SaysFault c bytes text = (fault : Fault) × Finds c bytes (Some fault) × WordsRefusal bytes fault text
 
 -- the error says that the bytes are invalid
 abbrev pub IsInvalid : Error → Type 0
@@ -61,7 +61,7 @@ IsInvalid _ = ⊥
 
 -- the same of bytes that are refused by this error
 abbrev pub SaysRefused : Config → (bytes : List ℕ) → Error → (text : String Global) → Type 0
-SaysRefused c bytes e text = IsInvalid e × SaysFault c bytes text
+SaysRefused c bytes e text = IsInvalid e × SaysFault c bytes (string_bytes text)
 
 -- ---- the answer, with the error alone
 

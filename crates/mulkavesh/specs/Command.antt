@@ -1,13 +1,12 @@
 -- What one order comes to, for all that was read and all that was written, and what is told of it.
-use Rattle.std.specs.Prelude.{ℕ, Bool, true, false, List, [], ◌∷◌, Option, Some, Result, Ok, Err, IfSome, OnOk, ◌≡◌, ◌⊎◌, ⊤}
+use Rattle.std.specs.Prelude.{ℕ, Bool, true, false, List, [], ◌∷◌, Option, Result, Ok, Err, IfSome, OnOk, ◌≡◌, ◌⊎◌, ⊤}
 use Rattle.std.specs.Io.KnownBytes.{Appends, Keeps}
-use Rattle.walrus_tools.specs.Diagnosed.{Finds}
-use Rattle.walrus_tools.specs.Handed.{Config, CountsReads, CountsWrites, Error, Fault, IsUntouched, Memory, Module, Read, ReadsWhole, Stream, Tells, ToolError, Write, WroteFront, stream_of}
+use Rattle.walrus_tools.specs.Handed.{Config, CountsReads, CountsWrites, Error, IsUntouched, Memory, Module, Read, ReadsWhole, Stream, Tells, ToolError, Write, WroteFront, stream_of}
 use Rattle.mulkavesh.specs.declared.cause.Cause.{Cause}
 use Rattle.mulkavesh.specs.declared.cause.Cause.TheVariants as cause
 use Rattle.mulkavesh.specs.declared.subcommands.Made.{Made}
 use Rattle.mulkavesh.specs.declared.order.Work.{Work}
-use Rattle.mulkavesh.specs.Cause.{IsInvalid, SaysRefused, refusal_text, refused_text, with_fault}
+use Rattle.mulkavesh.specs.Cause.{IsInvalid, SaysFault, SaysRefused, refusal_text, refused_text}
 use Rattle.mulkavesh.specs.Message.{line}
 
 -- ---- from the source to the sink
@@ -87,7 +86,7 @@ module _ (Answers : List ℕ → Result Made Error → Type 0) (w : Work) (c : C
   abbrev pub TellsFaultRead : Error → Type 0
   TellsFaultRead e = IsInvalid e
       × ((bytes : List ℕ) × ReadsAndMakes Answers from.stream.old from.stream.new to.stream.old to.stream.new bytes (Err e)
-      × ((fault : Fault) × Finds c bytes (Some fault) × TellsLine from.name (with_fault fault)))
+      × ((text : List ℕ) × SaysFault c bytes text × TellsLine from.name text))
 
   -- a line says why, and of invalid bytes also what is wrong with them, but where memory ran out while that was looked for
   abbrev pub TellsRefusal : Error → Type 0

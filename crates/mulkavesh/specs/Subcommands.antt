@@ -4,7 +4,7 @@ use Rattle.std.specs.Prelude.{ℕ, Bool, true, false, not, List, [], ◌∷◌, 
 use Rattle.std.specs.Global.{Vec}
 use Rattle.std.specs.declared.alloc.Global.{Global}
 use Rattle.std.specs.Str.Parse.{ParsesUnsigned}
-use Rattle.walrus_tools.specs.Diagnosed.{Finds, fault_text}
+use Rattle.walrus_tools.specs.Diagnosed.{Finds, WordsFault}
 use Rattle.walrus_tools.specs.Found.{AnswersFound, IsFound}
 use Rattle.walrus_tools.specs.Handed.{Config, Error, Fault, InvalidWasm, Memory, ReportsOn, RunsOn, config_of, defaults}
 use Rattle.walrus_tools.specs.Reasons.{AnswersChain}
@@ -69,10 +69,10 @@ IsSame bytes text = text ≡ bytes
 
 -- ---- check
 
--- the line of what was found
-abbrev pub verdict_text : Option Fault → List ℕ
-verdict_text None = codes "accepted\n"
-verdict_text (Some fault) = fault_text fault ++ codes "\n"
+-- the line of what was found in the bytes
+abbrev pub TellsVerdict : (bytes : List ℕ) → Option Fault → (text : List ℕ) → Type 0
+TellsVerdict bytes None text = text ≡ codes "accepted\n"
+TellsVerdict bytes (Some fault) text = (words : List ℕ) × WordsFault bytes fault words × (text ≡ words ++ codes "\n")
 
 -- nothing was found exactly where the bytes are accepted, and otherwise something that is wrong with them; the module is refused where something was
 -- found, and the text says what
@@ -80,7 +80,7 @@ pub record IsVerdict (c : Config) (bytes : List ℕ) (is_json is_refused : Bool)
   pub found : Option Fault
   pub finds : Finds c bytes found
   pub refused : is_refused ≡ is_some found
-  pub says : ForPeople is_json (text ≡ verdict_text found)
+  pub says : ForPeople is_json (TellsVerdict bytes found text)
 
 -- the verdict, and nothing is noted; or memory ran out
 abbrev pub Checks : Config → (bytes : List ℕ) → (is_json : Bool) → Result Made Error → Type 0

@@ -1,7 +1,7 @@
 //! Why an order isn't carried out, and what is said of that.
 
 ghost use Rattle.std.specs.Prelude.{◌≡◌, IfOk, IfSome, string_bytes};
-ghost use Rattle.mulkavesh.specs.Cause.{SaysFault, SaysRefused, absent_text, config_read, refusal_text, said_text, with_fault};
+ghost use Rattle.mulkavesh.specs.Cause.{SaysFault, SaysRefused, WordsRefusal, absent_text, config_read, refusal_text, said_text};
 ghost use Rattle.walrus_tools.specs.Wanted.{config_wanted};
 
 use crate::order::{Order, Work};
@@ -42,19 +42,19 @@ fn wanted_of(order: &Order) -> Wanted
 
 // What is said of bytes that are invalid, where memory suffices to find what is wrong with them.
 fn found_in(alloc: Global, bytes: &[u8], wanted: Wanted) -> Option<String>
-    ensures { IfSome result (SaysFault (config_wanted wanted) bytes.now) }
+    ensures { IfSome result (λ text. SaysFault (config_wanted wanted) bytes.now (string_bytes text)) }
 {
     match diagnose(alloc, bytes, wanted) {
-        Ok(Some(fault)) => worded(alloc, fault).ok(),
+        Ok(Some(fault)) => worded(alloc, fault, bytes).ok(),
         _ => None,
     }
 }
 
 // What is said of bytes that are invalid, and behind it what is wrong with them.
-fn worded(alloc: Global, fault: Fault) -> Result<String, AllocError>
-    ensures { IfOk result (λ text. string_bytes text ≡ with_fault fault) }
+fn worded(alloc: Global, fault: Fault, bytes: &[u8]) -> Result<String, AllocError>
+    ensures { IfOk result (λ text. WordsRefusal bytes.now fault (string_bytes text)) }
 {
-    let words = fault_words(alloc, fault)?;
+    let words = fault_words(alloc, fault, bytes)?;
     let mut text = String::from_str(alloc, REFUSED)?;
     text.push_str(": ")?;
     text.push_str(words.as_str())?;

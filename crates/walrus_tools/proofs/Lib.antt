@@ -14,6 +14,7 @@ mod EditEnds
 mod FaultEnds
 mod Finishing
 mod FoundEnds
+mod Fronts
 mod FunctionsThere
 mod HookEnds
 mod HookSteps
@@ -30,6 +31,7 @@ mod MovesEnds
 mod MovesOnce
 mod MovesRuns
 mod MovesTrue
+mod OneBeginning
 mod OneNumber
 mod PlacedEnds
 mod PlacedOps

@@ -1,3 +1,4 @@
+pub mod Beginnings
 pub mod Choice
 pub mod Comparing
 pub mod Count

@@ -7,6 +7,9 @@
 //! Main clause: `gc` in `src/tool/gc.rt`, with `RunsOn` (walrus): what a run makes of known bytes, or why it refuses them.
 #![tactic(auto)]
 
+mod beginnings;
+#[cfg(test)]
+mod beginnings_tests;
 mod calls;
 mod choice;
 #[cfg(test)]
@@ -26,6 +29,7 @@ mod tool;
 mod traps;
 mod wanted;
 
+pub use beginnings::{Beginning, beginning_of, has_one_beginning};
 pub use choice::{Choice, are_choices, goes, read_choices};
 pub use examples::count_calls::count_calls;
 pub use examples::find::find;

@@ -60,7 +60,7 @@ pub const MULKAVESH_NO_NAME: u32 = u32::MAX;
 /// Nothing is wrong with the bytes: the first number that [`mulkavesh_diagnose`] tells.
 pub const MULKAVESH_FAULT_NONE: u32 = 0;
 
-/// The bytes don't begin as a WebAssembly module; the second number is 0.
+/// The bytes don't begin as a WebAssembly module; the second number says what they begin as.
 pub const MULKAVESH_FAULT_HEADER: u32 = 1;
 
 /// No well-formed section stands at the place, in bytes from the start, that is the second number.
@@ -72,6 +72,40 @@ pub const MULKAVESH_FAULT_RULE: u32 = 3;
 /// The body of the function whose index is the second number isn't made of allowed instructions,
 /// well nested, with declared indices.
 pub const MULKAVESH_FAULT_BODY: u32 = 4;
+
+/// The bytes don't begin as a WebAssembly module, and as none of these: what they begin as, which is
+/// the second number.
+pub const MULKAVESH_BEGINS_OTHER: u32 = 0;
+
+/// There are no bytes.
+pub const MULKAVESH_BEGINS_EMPTY: u32 = 1;
+
+/// The bytes end within the header.
+pub const MULKAVESH_BEGINS_CUT: u32 = 2;
+
+/// The bytes are compressed by gzip.
+pub const MULKAVESH_BEGINS_GZIP: u32 = 3;
+
+/// The bytes are a zip archive.
+pub const MULKAVESH_BEGINS_ZIP: u32 = 4;
+
+/// The bytes are compressed by zstd.
+pub const MULKAVESH_BEGINS_ZSTD: u32 = 5;
+
+/// The bytes are an ELF file.
+pub const MULKAVESH_BEGINS_ELF: u32 = 6;
+
+/// The bytes are LLVM bitcode.
+pub const MULKAVESH_BEGINS_BITCODE: u32 = 7;
+
+/// The bytes are WebAssembly text, not binary.
+pub const MULKAVESH_BEGINS_TEXT: u32 = 8;
+
+/// The bytes are a component, not a module.
+pub const MULKAVESH_BEGINS_COMPONENT: u32 = 9;
+
+/// The bytes have another version.
+pub const MULKAVESH_BEGINS_OTHER_VERSION: u32 = 10;
 
 /// The sections stand out of order, or one stands twice: a rule, which is the second number.
 pub const MULKAVESH_RULE_ORDER: u32 = 1;

@@ -152,7 +152,7 @@ pub(crate) fn version() -> u32 {
 #[cfg(test)]
 mod tests {
     use super::*;
-    use crate::Fault;
+    use crate::{Beginning, Fault};
 
     // Three custom sections, each of a byte: `a`, `a` and `b`.
     const SECTIONS: &[u8] = b"\0asm\x01\0\0\0\0\x03\x01a\x01\0\x03\x01a\x02\0\x03\x01b\x03";
@@ -188,12 +188,12 @@ mod tests {
         let strip = Call::strip(C_GOES);
         assert_eq!(strip.answer(SECTIONS, 0), Err(Error::NotFound));
         assert_eq!(Call::why(0).answer(SECTIONS, 0), Err(Error::NotFound));
-        let invalid = Err(Error::Invalid(Fault::Header));
+        let invalid = Err(Error::Invalid(Fault::Header(Beginning::Empty)));
         assert_eq!(Call::stub("a").answer(b"", 0), invalid);
         assert_eq!(Call::strip(A_GOES).answer(b"", 0), invalid);
         assert_eq!(Call::sections().answer(b"", 0), invalid);
         let told = Call::diagnose(NO_PRODUCERS).answer(b"", 0);
-        assert_eq!(told.as_deref(), Ok(&[1, 0, 0, 0, 0, 0, 0, 0][..]));
+        assert_eq!(told.as_deref(), Ok(&[1, 0, 0, 0, 1, 0, 0, 0][..]));
     }
 
     #[test]

@@ -39,7 +39,7 @@ mod listed;
 mod sections;
 
 pub use crate::error::Error;
-pub use crate::fault::{Fault, Rule};
+pub use crate::fault::{Beginning, Fault, Rule};
 pub use crate::flags::Flags;
 pub use crate::listed::Listed;
 pub use crate::sections::{Section, Sections};

@@ -343,17 +343,17 @@ fn other_bytes_are_invalid() {
     let cut = &module[..module.len() - 1];
     let section = Fault::Section(module.len() as u32 - 10);
     let inputs: [(&[u8], Fault); 5] = [
-        (b"", Fault::Header),
-        (b"\0asm", Fault::Header),
-        (b"\0asm\x02\0\0\0", Fault::Header),
-        (b"no module at all", Fault::Header),
+        (b"", Fault::Header(Beginning::Empty)),
+        (b"\0asm", Fault::Header(Beginning::Cut)),
+        (b"\0asm\x02\0\0\0", Fault::Header(Beginning::OtherVersion)),
+        (b"no module at all", Fault::Header(Beginning::Other)),
         (cut, section),
     ];
     for (input, fault) in inputs {
         let invalid = Some(Error::Invalid(fault));
         assert_eq!(refusals(input), [invalid; 7], "for {input:?}");
         let told = sections(input).err();
-        assert_eq!(told, invalid.filter(|_| fault == Fault::Header));
+        assert_eq!(told, invalid.filter(|_| matches!(fault, Fault::Header(_))));
     }
 }
 
