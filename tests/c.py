@@ -28,6 +28,12 @@ SEED = 73
 NO_NAME = 2**32 - 1
 # The kinds of what is wrong with bytes.
 NONE, HEADER, SECTION, RULE, BODY = range(5)
+HEADER_BYTES = b"\0asm\1\0\0\0"
+# What stands in front of files of other kinds, by the numbers of include/mulkavesh.h.
+FRONTS = {
+    3: (b"\x1f\x8b",), 4: (b"PK\3\4", b"PK\5\6"), 5: (b"\x28\xb5\x2f\xfd",), 6: (b"\x7fELF",), 7: (b"BC\xc0\xde", b"\xde\xc0\x17\x0b"),
+    9: (b"\0asm\x0d\0\1\0",),
+}
 RULES = 10
 INVALID, UNKNOWN_FLAG, NOT_FOUND = 1, 5, 6
 WORDS = {"--no-names": 1, "--no-producers": 2, "--no-legacy": 4}
@@ -169,10 +175,22 @@ def ends_sections(data, place):
     return at == place < len(data)
 
 
+def beginning(data):
+    """The number of what bytes begin as that don't begin as a module."""
+    for number, fronts in FRONTS.items():
+        if data.startswith(fronts):
+            return number
+    if len(data) < 8 and HEADER_BYTES.startswith(data):
+        return 2 if data else 1
+    if data.lstrip(b" \t\r\n").startswith((b"(", b";;")):
+        return 8
+    return 10 if len(data) >= 8 and data.startswith(b"\0asm") else 0
+
+
 def can_be(data, kind, of_it):
     """Whether this can be wrong with the bytes, by their framing."""
-    if kind == HEADER or not data.startswith(b"\0asm\1\0\0\0"):
-        return kind == HEADER and of_it == 0 and not data.startswith(b"\0asm\1\0\0\0")
+    if kind == HEADER or not data.startswith(HEADER_BYTES):
+        return kind == HEADER and not data.startswith(HEADER_BYTES) and of_it == beginning(data)
     if kind == SECTION:
         return ends_sections(data, of_it)
     if kind == RULE:

@@ -370,8 +370,19 @@ def faults():
             yield not flags & 4, KINDS[kind], number, bytes.fromhex(data), re.sub(r" \(0x[0-9A-F]+\)", "", words)
 
 
-# The names of the rules, by their numbers in docs/FORMATS.md.
-RULES = {int(number): name for name, number in re.findall(r"^\| 3 `(\w+)` \| (\d+) \|", (TOP / "docs" / "FORMATS.md").read_text(), re.M)}
+def numbered(kind):
+    """The names of docs/FORMATS.md for the second numbers behind this first one, by these."""
+    text = (TOP / "docs" / "FORMATS.md").read_text()
+    return {int(number): name for name, number in re.findall(rf"^\| {kind} `(\w+)` \| (\d+) \|", text, re.M)}
+
+
+# The names of the rules, by their numbers.
+RULES = numbered(3)
+
+
+
+# The names of what bytes begin as, by their numbers there, in lower case.
+BEGINNINGS = {number: re.sub(r"\B([A-Z])", r" \1", name).lower() for number, name in numbered(1).items()}
 
 
 def try_check(work):
@@ -384,13 +395,23 @@ def try_check(work):
         told = (1, f"{words}\n".encode(), refused) if kind else (0, b"accepted\n", "")
         same(f"check of {data.hex()}", run("check", *flags, data=data), told)
         status, text, said = run("check", "--json", *flags, data=data)
-        where = {"section": {"place": number}, "body": {"index": number}, "rule": {"rule": RULES.get(number)}}.get(kind, {})
+        begins = {"begins": BEGINNINGS[number]} if kind == "header" and number else {}
+        where = {"header": begins, "section": {"place": number}, "body": {"index": number}, "rule": {"rule": RULES.get(number)}}.get(kind, {})
         wanted = {"accepted": False, "reason": words, "kind": kind, **where} if kind else {"accepted": True}
         same(f"check --json of {data.hex()}", (status, json.loads(text), said), (told[0], wanted, told[2]))
     out = work / "verdict"
     out.write_bytes(b"as it was")
     same("check -o of what is refused", run("check", "-o", out, data=BROKEN)[0], 1)
     same("OUT of a check that was refused", out.read_bytes(), run("check", data=BROKEN)[1])
+
+
+def try_page(work):
+    """The page that shows what is said of a file of another kind: its line, as it stands there, and its answer."""
+    found = re.findall(r"^    (gzip .*\| \./mulkavesh check)\n\n    (.*)$", (TOP / "docs" / "USING.md").read_text(), re.M)
+    same("lines of docs/USING.md", len(found), 1)
+    for line, answer in found:
+        done = subprocess.run(["sh", "-c", line.replace("./mulkavesh", '"$0"'), str(PROGRAM)], cwd=TOP, capture_output=True, check=False)
+        same(line, (done.returncode, done.stdout.decode()), (1, f"{answer}\n"))
 
 
 def try_faults(work):

@@ -244,7 +244,7 @@ class Refusals(unittest.TestCase):
         text = "the input is no module that keeps the rules: the bytes don't begin as a WebAssembly module"
         self.assertEqual(str(raised.exception), text)
         copied = pickle.loads(pickle.dumps(raised.exception))
-        self.assertEqual((type(copied), str(copied), copied.fault), (InvalidModule, text, Fault(FaultKind.HEADER, 0)))
+        self.assertEqual((type(copied), str(copied), copied.fault), (InvalidModule, text, Fault(FaultKind.HEADER, Beginning.OTHER)))
 
     def test_no_memory_for_the_fault(self) -> None:
         tried = mulkavesh._tried

@@ -56,7 +56,7 @@ pair_bytes numbers = number_bytes numbers.0 ++ number_bytes numbers.1
 -- the two numbers of what was found
 abbrev pub FindsNumbers : Config → (bytes : List ℕ) → ℕ × ℕ → Type 0
 FindsNumbers c bytes numbers =
-  (found : Option Fault) × (begins : Beginning) × Finds c bytes found × BeginsAs bytes begins × (numbers ≡ numbers_of begins found)
+    (found : Option Fault) × (begins : Beginning) × Finds c bytes found × BeginsAs bytes begins × (numbers ≡ numbers_of begins found)
 
 -- what was found, in eight bytes; too large exactly where its number passes 32 bits
 abbrev pub AnswersFault : Config → (bytes : List ℕ) → Result (Vec ℕ) Error → Type 0

@@ -77,7 +77,7 @@ fn text(bytes: Vec<u8>) -> String {
 /// [`Error::TooLarge`] where what stays has a count or a size past 32 bits, and [`Error::NoMemory`].
 ///
 /// ```
-/// use mulkavesh::{gc, Error, Fault, Flags};
+/// use mulkavesh::{gc, Beginning, Error, Fault, Flags};
 ///
 /// // Two functions, of which the second is exported as `f`.
 /// let module = [
@@ -93,7 +93,8 @@ fn text(bytes: Vec<u8>) -> String {
 /// ].concat();
 /// let flags = Flags { no_producers: true, ..Flags::default() };
 /// assert_eq!(gc(&module, flags), Ok(smaller));
-/// assert_eq!(gc(b"no module", flags), Err(Error::Invalid(Fault::Header)));
+/// let fault = Fault::Header(Beginning::Other);
+/// assert_eq!(gc(b"no module", flags), Err(Error::Invalid(fault)));
 /// ```
 pub fn gc(input: &[u8], flags: Flags) -> Result<Vec<u8>, Error> {
     Call::gc(flags).answer(input, input.len() + MORE)
@@ -141,11 +142,11 @@ pub fn report(input: &[u8], flags: Flags) -> Result<String, Error> {
 /// [`Error::Invalid`].
 ///
 /// ```
-/// use mulkavesh::{diagnose, Fault, Flags, Rule};
+/// use mulkavesh::{diagnose, Beginning, Fault, Flags, Rule};
 ///
 /// let wrong = |bytes: &[u8]| diagnose(bytes, Flags::default()).expect("enough memory");
 /// assert_eq!(wrong(b"\0asm\x01\0\0\0"), None);
-/// assert_eq!(wrong(b"no module"), Some(Fault::Header));
+/// assert_eq!(wrong(b"\x1F\x8B\x08"), Some(Fault::Header(Beginning::Gzip)));
 /// // No section has the id 14.
 /// assert_eq!(wrong(b"\0asm\x01\0\0\0\x0E\0"), Some(Fault::Section(8)));
 /// // A memory of at least two pages and at most one.
@@ -194,7 +195,7 @@ pub fn list(input: &[u8], flags: Flags) -> Result<Vec<Listed>, Error> {
 /// [`Error::TooLarge`] where a place, a size or a count passes 32 bits, and [`Error::NoMemory`].
 ///
 /// ```
-/// use mulkavesh::{sections, Error, Fault};
+/// use mulkavesh::{sections, Beginning, Error, Fault};
 ///
 /// // Two functions, a custom section `a` of a byte, and the id and the size of one that is cut.
 /// let module = b"\0asm\x01\0\0\0\x03\x03\x02\0\0\0\x03\x01a\x01\x0A\x08";
@@ -206,7 +207,8 @@ pub fn list(input: &[u8], flags: Flags) -> Result<Vec<Listed>, Error> {
 /// let custom = &found.sections[1];
 /// assert_eq!((custom.kind(), custom.name.as_deref()), ("custom", Some("a")));
 /// assert_eq!((custom.start, custom.size), (13, 5));
-/// assert_eq!(sections(b"no module"), Err(Error::Invalid(Fault::Header)));
+/// let fault = Fault::Header(Beginning::Other);
+/// assert_eq!(sections(b"no module"), Err(Error::Invalid(fault)));
 /// # Ok::<(), Error>(())
 /// ```
 pub fn sections(input: &[u8]) -> Result<Sections, Error> {

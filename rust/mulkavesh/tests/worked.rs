@@ -1,8 +1,8 @@
 //! Each call on small modules, whose bytes were worked out by hand.
 
 use mulkavesh::{
-    diagnose, gc, list, report, sections, snip, strip, stub, version, why, Error, Fault, Flags,
-    Listed, Rule, Section, Sections,
+    diagnose, gc, list, report, sections, snip, strip, stub, version, why, Beginning, Error, Fault,
+    Flags, Listed, Rule, Section, Sections,
 };
 
 /// The bytes that the text says.
