@@ -431,10 +431,11 @@ fn a_function_is_found_by_its_export(rt: HostRuntime) -> std::result::Result<(),
 
 // ---- diagnose
 
-// What is asked, and the two numbers of what is wrong with it: nothing; behind the types, at byte 14, an id that is no section's; in function 0 an
-// operator that isn't known.
-const FAULTS: [(&str, &str); 3] = [
+// What is asked, and the two numbers of what is wrong with it: nothing; no header, but the front of what gzip writes; behind the types, at byte 14,
+// an id that is no section's; in function 0 an operator that isn't known.
+const FAULTS: [(&str, &str); 4] = [
     (TWO, "00 00 00 00 00 00 00 00"),
+    ("1F 8B 08 00", "01 00 00 00 03 00 00 00"),
     (
         "00 61 73 6D 01 00 00 00 01 04 01 60 00 00 0E 00",
         "02 00 00 00 0E 00 00 00",
