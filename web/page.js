@@ -113,7 +113,7 @@ function show(id) {
 
 const UNREADABLE = 'The file could not be read. It may be a folder, or it was changed or moved since.';
 const REASONS = {
-  INVALID: 'It begins as a WebAssembly module, but it is no module that keeps the rules. '
+  INVALID: 'It is no WebAssembly module that keeps the rules. '
     + 'Not taken are components, stack switching, shared-everything threads and custom descriptors.',
   TOO_LARGE: 'A count or a size in the smaller module would pass 32 bits.',
   NO_MEMORY: 'There isn’t enough memory for it here: the library has at most 4 GB, and the module with all that is made of it has to stand there.',

@@ -1,6 +1,6 @@
 -- What is told of an order that was refused.
 use Rattle.std.proofs.Common.{◌≡◌, ℕ, Bool, true, false, List, inl, inr, sym, subst}
-use Rattle.std.specs.Prelude.{Option, Some, None, Result, Err, String, string_bytes}
+use Rattle.std.specs.Prelude.{Option, Some, None, Result, Err, String}
 use Rattle.std.specs.declared.alloc.Global.{Global}
 use Rattle.walrus_tools.specs.Handed.{Config, Error, Stream, Tells}
 use Rattle.mulkavesh.specs.declared.cause.Cause.{Cause}
@@ -29,7 +29,7 @@ module _ (Answers : List ℕ → Result Made Error → Type 0) (w : Work) (c : C
 
   tells : (e : Error) (said : Option (String Global)) → Found (cause.Refused e said) → Line (said_text w e said) → TellsRefusal Answers w c from to errors status e
   tells e None finds told = inr told
-  tells e (Some text) finds told = inl (finds.2.0, (finds.0, finds.1, (string_bytes text, finds.2.1, told)))
+  tells e (Some text) finds told = inl (finds.2.0, (finds.0, finds.1, (text, finds.2.1, told)))
 
   pub tells_error : (x : Cause) (e : Error) (said : Option (String Global)) → x ≡ cause.Refused e said → Found x → Line (said_text w e said) → Told x
   tells_error x e said is finds told = subst Told (sym is) (tells e said (subst Found is finds) told)

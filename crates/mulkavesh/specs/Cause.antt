@@ -51,8 +51,8 @@ abbrev pub WordsRefusal : (bytes : List ℕ) → Fault → (text : List ℕ) →
 WordsRefusal bytes fault text = (words : List ℕ) × WordsFault bytes fault words × (text ≡ refused_text ++ (codes ": " ++ words))
 
 -- the same of something that is wrong with them
-abbrev pub SaysFault : Config → (bytes text : List ℕ) → Type 0
-SaysFault c bytes text = (fault : Fault) × Finds c bytes (Some fault) × WordsRefusal bytes fault text
+abbrev pub SaysFault : Config → (bytes : List ℕ) → (text : String Global) → Type 0
+SaysFault c bytes text = (fault : Fault) × Finds c bytes (Some fault) × WordsRefusal bytes fault (string_bytes text)
 
 -- the error says that the bytes are invalid
 abbrev pub IsInvalid : Error → Type 0
@@ -61,7 +61,7 @@ IsInvalid _ = ⊥
 
 -- the same of bytes that are refused by this error
 abbrev pub SaysRefused : Config → (bytes : List ℕ) → Error → (text : String Global) → Type 0
-SaysRefused c bytes e text = IsInvalid e × SaysFault c bytes (string_bytes text)
+SaysRefused c bytes e text = IsInvalid e × SaysFault c bytes text
 
 -- ---- the answer, with the error alone
 

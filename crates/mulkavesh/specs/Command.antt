@@ -1,6 +1,7 @@
 -- What one order comes to, for all that was read and all that was written, and what is told of it.
-use Rattle.std.specs.Prelude.{ℕ, Bool, true, false, List, [], ◌∷◌, Option, Result, Ok, Err, IfSome, OnOk, ◌≡◌, ◌⊎◌, ⊤}
+use Rattle.std.specs.Prelude.{ℕ, Bool, true, false, List, [], ◌∷◌, Option, Result, Ok, Err, String, IfSome, OnOk, string_bytes, ◌≡◌, ◌⊎◌, ⊤}
 use Rattle.std.specs.Io.KnownBytes.{Appends, Keeps}
+use Rattle.std.specs.declared.alloc.Global.{Global}
 use Rattle.walrus_tools.specs.Handed.{Config, CountsReads, CountsWrites, Error, IsUntouched, Memory, Module, Read, ReadsWhole, Stream, Tells, ToolError, Write, WroteFront, stream_of}
 use Rattle.mulkavesh.specs.declared.cause.Cause.{Cause}
 use Rattle.mulkavesh.specs.declared.cause.Cause.TheVariants as cause
@@ -86,7 +87,7 @@ module _ (Answers : List ℕ → Result Made Error → Type 0) (w : Work) (c : C
   abbrev pub TellsFaultRead : Error → Type 0
   TellsFaultRead e = IsInvalid e
       × ((bytes : List ℕ) × ReadsAndMakes Answers from.stream.old from.stream.new to.stream.old to.stream.new bytes (Err e)
-      × ((text : List ℕ) × SaysFault c bytes text × TellsLine from.name text))
+      × ((text : String Global) × SaysFault c bytes text × TellsLine from.name (string_bytes text)))
 
   -- a line says why, and of invalid bytes also what is wrong with them, but where memory ran out while that was looked for
   abbrev pub TellsRefusal : Error → Type 0

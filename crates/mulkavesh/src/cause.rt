@@ -42,7 +42,7 @@ fn wanted_of(order: &Order) -> Wanted
 
 // What is said of bytes that are invalid, where memory suffices to find what is wrong with them.
 fn found_in(alloc: Global, bytes: &[u8], wanted: Wanted) -> Option<String>
-    ensures { IfSome result (λ text. SaysFault (config_wanted wanted) bytes.now (string_bytes text)) }
+    ensures { IfSome result (SaysFault (config_wanted wanted) bytes.now) }
 {
     match diagnose(alloc, bytes, wanted) {
         Ok(Some(fault)) => worded(alloc, fault, bytes).ok(),
