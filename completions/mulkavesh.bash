@@ -1,7 +1,7 @@
 # Completions of mulkavesh for bash: `source` this file, or put it under the name `mulkavesh` where the system keeps completions.
 
-# The flags of a subcommand.
-_mulkavesh_flags() {
+# The options of a subcommand.
+_mulkavesh_options() {
   case $1 in
     gc) echo --no-names --no-producers --no-legacy --quiet --help ;;
     report | list | check) echo --json --no-legacy --no-names --no-producers --help ;;
@@ -10,14 +10,16 @@ _mulkavesh_flags() {
   esac
 }
 
-# What can stand at the cursor: a subcommand first; behind it a flag, or a file.
+# What can stand at the cursor: a subcommand first; behind it an option, or a file; and behind `help` a subcommand.
 _mulkavesh() {
-  local word=${COMP_WORDS[COMP_CWORD]} words
+  local word=${COMP_WORDS[COMP_CWORD]} before=${COMP_WORDS[COMP_CWORD - 1]} names='gc report list check sections strip snip stub why' words
   COMPREPLY=()
   if [ "$COMP_CWORD" = 1 ]; then
-    words='gc report list check sections strip snip stub why --help --version'
-  elif [ "${COMP_WORDS[COMP_CWORD - 1]}" != -o ] && [[ $word = -* ]]; then
-    words="$(_mulkavesh_flags "${COMP_WORDS[1]}") -o"
+    words="$names help --help --version"
+  elif [ "$COMP_CWORD" = 2 ] && [ "$before" = help ]; then
+    words=$names
+  elif [ "$before" != -o ] && [ "$before" != --output ] && [[ $word = -* ]]; then
+    words="$(_mulkavesh_options "${COMP_WORDS[1]}") -o --output"
   else
     mapfile -t COMPREPLY < <(compgen -f -- "$word")
     return

@@ -659,34 +659,113 @@ def try_readers_that_go(work):
     same("a list of a million lines", found, (0, b"%d\n" % MANY, ""))
 
 
-# ---- words, help, completions, manual
+# ---- arguments, help, completions, manual
 
-def try_words(work):
-    """Words that say nothing: the status 2, a line, and nothing is read."""
+# Command lines that say nothing, and what is told of each behind `mulkavesh: `.
+MISTAKES = (
+    ("nothing", "unknown subcommand 'nothing'; mulkavesh --help tells more"),
+    ("GC", "unknown subcommand 'GC'; mulkavesh --help tells more"),
+    ("gcc in", "unknown subcommand 'gcc'; did you mean gc?"),
+    ("lst", "unknown subcommand 'lst'; did you mean list?"),
+    ("reprot in", "unknown subcommand 'reprot'; did you mean report?"),
+    ("help chek", "unknown subcommand 'chek'; did you mean check?"),
+    ("help gc in", "'in' is one argument too many; mulkavesh --help tells more"),
+    ("--version gc", "'gc' is one argument too many; mulkavesh --help tells more"),
+    ("-V -V", "'-V' is one argument too many; mulkavesh --help tells more"),
+    ("--quiet gc", "no subcommand stands in front of '--quiet'; mulkavesh --help tells more"),
+    ("--versoin", "no subcommand stands in front of '--versoin'; did you mean --version?"),
+    ("-- gc", "no subcommand stands in front of '--'; mulkavesh --help tells more"),
+    ("-o --help", "no subcommand stands in front of '-o'; mulkavesh --help tells more"),
+    ("gc --no-name", "gc: unknown option --no-name; did you mean --no-names?"),
+    ("gc --no-prod in", "gc: unknown option --no-prod; did you mean --no-producers?"),
+    ("gc --no-producer in", "gc: unknown option --no-producer; did you mean --no-producers?"),
+    ("gc --quite in", "gc: unknown option --quite; did you mean --quiet?"),
+    ("report --jsn", "report: unknown option --jsn; did you mean --json?"),
+    ("list --ouput=a", "list: unknown option --ouput=a; mulkavesh list --help tells more"),
+    ("check -x", "check: unknown option -x; mulkavesh check --help tells more"),
+    ("gc -qo out", "gc: unknown option -qo; mulkavesh gc --help tells more"),
+    ("gc --json", "gc: --json is no option of this subcommand; mulkavesh gc --help tells more"),
+    ("report --quiet", "report: --quiet is no option of this subcommand; mulkavesh report --help tells more"),
+    ("list -q in", "list: -q is no option of this subcommand; mulkavesh list --help tells more"),
+    ("snip a --no-names", "snip: --no-names is no option of this subcommand; mulkavesh snip --help tells more"),
+    ("strip a --no-names", "strip: --no-names is no option of this subcommand; mulkavesh strip --help tells more"),
+    ("sections --quiet", "sections: --quiet is no option of this subcommand; mulkavesh sections --help tells more"),
+    ("sections in out", "sections: 'out' is a second input; the output goes behind -o"),
+    ("why a --no-legacy", "why: --no-legacy is no option of this subcommand; mulkavesh why --help tells more"),
+    ("gc --quiet=1", "gc: --quiet=1 has a value, but this option takes none; mulkavesh gc --help tells more"),
+    ("check --json= in", "check: --json= has a value, but this option takes none; mulkavesh check --help tells more"),
+    ("gc -o", "gc: FILE is missing behind -o; mulkavesh gc --help tells more"),
+    ("report in --output", "report: FILE is missing behind --output; mulkavesh report --help tells more"),
+    ("gc -o a -o b", "gc: 'b' is a second output; there can be one -o"),
+    ("gc -oa --output=--help", "gc: '--help' is a second output; there can be one -o"),
+    ("gc --output a -ob", "gc: 'b' is a second output; there can be one -o"),
+    ("gc in out.wasm", "gc: 'out.wasm' is a second input; the output goes behind -o"),
+    ("gc -- in -o", "gc: '-o' is a second input; the output goes behind -o"),
+    ("why a b c", "why: 'c' is a second input; the output goes behind -o"),
+    ("strip", "strip: NAME is missing; mulkavesh strip --help tells more"),
+    ("snip -o out", "snip: EXPORT is missing; mulkavesh snip --help tells more"),
+    ("stub --", "stub: MODULE is missing; mulkavesh stub --help tells more"),
+    ("why --json", "why: FUNCTION is missing; mulkavesh why --help tells more"),
+)
+
+
+def refused_arguments(source, *words):
+    """The status, whether anything was read or written, and what was said."""
+    with open(source, "rb") as stream:
+        done = subprocess.run([PROGRAM, *words], stdin=stream, capture_output=True, check=False)
+        return done.returncode, os.lseek(stream.fileno(), 0, os.SEEK_CUR) > 0 or done.stdout != b"", done.stderr.decode()
+
+
+def try_mistakes(work):
+    """Arguments that say nothing: the status 2, a line that says what is wrong, and nothing is read."""
     source = work / "in"
     source.write_bytes(TWO)
-    line = "mulkavesh: these words say nothing; mulkavesh --help tells the words\n"
-    for words in (
-        "", "nothing", "GC", "gc in out", "gc -o", "gc -o a -o b", "gc --json", "report --quiet", "list --quiet", "check -x", "gc -", "gc --",
-        "strip", "strip -o out", "snip", "stub", "why", "why --json", "snip a --no-names", "stub a --json", "why a --no-legacy", "strip a b c",
-        "strip a --no-names", "sections --no-names", "sections --quiet", "sections in out",
-        "why a b c", "gc --help in", "gc in --help", "--help gc", "--version gc", "--quiet gc", "gc --no-name", "gc --no-names=1", "-h", "gc -- a b",
-    ):
-        known = words in ("gc -", "gc --")
-        with open(source, "rb") as stream:
-            done = subprocess.run([PROGRAM, *words.split()], stdin=stream, capture_output=True, check=False)
-            read = os.lseek(stream.fileno(), 0, os.SEEK_CUR)
-            found = (done.returncode, read > 0, done.stderr.decode() if not known else "")
-            same(f"the words {words!r}", found, (0, True, "") if known else (2, False, line))
-    done = subprocess.run([PROGRAM, b"gc", b"\xff"], capture_output=True, check=False)
-    same("a word that isn't UTF-8", (done.returncode, done.stderr.decode()), (2, line))
+    for words, line in MISTAKES:
+        same(f"the arguments {words!r}", refused_arguments(source, *words.split()), (2, False, f"mulkavesh: {line}\n"))
+    same("no arguments", refused_arguments(source), (2, False, run("--help")[1].decode()))
+    same("an empty argument", refused_arguments(source, ""), (2, False, "mulkavesh: unknown subcommand ''; mulkavesh --help tells more\n"))
+    same("an argument that isn't UTF-8", refused_arguments(source, b"gc", b"\xff"), (2, False, "mulkavesh: an argument isn't UTF-8\n"))
+    for text, seen, _ in NAMES:
+        if "\x00" not in text:
+            line = f"mulkavesh: gc: '{seen}' is a second input; the output goes behind -o\n"
+            same(f"a second input {text!r}", refused_arguments(source, "gc", "in", "--", text), (2, False, line))
+            line = f"mulkavesh: gc: unknown option -x{seen}; mulkavesh gc --help tells more\n"
+            same(f"an option {text!r}", refused_arguments(source, "gc", f"-x{text}"), (2, False, line))
+
+
+def try_forms(work):
+    """Several spellings of the same."""
     wanted = run("gc", "--quiet", "--no-names", data=TWO)
-    for words in ("gc --no-names --quiet --no-names", "gc - --quiet --no-names", "gc --quiet -o - --no-names --"):
-        same(f"the words {words!r}", run(*words.split(), data=TWO), wanted)
+    same("the status of gc", wanted[::2], (0, ""))
+    for words in (
+        "gc --no-names --quiet --no-names", "gc - --quiet --no-names", "gc --quiet -o - --no-names --", "gc -q --no-names", "gc -q -o- --no-names",
+        "gc --output - -q --no-names -", "gc --output=- --no-names --quiet -q", "gc --no-names -q -- -",
+    ):
+        same(f"the arguments {words!r}", run(*words.split(), data=TWO), wanted)
+    for words in (["-o", "out"], ["-oout"], ["--output", "out"], ["--output=out"]):
+        same(f"gc {words}", run("gc", "-q", "--no-names", *words, data=TWO, cwd=work), (0, b"", ""))
+        same(f"OUT of gc {words}", (work / "out").read_bytes(), wanted[1])
+        (work / "out").unlink()
+    same("-o=out", run("gc", "-q", "-o=out", data=TWO, cwd=work)[0], 0)
+    same("OUT of -o=out", (work / "=out").is_file(), True)
     (work / "--quiet").write_bytes(TWO)
-    same("a file that is called as a flag", run("check", "--", "--quiet", cwd=work), (0, b"accepted\n", ""))
-    same("OUT that is called as a flag", run("check", "--json", "-o", "--json", data=TWO, cwd=work), (0, b"", ""))
+    same("a file that is called as an option", run("check", "--", "--quiet", cwd=work), (0, b"accepted\n", ""))
+    same("OUT that is called as an option", run("check", "--json", "-o", "--json", data=TWO, cwd=work), (0, b"", ""))
     same("its text", (work / "--json").read_bytes(), b"{\"accepted\":true}\n")
+    same("OUT that is called --help", run("check", "-o", "--help", data=TWO, cwd=work), (0, b"", ""))
+    same("its text too", (work / "--help").read_bytes(), b"accepted\n")
+    (work / "-h").write_bytes(TWO)
+    same("IN that is called -h", run("check", "--", "-h", cwd=work), (0, b"accepted\n", ""))
+
+
+def try_forms_of_help(work):
+    whole = run("--help")
+    for words in ("-h", "help", "help --help", "--help gc", "-V -h", "nothing --help", "-q -o out --help"):
+        same(f"the arguments {words!r}", run(*words.split()), whole)
+    same("-V", run("-V"), run("--version"))
+    for name in ("gc", "report", "list", "check", "strip", "snip", "stub", "why"):
+        for words in ("{} --help", "{} -h", "help {}", "{} -o out in -h in in", "{} -x --json=1 --help", "{} -o -o --help", "{} --help -- in"):
+            same(f"the arguments {words.format(name)!r}", run(*words.format(name).split()), run(name, "--help"))
 
 
 def try_help(work):
@@ -721,12 +800,14 @@ def completed(*words):
 
 def try_completions(words, flags):
     same("bash -n of the completions", subprocess.run(["bash", "-n", TOP / "completions" / "mulkavesh.bash"], check=False).returncode, 0)
-    same("the first word", completed("mulkavesh", ""), {*words, "--help", "--version"})
+    same("the first word", completed("mulkavesh", ""), {*words, "help", "--help", "--version"})
     same("a word that is begun", completed("mulkavesh", "s"), {"sections", "strip", "snip", "stub"})
+    same("a word behind help", completed("mulkavesh", "help", "st"), {"strip", "stub"})
     for word in words:
-        same(f"the flags of {word}", completed("mulkavesh", word, "-"), {*flags[word], "--help", "-o"})
+        same(f"the options of {word}", completed("mulkavesh", word, "-"), {*flags[word], "--help", "-o", "--output"})
     same("a file", "samples" in completed("mulkavesh", "gc", "sam"), True)
-    same("a file behind -o", "samples" in completed("mulkavesh", "gc", "-o", "sam"), True)
+    for option in ("-o", "--output"):
+        same(f"a file behind {option}", "samples" in completed("mulkavesh", "gc", option, "sam"), True)
 
 
 def try_manual(words, flags):
@@ -737,7 +818,7 @@ def try_manual(words, flags):
     done = subprocess.run(["groff", "-man", "-Tascii", "-ww", page], capture_output=True, check=False)
     same("what groff says of the manual page", (done.returncode, done.stderr), (0, b""))
     text = page.read_text().replace("\\-", "-")
-    for word in [*words, *flags, "--help", "--version"]:
+    for word in [*words, *flags, "-h", "--help", "-V", "--version", "-q", "-o", "--output", "--output="]:
         same(f"the manual page names {word}", word in text, True)
 
 

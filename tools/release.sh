@@ -3,7 +3,7 @@
 # given. In it are:
 #   bin            walrus-gc and mulkavesh, as `rt run` links them, and each once more linked statically, under its name with .static
 #   lib, include   libmulkavesh.a and libmulkavesh.so, mulkavesh.pc for pkg-config, mulkavesh.h
-#   share          the manual page, and the completions for bash
+#   share          the manual page, and the completions for bash, zsh and fish
 #   rust, python   the packages over the library, as they stand here, but for Python's tests
 #   web            what web/build.sh makes
 #   LICENSE, README (which commit, which toolchain, what is proved), GATE (the gate's last lines), install-to.sh, and SHA256SUMS of each other file
@@ -156,7 +156,7 @@ tell_parts() {
   bin/mulkavesh     the same over files, and more: mulkavesh --help
   bin/*.static      the same programs, which need no other file
   lib, include      the library for C and C++: libmulkavesh.a, libmulkavesh.so, mulkavesh.h, mulkavesh.pc for pkg-config
-  share             the manual page mulkavesh.1, and completions for bash
+  share             the manual page mulkavesh.1, and completions for bash, zsh and fish
   rust              crates over lib/libmulkavesh.a, whose folder MULKAVESH_LIB has to name
   python            mulkavesh.py, over lib/libmulkavesh.so: beside it, or in the folder that MULKAVESH_LIB names
   web               an npm package for Node and browsers$([ ! -f "$1/web/index.html" ] || echo ", and a page over it: index.html, from any static host")
@@ -219,7 +219,7 @@ tell_pkg_config() {
 # Lays a release out in a folder.
 lay_out() {
   local it
-  mkdir -p "$1"/{bin,lib/pkgconfig,include,share/man/man1,share/bash-completion/completions,web}
+  mkdir -p "$1"/{bin,lib/pkgconfig,include,share/man/man1,share/bash-completion/completions,share/zsh/site-functions,share/fish/vendor_completions.d,web}
   link walrus_gc "$1/bin" walrus-gc
   link mulkavesh "$1/bin" mulkavesh
   tools/library.sh "$(built lib/libmulkavesh.a)" "$1/lib"
@@ -228,6 +228,8 @@ lay_out() {
   cp include/mulkavesh.h "$1/include"
   cp man/*.1 "$1/share/man/man1"
   for it in completions/*.bash; do cp "$it" "$1/share/bash-completion/completions/$(basename "$it" .bash)"; done
+  for it in completions/*.zsh; do cp "$it" "$1/share/zsh/site-functions/_$(basename "$it" .zsh)"; done
+  cp completions/*.fish "$1/share/fish/vendor_completions.d"
   put_tracked "$1" rust python ':!python/tests' ':!*/.gitignore' LICENSE
   cp -r "$(built web)/." "$1/web"
   cp tools/install-to.sh "$1"

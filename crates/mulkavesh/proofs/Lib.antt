@@ -1,5 +1,6 @@
 mod Answered
 mod Complete
+mod Help
 mod Itself
 mod Lines
 mod Ordered
@@ -8,3 +9,5 @@ mod Refusals
 mod SectionLines
 mod Showing
 mod Sound
+mod Spelling
+mod Wrongs

@@ -1,13 +1,15 @@
--- What the words behind a subcommand say, against where the program puts them: what it makes of them they say.
-use Rattle.std.proofs.Common.{◌≡◌, Bool, true, false, not, ◌&&◌, List, [], ◌∷◌, ◌++◌, refl, sym, ap, ap₂, ◌∙◌, subst, inl, inr, ◌⊎◌, ⊎_elim, codes, string_bytes}
-use Rattle.std.specs.Prelude.{◌↔◌, Option, Some, None, String, bytes_eq, is_some, if◌then◌else◌}
+-- An order that is begun, and one plain argument or option more.
+use Rattle.std.proofs.Common.{◌≡◌, Bool, true, false, not, ◌&&◌, List, [], ◌∷◌, ◌++◌, refl, sym, ap, ap₂, ◌∙◌, subst, inl, inr, ◌⊎◌, ⊎_elim, string_bytes}
+use Rattle.std.specs.Prelude.{◌↔◌, Option, Some, None, Result, Ok, Err, String, is_some, if◌then◌else◌}
 use Rattle.std.specs.declared.alloc.Global.{Global}
 use Rattle.std.proofs.lemmas.List.{append-nil}
 use Rattle.mulkavesh.specs.declared.order.Flag.{Flag}
 use Rattle.mulkavesh.specs.declared.order.Flag.TheVariants.{NoNames, NoProducers, NoLegacy, Quiet, Json}
 use Rattle.mulkavesh.specs.declared.order.Order.{Order}
-use Rattle.mulkavesh.specs.Order.{flag_named, flag_word, has_operand, is_set}
-use Rattle.mulkavesh.proofs.Itself.{decided}
+use Rattle.mulkavesh.specs.declared.order.Value.{Value}
+use Rattle.mulkavesh.specs.declared.mistakes.Wrong.{Wrong}
+use Rattle.mulkavesh.specs.declared.mistakes.Wrong.TheVariants.{SecondInput}
+use Rattle.mulkavesh.specs.Order.{has_operand, is_set}
 use Rattle.mulkavesh.specs.Steps.{set, with_plain}
 use Rattle.mulkavesh.specs.Words.{Word, one_word}
 
@@ -28,7 +30,7 @@ pub record Adds (o n : Order) (w : String Global) : Type 0 where
   pub output : n.output ≡ o.output
   pub flags : (f : Flag) → is_set n f ≡ is_set o f
 
-some_order : (n m : Order) → ◌≡◌ {A = Option Order} (Some n) (Some m) → m ≡ n
+some_order : (n m : Order) → ◌≡◌ {A = Result Order Wrong} (Ok n) (Ok m) → m ≡ n
 some_order n m same = cc
 
 unchanged_by_operand : (o : Order) (w : String Global) (f : Flag) → is_set (record o { operand = Some w }) f ≡ is_set o f
@@ -45,14 +47,14 @@ unchanged_by_input o w NoLegacy = refl
 unchanged_by_input o w Quiet = refl
 unchanged_by_input o w Json = refl
 
-pub unchanged_by_output : (o : Order) (w : String Global) (f : Flag) → is_set (record o { output = Some w }) f ≡ is_set o f
+pub unchanged_by_output : (o : Order) (w : Value) (f : Flag) → is_set (record o { output = Some w }) f ≡ is_set o f
 unchanged_by_output o w NoNames = refl
 unchanged_by_output o w NoProducers = refl
 unchanged_by_output o w NoLegacy = refl
 unchanged_by_output o w Quiet = refl
 unchanged_by_output o w Json = refl
 
-into_input : (o n : Order) (w : String Global) → (o.operand ≡ None → has_operand o.work ≡ true → ⊥) → o.input ≡ None → IsWell o → ◌≡◌ {A = Option Order} (Some (record o { input = Some w })) (Some n) → Adds o n w
+into_input : (o n : Order) (w : String Global) → (o.operand ≡ None → has_operand o.work ≡ true → ⊥) → o.input ≡ None → IsWell o → ◌≡◌ {A = Result Order Wrong} (Ok (record o { input = Some w })) (Ok n) → Adds o n w
 into_input o n w no_operand empty well same =
     let is : n ≡ record o { input = Some w } = some_order (record o { input = Some w }) n same in
     let none : held o ≡ one_word o.operand = ap (λ (x : Option (String Global)). one_word o.operand ++ one_word x) empty ∙ append-nil (one_word o.operand) in
@@ -65,7 +67,7 @@ into_input o n w no_operand empty well same =
     })
 
 adds_by : (o n : Order) (w : String Global) (h : Bool) (a i : Option (String Global)) → has_operand o.work ≡ h → o.operand ≡ a → o.input ≡ i → IsWell o
-    → ◌≡◌ {A = Option Order} (if h && not (is_some a) then Some (record o { operand = Some w }) else (if is_some i then None else Some (record o { input = Some w }))) (Some n) → Adds o n w
+    → ◌≡◌ {A = Result Order Wrong} (if h && not (is_some a) then Ok (record o { operand = Some w }) else (if is_some i then Err (SecondInput w) else Ok (record o { input = Some w }))) (Ok n) → Adds o n w
 adds_by o n w true None i has none_held input well same =
     let is : n ≡ record o { operand = Some w } = some_order (record o { operand = Some w }) n same in
     let empty : o.input ≡ None = well.first has none_held in
@@ -85,7 +87,7 @@ adds_by o n w true (Some a) (Some v) has operand input well same = absurd (cc)
 adds_by o n w false None (Some v) has operand input well same = absurd (cc)
 adds_by o n w false (Some a) (Some v) has operand input well same = absurd (cc)
 
-pub adds : (o n : Order) (w : String Global) → IsWell o → with_plain o w ≡ Some n → Adds o n w
+pub adds : (o n : Order) (w : String Global) → IsWell o → with_plain o w ≡ Ok n → Adds o n w
 adds o n w well same = adds_by o n w (has_operand o.work) o.operand o.input refl refl refl well same
 
 -- ---- flags
@@ -151,16 +153,3 @@ set_well o NoProducers well = record { none = well.none; first = well.first }
 set_well o NoLegacy well = record { none = well.none; first = well.first }
 set_well o Quiet well = record { none = well.none; first = well.first }
 set_well o Json well = record { none = well.none; first = well.first }
-
--- the flag that a word names is the one whose word it is
-pub named_word : (word : Word) (f : Flag) → flag_named word ≡ Some f → word ≡ flag_word f
-named_word word f same = named_by word f _ refl _ refl _ refl _ refl _ refl same
-  where
-    named_by : (word : Word) (f : Flag) (a : Bool) → bytes_eq word (codes "--no-names") ≡ a → (b : Bool) → bytes_eq word (codes "--no-producers") ≡ b → (c : Bool) → bytes_eq word (codes "--no-legacy") ≡ c → (d : Bool) → bytes_eq word (codes "--quiet") ≡ d → (e : Bool) → bytes_eq word (codes "--json") ≡ e
-        → ◌≡◌ {A = Option Flag} (if a then Some NoNames else (if b then Some NoProducers else (if c then Some NoLegacy else (if d then Some Quiet else (if e then Some Json else None))))) (Some f) → word ≡ flag_word f
-    named_by word f true is _ _ _ _ _ _ _ _ same = decided word _ is ∙ ap flag_word (let e : NoNames ≡ f = cc in e)
-    named_by word f false _ true is _ _ _ _ _ _ same = decided word _ is ∙ ap flag_word (let e : NoProducers ≡ f = cc in e)
-    named_by word f false _ false _ true is _ _ _ _ same = decided word _ is ∙ ap flag_word (let e : NoLegacy ≡ f = cc in e)
-    named_by word f false _ false _ false _ true is _ _ same = decided word _ is ∙ ap flag_word (let e : Quiet ≡ f = cc in e)
-    named_by word f false _ false _ false _ false _ true is same = decided word _ is ∙ ap flag_word (let e : Json ≡ f = cc in e)
-    named_by word f false _ false _ false _ false _ false _ same = absurd (cc)

@@ -16,6 +16,8 @@ mod input;
 mod json;
 mod kinds;
 mod message;
+mod mistakes;
+mod nearest;
 mod notes;
 mod numbers;
 mod order;
@@ -23,6 +25,7 @@ mod output;
 mod reports;
 mod sections;
 mod subcommands;
+mod telling;
 mod usage;
 mod verdicts;
 mod visible;
@@ -30,9 +33,10 @@ mod words;
 
 use crate::command::{command, say};
 use crate::input::Input;
-use crate::order::{Asked, Order};
+use crate::order::{Asked, Order, Value};
 use crate::output::Output;
-use crate::usage::{UNKNOWN, USAGE, VERSION, help_of};
+use crate::telling::tell_mistake;
+use crate::usage::{UNREADABLE, USAGE, VERSION, help_of};
 use crate::words::asked_by;
 use std::alloc::AllocError;
 use std::env;
@@ -41,8 +45,8 @@ use std::process::ExitCode;
 use std::rt::Env;
 use walrus_tools::{FromWrite, write_all};
 
-// The words behind the program's name. Where one isn't UTF-8, there are none, which say nothing.
-fn given<R: Env + AllocGlobal>(rt: &R) -> Result<Vec<String>, AllocError> {
+// The arguments behind the program's name; none where one isn't UTF-8.
+fn given<R: Env + AllocGlobal>(rt: &R) -> Result<Option<Vec<String>>, AllocError> {
     let mut words = Vec::new(rt.alloc());
     match env::args(rt) {
         Ok(all) => {
@@ -51,24 +55,37 @@ fn given<R: Env + AllocGlobal>(rt: &R) -> Result<Vec<String>, AllocError> {
             }
         }
         Err(error) if error.kind() == ErrorKind::OutOfMemory => return Err(AllocError),
-        Err(_) => {}
+        Err(_) => return Ok(None),
     }
-    Ok(words)
+    Ok(Some(words))
 }
 
-// The path of a file, where the word names one.
-fn path_in(word: &Option<String>) -> Option<&str> {
-    match word {
-        Some(path) if path.as_str() != "-" => Some(path.as_str()),
-        _ => None,
+// The path of a file, where the argument names one.
+fn path_of(name: &str) -> Option<&str> {
+    if name == "-" { None } else { Some(name) }
+}
+
+// The path of the file that is read, if one is named.
+fn input_path(name: &Option<String>) -> Option<&str> {
+    match name {
+        Some(name) => path_of(name.as_str()),
+        None => None,
+    }
+}
+
+// The path of the file that is written, if one is named.
+fn output_path(name: &Option<Value>) -> Option<&str> {
+    match name {
+        Some(name) => path_of(name.text()),
+        None => None,
     }
 }
 
 // Runs the order between its streams.
 fn run(rt: &HostRuntime, order: &Order) -> u8 {
     let mut errors = FromWrite::new(rt.stderr());
-    let mut input = Input::new(rt, path_in(&order.input));
-    let mut output = Output::new(rt, path_in(&order.output));
+    let mut input = Input::new(rt, input_path(&order.input));
+    let mut output = Output::new(rt, output_path(&order.output));
     command(rt.alloc(), order, &mut input, &mut output, &mut errors)
 }
 
@@ -79,24 +96,27 @@ fn tell(rt: &HostRuntime, text: &str) -> u8 {
     say(&mut output, &mut errors, text)
 }
 
+// Writes a line on standard error, and answers this status.
+fn warn(rt: &HostRuntime, line: &str, status: u8) -> ExitCode {
+    let mut errors = FromWrite::new(rt.stderr());
+    let _told = write_all(&mut errors, line.as_bytes());
+    ExitCode::from(status)
+}
+
 fn main(rt: HostRuntime) -> ExitCode {
-    let asked = match given(&rt) {
-        Ok(words) => asked_by(words),
-        Err(_) => {
-            let mut errors = FromWrite::new(rt.stderr());
-            let _told = write_all(&mut errors, b"mulkavesh: out of memory\n");
-            return ExitCode::from(1);
-        }
+    let words = match given(&rt) {
+        Ok(Some(words)) => words,
+        Ok(None) => return warn(&rt, UNREADABLE, 2),
+        Err(_) => return warn(&rt, "mulkavesh: out of memory\n", 1),
     };
-    ExitCode::from(match asked {
-        Some(Asked::Help) => tell(&rt, USAGE),
-        Some(Asked::HelpOf(work)) => tell(&rt, help_of(work)),
-        Some(Asked::Version) => tell(&rt, VERSION),
-        Some(Asked::Run(order)) => run(&rt, &order),
-        None => {
+    ExitCode::from(match asked_by(words) {
+        Ok(Asked::Help) => tell(&rt, USAGE),
+        Ok(Asked::HelpOf(work)) => tell(&rt, help_of(work)),
+        Ok(Asked::Version) => tell(&rt, VERSION),
+        Ok(Asked::Run(order)) => run(&rt, &order),
+        Err(mistake) => {
             let mut errors = FromWrite::new(rt.stderr());
-            let _told = write_all(&mut errors, UNKNOWN.as_bytes());
-            2
+            tell_mistake(&mut errors, &mistake)
         }
     })
 }

@@ -9,8 +9,8 @@ ghost use Rattle.walrus_tools.specs.Handed.{Counts, Tells, WroteFront, stream_of
 use crate::visible::front_shown;
 use walrus_tools::{DeviceFailed, Sink, write_all};
 
-// Writes a text as people see it.
-fn write_shown<E: Sink>(errors: &mut E, text: &[u8]) -> Result<(), DeviceFailed>
+/// Writes a text as people see it.
+pub(crate) fn write_shown<E: Sink>(errors: &mut E, text: &[u8]) -> Result<(), DeviceFailed>
     ensures ok { OnOk result (Appends (E.held errors.old) (E.held errors.new) (shown text.now)) }
     ensures begun { OnErr result
         (WroteFront (E.held errors.old) (E.held errors.new) (shown text.now)) }

@@ -1,7 +1,7 @@
 //! What can be asked for on the command line.
 
 ghost use Rattle.std.specs.Prelude.{◌≡◌};
-ghost use Rattle.mulkavesh.specs.Order.{IsWorkOf, flag_named, has_flag, has_operand, new_order};
+ghost use Rattle.mulkavesh.specs.Order.{IsWorkOf, flag_named, has_flag, has_operand, joined_front, new_order, value_bytes};
 
 use walrus_tools::Wanted;
 
@@ -19,7 +19,7 @@ pub(crate) enum Work {
     Why,
 }
 
-/// A word that begins with a dash and has no other behind it.
+/// An option without a value.
 #[derive(Clone, Copy, PartialEq, Eq)]
 pub(crate) enum Flag {
     NoNames,
@@ -27,6 +27,46 @@ pub(crate) enum Flag {
     NoLegacy,
     Quiet,
     Json,
+}
+
+/// How the option is spelled that says which file is written: `-o`, or `--output`.
+#[derive(Clone, Copy, PartialEq, Eq)]
+pub(crate) enum Naming {
+    Short,
+    Long,
+}
+
+/// The value of an option: an argument of its own, or what stands behind the option in one argument, as in `-oFILE` and `--output=FILE`.
+#[derive(Drop)]
+pub(crate) struct Value {
+    /// The argument that it stands in.
+    pub(crate) argument: String,
+    /// The option that stands in front of it there; none where the argument is the value.
+    pub(crate) joined: Option<Naming>,
+}
+
+// What stands in front of the value in its argument.
+fn joined_front(joined: Option<Naming>) -> &'static str
+    ensures { result.now ≡ joined_front joined }
+{
+    match joined {
+        None => "",
+        Some(Naming::Short) => "-o",
+        Some(Naming::Long) => "--output=",
+    }
+}
+
+impl Value {
+    /// The value itself.
+    pub(crate) fn text(&self) -> &str
+        ensures { result.now ≡ value_bytes self.now }
+    {
+        let argument = self.argument.as_str();
+        match argument.strip_prefix(joined_front(self.joined)) {
+            Some(value) => value,
+            None => argument,
+        }
+    }
 }
 
 /// A subcommand, with what is said to it.
@@ -44,10 +84,10 @@ pub(crate) struct Order {
     /// The file that is read; none for standard input.
     pub(crate) input: Option<String>,
     /// The file that is written; none for standard output.
-    pub(crate) output: Option<String>,
+    pub(crate) output: Option<Value>,
 }
 
-/// What the words of the command line ask for.
+/// What the arguments of the command line ask for.
 #[derive(Drop)]
 pub(crate) enum Asked {
     Help,
@@ -96,7 +136,7 @@ pub(crate) fn work_of(word: &str) -> Option<Work>
     }
 }
 
-/// The flag of this word.
+/// The option without a value that is spelled so.
 pub(crate) fn flag_of(word: &str) -> Option<Flag>
     ensures { result ≡ flag_named word.now }
 {
@@ -104,7 +144,7 @@ pub(crate) fn flag_of(word: &str) -> Option<Flag>
         "--no-names" => Some(Flag::NoNames),
         "--no-producers" => Some(Flag::NoProducers),
         "--no-legacy" => Some(Flag::NoLegacy),
-        "--quiet" => Some(Flag::Quiet),
+        "-q" | "--quiet" => Some(Flag::Quiet),
         "--json" => Some(Flag::Json),
         _ => None,
     }
@@ -117,7 +157,7 @@ pub(crate) fn takes_operand(work: Work) -> bool
     matches!(work, Work::Strip | Work::Snip | Work::Stub | Work::Why)
 }
 
-/// Whether the subcommand has the flag.
+/// Whether the subcommand has the option.
 pub(crate) fn takes(work: Work, flag: Flag) -> bool
     ensures { result ≡ has_flag work flag }
 {

@@ -5,15 +5,14 @@ use crate::order::Work;
 /// The program's name and version.
 pub(crate) const VERSION: &str = "mulkavesh 0.1.0\n";
 
-/// What is told where the words say nothing.
-pub(crate) const UNKNOWN: &str =
-    "mulkavesh: these words say nothing; mulkavesh --help tells the words\n";
+/// What is told where an argument is no text.
+pub(crate) const UNREADABLE: &str = "mulkavesh: an argument isn't UTF-8\n";
 
-/// All subcommands, the words that several have, and the statuses.
+/// All subcommands, the options that several have, and the statuses.
 pub(crate) const USAGE: &str =
-    "usage: mulkavesh gc | report | list | check | sections [words] [IN] [-o OUT]
-       mulkavesh strip NAME | snip EXPORT | stub MODULE | why FUNCTION [words] [IN] [-o OUT]
-       mulkavesh SUBCOMMAND --help | --help | --version
+    "usage: mulkavesh gc | report | list | check | sections [options] [IN] [-o OUT]
+       mulkavesh strip NAME | snip EXPORT | stub MODULE | why FUNCTION [options] [IN] [-o OUT]
+       mulkavesh help [SUBCOMMAND] | SUBCOMMAND --help | --help | --version
 
   gc              drops what nothing reaches
   report          counts the items that gc would keep and drop
@@ -26,23 +25,27 @@ pub(crate) const USAGE: &str =
   why FUNCTION    says by which references a function stays
 
 IN and OUT are files, or standard input and output where left out or -. A plain file OUT is written whole or not at all.
-Words stand anywhere behind the subcommand; behind -- each word is a name or a file.
+Options stand anywhere behind the subcommand; behind -- each argument is a name or a file.
+
+  -o OUT, -oOUT, --output OUT, --output=OUT    where the answer goes
+  -h, --help                                   the help, of the subcommand or of the program
+  -V, --version                                the version, without a subcommand
 
 Status 0: done. 1: refused, with one line on standard error; with none where nobody reads the output any more.
-2: these words say nothing, and nothing is read.
+2: the arguments say nothing, and one line on standard error says what is wrong with them; nothing is read.
 ";
 
-const GC: &str = "usage: mulkavesh gc [words] [IN] [-o OUT]
+const GC: &str = "usage: mulkavesh gc [options] [IN] [-o OUT]
 
 Drops what nothing reaches, and writes the smaller module. On standard error stands in one line what was dropped.
 
   --no-names      write no names
-  --no-producers  write no producers; without this word walrus 0.28.0 comes to be among them
+  --no-producers  write no producers; without this option walrus 0.28.0 comes to be among them
   --no-legacy     refuse bodies with legacy exceptions (try, catch, catch_all, rethrow, delegate)
-  --quiet         say nothing on standard error, unless gc refuses
+  -q, --quiet     say nothing on standard error, unless gc refuses
 ";
 
-const REPORT: &str = "usage: mulkavesh report [words] [IN] [-o OUT]
+const REPORT: &str = "usage: mulkavesh report [options] [IN] [-o OUT]
 
 Counts the items that gc would keep and drop, in seven lines: functions, tables, memories, tags, globals, elements, data.
 
@@ -51,7 +54,7 @@ Counts the items that gc would keep and drop, in seven lines: functions, tables,
   --no-names, --no-producers    known, as to gc; they change nothing here
 ";
 
-const LIST: &str = "usage: mulkavesh list [words] [IN] [-o OUT]
+const LIST: &str = "usage: mulkavesh list [options] [IN] [-o OUT]
 
 Lists the functions with a body that gc would keep, a line each: the bytes of its body in the smaller module, its index in IN, and its name.
 In a name a character that moves a terminal's cursor, or turns the order of what it shows, is a question mark; with --json it is escaped.
@@ -61,7 +64,7 @@ In a name a character that moves a terminal's cursor, or turns the order of what
   --no-names, --no-producers    known, as to gc; they change nothing here
 ";
 
-const CHECK: &str = "usage: mulkavesh check [words] [IN] [-o OUT]
+const CHECK: &str = "usage: mulkavesh check [options] [IN] [-o OUT]
 
 Says whether the module is accepted: then 'accepted' is written and the status is 0, and else what is wrong with it, and the
 status is 1. Accepted means well made. That is less than valid: the types of operands aren't checked.
@@ -71,7 +74,7 @@ status is 1. Accepted means well made. That is less than valid: the types of ope
   --no-names, --no-producers    known, as to gc; they change nothing here
 ";
 
-const SECTIONS: &str = "usage: mulkavesh sections [words] [IN] [-o OUT]
+const SECTIONS: &str = "usage: mulkavesh sections [options] [IN] [-o OUT]
 
 Lists the sections as they stand, whatever they hold, a line each: its place in bytes from the start, its bytes, and what it is: custom and its
 name, or the standard's word and the count of its entries where one stands there, or unknown and its id. Where bytes are left in which no
@@ -97,7 +100,7 @@ const STUB: &str = "usage: mulkavesh stub MODULE [IN] [-o OUT]
 Makes each function trap that is imported from the module of this name: it is one of the module's own then. What nothing reaches then is dropped.
 ";
 
-const WHY: &str = "usage: mulkavesh why FUNCTION [words] [IN] [-o OUT]
+const WHY: &str = "usage: mulkavesh why FUNCTION [options] [IN] [-o OUT]
 
 Says by which references a function stays: a line for each item of a chain that leads to it, a root first. FUNCTION is an index, or else a
 name, or else that of an export; of several the first.
@@ -117,5 +120,30 @@ pub(crate) fn help_of(work: Work) -> &'static str {
         Work::Snip => SNIP,
         Work::Stub => STUB,
         Work::Why => WHY,
+    }
+}
+
+/// The subcommand's word.
+pub(crate) fn name_of(work: Work) -> &'static str {
+    match work {
+        Work::Gc => "gc",
+        Work::Report => "report",
+        Work::List => "list",
+        Work::Check => "check",
+        Work::Sections => "sections",
+        Work::Strip => "strip",
+        Work::Snip => "snip",
+        Work::Stub => "stub",
+        Work::Why => "why",
+    }
+}
+
+/// What the subcommand is about, as its usage calls it.
+pub(crate) fn operand_of(work: Work) -> &'static str {
+    match work {
+        Work::Strip => "NAME",
+        Work::Snip => "EXPORT",
+        Work::Stub => "MODULE",
+        _ => "FUNCTION",
     }
 }

@@ -1,88 +1,172 @@
-//! The words of the command line, told apart by hand: what is asked for, or that the words say nothing.
+//! The arguments of the command line, told apart by hand: what they ask for, or what is wrong with them.
 
-ghost use Rattle.std.specs.Prelude.{◌≡◌, ◌∷◌, [], map, string_bytes};
+ghost use Rattle.std.specs.Prelude.{◌≡◌, ◌∷◌, codes, map, string_bytes};
 ghost use Rattle.std.specs.Vec.Iter.{into_iter_items};
-ghost use Rattle.mulkavesh.specs.Steps.{IsPut, is_whole, put_word, put_words, then_at, with_flag, with_output, with_plain};
-ghost use Rattle.mulkavesh.specs.Words.{AsksItself, IsHelped, IsOrdered, IsTold, is_alone};
+ghost use Rattle.mulkavesh.specs.Mistakes.{IsOrdered, IsTold};
+ghost use Rattle.mulkavesh.specs.Order.{work_word};
+ghost use Rattle.mulkavesh.specs.Steps.{IsAlone, IsFirst, IsPut, asks_help, has_value, lacking, look, look_at, put_spelled, put_word, put_words};
+ghost use Rattle.mulkavesh.specs.Steps.{spelled_as, spelled_otherwise, spelling_of, then_at, with_flag, with_output, with_plain};
+ghost use Rattle.mulkavesh.specs.Words.{IsNoWork, IsUnhelped};
 
-use crate::order::{Asked, Flag, Order, Work, flag_of, takes, takes_operand, work_of};
+use crate::mistakes::{Mistake, Wrong};
+use crate::order::{
+    Asked, Flag, Naming, Order, Value, Work, flag_of, takes, takes_operand, work_of,
+};
 use std::vec::IntoIter;
 
-/// What is asked for by the words behind the program's name, if they say anything.
-pub(crate) fn asked_by(words: Vec<String>) -> Option<Asked>
+/// What is asked for by the arguments behind the program's name, or what is wrong with them.
+pub(crate) fn asked_by(words: Vec<String>) -> Result<Asked, Mistake>
     ensures { IsTold (map string_bytes words.items) result }
 {
-    match asked_itself(&words) {
-        Some(asked) => Some(asked),
-        None => Some(Asked::Run(ordered(words)?)),
+    let is_help = asks_help(&words);
+    let mut rest = words.into_iter();
+    let first = match rest.next() {
+        Some(first) => first,
+        None => return Err(Mistake::NoArguments),
+    };
+    match work_of(first.as_str()) {
+        Some(work) if is_help => Ok(Asked::HelpOf(work)),
+        Some(work) => asked_of(work, rest),
+        None if is_help => Ok(Asked::Help),
+        None => asked_itself(first, rest),
     }
 }
 
-// What is asked of the program itself: its help, its version, or the help of a subcommand.
-fn asked_itself(words: &[String]) -> Option<Asked>
-    ensures { AsksItself (map string_bytes words.now) result }
+// What is asked of a subcommand by the arguments behind it, where they don't ask for help.
+fn asked_of(work: Work, rest: IntoIter<String>) -> Result<Asked, Mistake>
+    ensures { IsUnhelped (work_word work ∷ map string_bytes (into_iter_items rest)) →
+        IsTold (work_word work ∷ map string_bytes (into_iter_items rest)) result }
 {
-    if is_alone(words, "--help") {
-        return Some(Asked::Help);
-    }
-    if is_alone(words, "--version") {
-        return Some(Asked::Version);
-    }
-    Some(Asked::HelpOf(work_helped(words)?))
-}
-
-// Whether this is the one word.
-fn is_alone(words: &[String], word: &str) -> bool
-    ensures { result ≡ is_alone (map string_bytes words.now) word.now }
-{
-    match words {
-        [only] => only.as_str() == word,
-        _ => false,
+    match ordered(work, rest) {
+        Ok(order) => Ok(Asked::Run(order)),
+        Err(wrong) => Err(Mistake::Behind(work, wrong)),
     }
 }
 
-// The subcommand that is asked for its help.
-fn work_helped(words: &[String]) -> Option<Work>
-    ensures { IsHelped (map string_bytes words.now) result }
+// What is asked of the program itself, where the first argument is no subcommand, and they don't ask for help by an option.
+fn asked_itself(first: String, rest: IntoIter<String>) -> Result<Asked, Mistake>
+    requires { IsNoWork (string_bytes first) }
+    ensures { IsUnhelped (string_bytes first ∷ map string_bytes (into_iter_items rest)) →
+        IsTold (string_bytes first ∷ map string_bytes (into_iter_items rest)) result }
 {
-    match words {
-        [first, second] => work_before(first.as_str(), second.as_str()),
+    match first.as_str() {
+        "help" => help_asked(rest),
+        "-V" | "--version" => alone(Asked::Version, rest),
+        _ => Err(Mistake::UnknownSubcommand(first)),
+    }
+}
+
+// What is asked for behind `help`.
+fn help_asked(rest: IntoIter<String>) -> Result<Asked, Mistake>
+    ensures { IsUnhelped (codes "help" ∷ map string_bytes (into_iter_items rest)) →
+        IsTold (codes "help" ∷ map string_bytes (into_iter_items rest)) result }
+{
+    match first_of(rest) {
+        None => Ok(Asked::Help),
+        Some((name, left)) => match work_of(name.as_str()) {
+            Some(work) => alone(Asked::HelpOf(work), left),
+            None => Err(Mistake::UnknownSubcommand(name)),
+        },
+    }
+}
+
+// The first argument and the others, if there is one.
+fn first_of(rest: IntoIter<String>) -> Option<(String, IntoIter<String>)>
+    ensures { IsFirst (map string_bytes (into_iter_items rest)) result }
+{
+    let mut left = rest;
+    match left.next() {
+        None => None,
+        Some(first) => Some((first, left)),
+    }
+}
+
+// This, where no argument is left.
+fn alone(asked: Asked, rest: IntoIter<String>) -> Result<Asked, Mistake>
+    ensures { IsAlone asked (map string_bytes (into_iter_items rest)) result }
+{
+    let mut left = rest;
+    match left.next() {
+        None => Ok(asked),
+        Some(extra) => Err(Mistake::Extra(extra)),
+    }
+}
+
+// ---- help
+
+// What is seen of the arguments up to one.
+#[derive(Clone, Copy, PartialEq, Eq)]
+enum Seen {
+    // None that asks for help, and any may stand next.
+    Nothing,
+    // As before, but the next one is the value of an option.
+    Option,
+    // One that asks for help.
+    Help,
+    // `--`, behind which none does.
+    Ending,
+}
+
+// Whether an argument asks for help.
+fn asks_help(words: &[String]) -> bool
+    ensures { result ≡ asks_help (map string_bytes words.now) }
+{
+    let mut seen = Seen::Nothing;
+    'words: for word in words {
+        seen = look(seen, word.as_str());
+    }
+    seen == Seen::Help
+}
+
+// What is seen with one argument more.
+fn look(seen: Seen, word: &str) -> Seen
+    ensures { result ≡ look seen word.now }
+{
+    match seen {
+        Seen::Nothing => look_at(word),
+        Seen::Option => Seen::Nothing,
+        _ => seen,
+    }
+}
+
+// What an argument is, where any may stand.
+fn look_at(word: &str) -> Seen
+    ensures { result ≡ look_at word.now }
+{
+    match word {
+        "-h" | "--help" => Seen::Help,
+        "-o" | "--output" => Seen::Option,
+        "--" => Seen::Ending,
+        _ => Seen::Nothing,
+    }
+}
+
+// ---- orders
+
+// The order that the arguments behind a subcommand say.
+fn ordered(work: Work, words: IntoIter<String>) -> Result<Order, Wrong>
+    ensures { IsOrdered work (map string_bytes (into_iter_items words)) result }
+{
+    let (order, place) = put_all(Order::new(work), words)?;
+    match lacking(&order, place) {
+        Some(wrong) => Err(wrong),
+        None => Ok(order),
+    }
+}
+
+// What is missing behind the last argument.
+fn lacking(order: &Order, place: Place) -> Option<Wrong>
+    ensures { result ≡ lacking order.now place }
+{
+    match place {
+        Place::Output(naming) => Some(Wrong::NoValue(naming)),
+        _ if takes_operand(order.work) && order.operand.is_none() => Some(Wrong::OperandMissing),
         _ => None,
     }
 }
 
-// The subcommand of the first word, where the second one asks for help.
-fn work_before(first: &str, second: &str) -> Option<Work>
-    ensures { IsHelped (first.now ∷ second.now ∷ []) result }
-{
-    if second != "--help" {
-        return None;
-    }
-    work_of(first)
-}
-
-// The order that the words say.
-fn ordered(words: Vec<String>) -> Option<Order>
-    ensures { IsOrdered (map string_bytes words.items) result }
-{
-    let mut rest = words.into_iter();
-    let first = rest.next()?;
-    let (order, place) = put_all(Order::new(work_of(first.as_str())?), rest)?;
-    if !is_whole(&order, place) {
-        return None;
-    }
-    Some(order)
-}
-
-// Whether nothing is missing behind the last word.
-fn is_whole(order: &Order, place: Place) -> bool
-    ensures { result ≡ is_whole order.now place }
-{
-    place != Place::Output && (order.operand.is_some() || !takes_operand(order.work))
-}
-
-// Puts each of the words where it belongs, and answers where a next one would stand.
-fn put_all(order: Order, words: IntoIter<String>) -> Option<(Order, Place)>
+// Puts each of the arguments where it belongs, and answers where a next one would stand.
+fn put_all(order: Order, words: IntoIter<String>) -> Result<(Order, Place), Wrong>
     ensures { result ≡ put_words order Place.Anywhere (into_iter_items words) }
 {
     let mut left = order;
@@ -90,50 +174,135 @@ fn put_all(order: Order, words: IntoIter<String>) -> Option<(Order, Place)>
     'words: for word in words {
         place = put(&mut left, place, word)?;
     }
-    Some((left, place))
+    Ok((left, place))
 }
 
-// Where a word stands.
+// Where an argument stands.
 #[derive(Clone, Copy, PartialEq, Eq)]
 enum Place {
-    // Where any word may.
+    // Where any may.
     Anywhere,
-    // Behind `-o`.
-    Output,
+    // Behind `-o` or `--output`.
+    Output(Naming),
     // Behind `--`.
     Behind,
 }
 
-// Puts the word where it belongs, and answers where the next one stands; none where there is no place for it.
-fn put(order: &mut Order, place: Place, word: String) -> Option<Place>
+// Puts the argument where it belongs, and answers where the next one stands, or why there is no place for it.
+fn put(order: &mut Order, place: Place, word: String) -> Result<Place, Wrong>
     ensures { IsPut (put_word order.old place word) order.new result }
 {
     match place {
-        Place::Output => put_output(order, word),
+        Place::Output(_) => put_output(order, word, None),
         Place::Behind => put_plain(order, word, place),
-        Place::Anywhere => match word.as_str() {
-            "-o" => Some(Place::Output),
-            "--" => Some(Place::Behind),
-            "-" => put_plain(order, word, place),
-            other if other.starts_with("-") => put_flag(order, flag_of(other)),
-            _ => put_plain(order, word, place),
-        },
+        Place::Anywhere => put_spelled(order, spelling_of(word.as_str()), word),
     }
+}
+
+// What an argument is by its spelling, where any may stand.
+#[derive(Clone, Copy, PartialEq, Eq)]
+enum Spelling {
+    // An option without a value.
+    Flag(Flag),
+    // One that has a value.
+    Valued,
+    // The option whose value is the next argument.
+    Output(Naming),
+    // That option and its value.
+    Joined(Naming),
+    // `--`.
+    Ending,
+    // Begun as an option, and none.
+    Unknown,
+    // No option.
+    Plain,
+}
+
+// Puts an argument that is spelled so.
+fn put_spelled(order: &mut Order, spelling: Spelling, word: String) -> Result<Place, Wrong>
+    ensures { IsPut (put_spelled order.old spelling word) order.new result }
+{
+    match spelling {
+        Spelling::Flag(flag) => put_flag(order, flag, word),
+        Spelling::Valued => Err(Wrong::TakesNoValue(word)),
+        Spelling::Output(naming) => Ok(Place::Output(naming)),
+        Spelling::Joined(naming) => put_output(order, word, Some(naming)),
+        Spelling::Ending => Ok(Place::Behind),
+        Spelling::Unknown => Err(Wrong::UnknownOption(word)),
+        Spelling::Plain => put_plain(order, word, Place::Anywhere),
+    }
+}
+
+// What this argument is.
+fn spelling_of(word: &str) -> Spelling
+    ensures { result ≡ spelling_of word.now }
+{
+    match word {
+        "-" => Spelling::Plain,
+        "--" => Spelling::Ending,
+        "-o" => Spelling::Output(Naming::Short),
+        "--output" => Spelling::Output(Naming::Long),
+        _ => spelled_as(flag_of(word), word.as_bytes()),
+    }
+}
+
+// This option without a value, if it is one, and else what the argument is.
+fn spelled_as(flag: Option<Flag>, word: &[u8]) -> Spelling
+    ensures { result ≡ spelled_as flag word.now }
+{
+    match flag {
+        Some(flag) => Spelling::Flag(flag),
+        None => spelled_otherwise(word),
+    }
+}
+
+// What an argument is that is none of the whole words.
+fn spelled_otherwise(word: &[u8]) -> Spelling
+    ensures { result ≡ spelled_otherwise word.now }
+{
+    if word.starts_with(b"--output=") {
+        return Spelling::Joined(Naming::Long);
+    }
+    if word.starts_with(b"-o") {
+        return Spelling::Joined(Naming::Short);
+    }
+    if has_value(word) {
+        return Spelling::Valued;
+    }
+    if word.starts_with(b"-") {
+        return Spelling::Unknown;
+    }
+    Spelling::Plain
+}
+
+// Whether it is an option that takes no value, with one.
+fn has_value(word: &[u8]) -> bool
+    ensures { result ≡ has_value word.now }
+{
+    word.starts_with(b"--no-names=")
+        || word.starts_with(b"--no-producers=")
+        || word.starts_with(b"--no-legacy=")
+        || word.starts_with(b"--quiet=")
+        || word.starts_with(b"--json=")
 }
 
 // The file that is to be written, where none was named.
-fn put_output(order: &mut Order, word: String) -> Option<Place>
-    ensures { IsPut (then_at Place.Anywhere (with_output order.old word)) order.new result }
+fn put_output(order: &mut Order, word: String, joined: Option<Naming>) -> Result<Place, Wrong>
+    ensures { IsPut (then_at Place.Anywhere (with_output order.old word joined)) order.new result }
 {
+    let value = Value {
+        argument: word,
+        joined,
+    };
     if order.output.is_some() {
-        return None;
+        return Err(Wrong::SecondOutput(value));
     }
-    order.output = Some(word);
-    Some(Place::Anywhere)
+    order.output = Some(value);
+    Ok(Place::Anywhere)
 }
 
 // What the subcommand is told to work on, and then the file that is to be read, where none was named.
-fn put_plain(order: &mut Order, word: String, place: Place) -> Option<Place>
+fn put_plain(order: &mut Order, word: String, place: Place) -> Result<Place, Wrong>
     ensures { IsPut (then_at place (with_plain order.old word)) order.new result }
 {
     if takes_operand(order.work) && order.operand.is_none() {
@@ -141,18 +310,17 @@ fn put_plain(order: &mut Order, word: String, place: Place) -> Option<Place>
     } else if order.input.is_none() {
         order.input = Some(word);
     } else {
-        return None;
+        return Err(Wrong::SecondInput(word));
     }
-    Some(place)
+    Ok(place)
 }
 
-// What the flag asks for, where the subcommand has it.
-fn put_flag(order: &mut Order, flag: Option<Flag>) -> Option<Place>
-    ensures { IsPut (then_at Place.Anywhere (with_flag order.old flag)) order.new result }
+// What the option asks for, where the subcommand has it.
+fn put_flag(order: &mut Order, flag: Flag, word: String) -> Result<Place, Wrong>
+    ensures { IsPut (then_at Place.Anywhere (with_flag order.old flag word)) order.new result }
 {
-    let flag = flag?;
     if !takes(order.work, flag) {
-        return None;
+        return Err(Wrong::NotTaken(word));
     }
     match flag {
         Flag::NoNames => order.wanted.names = false,
@@ -161,5 +329,5 @@ fn put_flag(order: &mut Order, flag: Option<Flag>) -> Option<Place>
         Flag::Quiet => order.is_quiet = true,
         Flag::Json => order.is_json = true,
     }
-    Some(Place::Anywhere)
+    Ok(Place::Anywhere)
 }

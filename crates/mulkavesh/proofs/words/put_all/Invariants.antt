@@ -4,7 +4,7 @@ use Rattle.mulkavesh.specs.declared.words.Place.TheVariants.{Anywhere}
 use Rattle.mulkavesh.specs.Steps.{put_words}
 use Rattle.mulkavesh.proofs.words.put_all.Given as goal
 
--- what the words that are left do to what is left of the order is what all of them do
+-- what the arguments that are left do to what is left of the order is what all of them do
 abbrev pub invariant-words : goal.invariant-words
 invariant-words l =
     (goal.iterator-words).can_next l.word-iterator

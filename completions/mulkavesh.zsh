@@ -1,0 +1,29 @@
+#compdef mulkavesh
+# Completions of mulkavesh for zsh: put it under the name `_mulkavesh` into a folder of $fpath.
+
+# The options of a subcommand.
+_mulkavesh_options() {
+  case $1 in
+    gc) echo --no-names --no-producers --no-legacy --quiet --help ;;
+    report | list | check) echo --json --no-legacy --no-names --no-producers --help ;;
+    sections | why) echo --json --help ;;
+    strip | snip | stub) echo --help ;;
+  esac
+}
+
+# What can stand at the cursor: a subcommand first; behind it an option, or a file; and behind `help` a subcommand.
+_mulkavesh() {
+  local -a names
+  names=(gc report list check sections strip snip stub why)
+  if (( CURRENT == 2 )); then
+    compadd -- $names help --help --version
+  elif (( CURRENT == 3 )) && [[ $words[2] == help ]]; then
+    compadd -- $names
+  elif [[ $words[CURRENT-1] != -o && $words[CURRENT-1] != --output && $PREFIX == -* ]]; then
+    compadd -- ${=$(_mulkavesh_options $words[2])} -o --output
+  else
+    _files
+  fi
+}
+
+_mulkavesh "$@"

@@ -1,0 +1,81 @@
+-- What is wrong with arguments that say nothing: each mistake is there, of its kind and with its argument.
+use Rattle.std.specs.Prelude.{◌≡◌, ◌≢◌, ◌⊎◌, ℕ, Bool, true, false, List, [], ◌∷◌, ◌++◌, Option, None, Result, Ok, Err, All, flat_map, length, codes, string_bytes}
+use Rattle.mulkavesh.specs.declared.order.Work.{Work}
+use Rattle.mulkavesh.specs.declared.order.Flag.{Flag}
+use Rattle.mulkavesh.specs.declared.order.Order.{Order}
+use Rattle.mulkavesh.specs.declared.order.Asked.{Asked}
+use Rattle.mulkavesh.specs.declared.order.Asked.TheVariants.{Version}
+use Rattle.mulkavesh.specs.declared.mistakes.Wrong.{Wrong}
+use Rattle.mulkavesh.specs.declared.mistakes.Wrong.TheVariants.{UnknownOption, NotTaken, TakesNoValue, NoValue, SecondOutput, SecondInput, OperandMissing}
+use Rattle.mulkavesh.specs.declared.mistakes.Mistake.{Mistake}
+use Rattle.mulkavesh.specs.declared.mistakes.Mistake.TheVariants.{NoArguments, UnknownSubcommand, Extra, Behind}
+use Rattle.mulkavesh.specs.Order.{flag_word, has_flag, has_operand, naming_word, value_bytes, work_word}
+use Rattle.mulkavesh.specs.Words.{IsNoWork, IsPlain, Piece, Says, SaysOrder, Word, behind_words, ending_words, flag_in, out_in, piece_words, plain_in}
+
+-- ---- behind a subcommand
+
+-- these are pieces, and then these arguments
+pub record Stands (words : List Word) (pieces : List Piece) (more : List Word) : Type 0 where
+  pub are : words ≡ flat_map piece_words pieces ++ more
+  pub plain_words : All IsPlain (flat_map plain_in pieces)
+
+-- how many plain arguments there can be: what the subcommand is about, and IN
+abbrev pub room_if : (has_operand : Bool) → ℕ
+room_if true = 2
+room_if false = 1
+
+abbrev pub room : Work → ℕ
+room w = room_if (has_operand w)
+
+-- an option begins with a dash, isn't a dash alone or `--`, and no piece begins with it that isn't plain
+pub record IsUnknown (word : Word) : Type 0 where
+  pub dashed : (rest : Word) × (word ≡ codes "-" ++ rest)
+  pub no_dash : word ≢ codes "-"
+  pub no_ending : word ≢ codes "--"
+  pub none : (p : Piece) (more : List Word) → plain_in p ≡ [] → piece_words p ≡ word ∷ more → ⊥
+
+-- where a list of words stands behind pieces that name these files to be written, and have these plain arguments: its first argument is wrong so
+module _ (w : Work) (outs plains more : List Word) where
+  abbrev pub WrongAt : Wrong → Type 0
+  WrongAt (UnknownOption a) = (rest : List Word) × (more ≡ string_bytes a ∷ rest) × IsUnknown (string_bytes a)
+  WrongAt (NotTaken a) = (p : Piece) × (f : Flag) × (rest : List Word) × (more ≡ string_bytes a ∷ rest) × (piece_words p ≡ string_bytes a ∷ []) × (flag_in p ≡ f ∷ []) × (has_flag w f ≡ false)
+  WrongAt (TakesNoValue a) = (f : Flag) × (value : Word) × (rest : List Word) × (more ≡ string_bytes a ∷ rest) × (string_bytes a ≡ flag_word f ++ (codes "=" ++ value))
+  WrongAt (NoValue n) = more ≡ naming_word n ∷ []
+  WrongAt (SecondOutput v) = (p : Piece) × (rest : List Word) × (more ≡ piece_words p ++ rest) × (out_in p ≡ value_bytes v ∷ []) × (outs ≢ [])
+  WrongAt (SecondInput a) = (behind : Option (List Word)) × (rest : List Word) × (more ≡ ending_words behind ++ string_bytes a ∷ rest) × (behind ≡ None → IsPlain (string_bytes a)) × (length (plains ++ behind_words behind) ≡ room w)
+  WrongAt OperandMissing = (behind : Option (List Word)) × (more ≡ ending_words behind) × (has_operand w ≡ true) × (plains ++ behind_words behind ≡ [])
+
+-- this is wrong behind the subcommand
+abbrev pub IsWrong : (w : Work) (words : List Word) → Wrong → Type 0
+IsWrong w words wrong = (pieces : List Piece) × (more : List Word) × Stands words pieces more × WrongAt w (flat_map out_in pieces) (flat_map plain_in pieces) more wrong
+
+-- the order that they say; or what is wrong, and they say none
+abbrev pub IsOrdered : (w : Work) (words : List Word) → Result Order Wrong → Type 0
+IsOrdered w words (Ok o) = SaysOrder (work_word w ∷ words) o
+IsOrdered w words (Err wrong) = IsWrong w words wrong × ((o : Order) → SaysOrder (work_word w ∷ words) o → ⊥)
+
+-- ---- all of them
+
+-- it is no subcommand, and nothing else that can stand first
+pub record IsNoSubcommand (word : Word) : Type 0 where
+  pub no_work : IsNoWork word
+  pub no_help : word ≢ codes "help"
+  pub no_version : word ≢ codes "-V"
+  pub no_long_version : word ≢ codes "--version"
+
+-- they ask for the version, or by its name for the help of a subcommand, and nothing can stand behind them
+pub data IsFull (words : List Word) : Type 0 where
+  at_version : Says words Version → IsFull words
+  at_help : (w : Work) → words ≡ codes "help" ∷ work_word w ∷ [] → IsFull words
+
+-- this is wrong with the arguments
+abbrev pub IsMistake : (words : List Word) → Mistake → Type 0
+IsMistake words NoArguments = words ≡ []
+IsMistake words (UnknownSubcommand a) = ((rest : List Word) × (words ≡ string_bytes a ∷ rest) × IsNoSubcommand (string_bytes a)) ⊎ ((rest : List Word) × (words ≡ codes "help" ∷ string_bytes a ∷ rest) × IsNoWork (string_bytes a))
+IsMistake words (Extra a) = (front : List Word) × (rest : List Word) × (words ≡ front ++ string_bytes a ∷ rest) × IsFull front
+IsMistake words (Behind w wrong) = (rest : List Word) × (words ≡ work_word w ∷ rest) × IsWrong w rest wrong
+
+-- what the arguments ask for; or what is wrong with them, and they ask for nothing
+abbrev pub IsTold : List Word → Result Asked Mistake → Type 0
+IsTold words (Ok asked) = Says words asked
+IsTold words (Err mistake) = IsMistake words mistake × ((asked : Asked) → Says words asked → ⊥)
