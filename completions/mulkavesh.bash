@@ -5,15 +5,14 @@ _mulkavesh_options() {
   case $1 in
     gc) echo --no-names --no-producers --no-legacy --quiet --help ;;
     report | list | check) echo --json --no-legacy --no-names --no-producers --help ;;
-    strip) echo --no-names --no-producers --no-legacy --help ;;
-    why) echo --json --help ;;
-    snip | stub) echo --help ;;
+    sections | why) echo --json --help ;;
+    strip | snip | stub) echo --help ;;
   esac
 }
 
 # What can stand at the cursor: a subcommand first; behind it an option, or a file; and behind `help` a subcommand.
 _mulkavesh() {
-  local word=${COMP_WORDS[COMP_CWORD]} before=${COMP_WORDS[COMP_CWORD - 1]} names='gc report list check strip snip stub why' words
+  local word=${COMP_WORDS[COMP_CWORD]} before=${COMP_WORDS[COMP_CWORD - 1]} names='gc report list check sections strip snip stub why' words
   COMPREPLY=()
   if [ "$COMP_CWORD" = 1 ]; then
     words="$names help --help --version"

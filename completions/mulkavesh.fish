@@ -11,14 +11,14 @@ function __mulkavesh_stands_at
     test (count (commandline -opc)) -eq $argv[1]
 end
 
-set -l names gc report list check strip snip stub why
+set -l names gc report list check sections strip snip stub why
 complete -c mulkavesh -n '__mulkavesh_stands_at 1' -f -a "$names help"
 complete -c mulkavesh -n '__mulkavesh_stands_at 2; and __mulkavesh_first_is help' -f -a "$names"
 complete -c mulkavesh -s h -l help -d 'tell the help'
 complete -c mulkavesh -n '__mulkavesh_stands_at 1' -s V -l version -d 'tell the version'
 complete -c mulkavesh -n "__mulkavesh_first_is $names" -s o -l output -r -d 'where the answer goes'
-complete -c mulkavesh -n '__mulkavesh_first_is gc report list check strip' -l no-names -d 'write no names'
-complete -c mulkavesh -n '__mulkavesh_first_is gc report list check strip' -l no-producers -d 'write no producers'
-complete -c mulkavesh -n '__mulkavesh_first_is gc report list check strip' -l no-legacy -d 'refuse legacy exceptions'
+complete -c mulkavesh -n '__mulkavesh_first_is gc report list check' -l no-names -d 'write no names'
+complete -c mulkavesh -n '__mulkavesh_first_is gc report list check' -l no-producers -d 'write no producers'
+complete -c mulkavesh -n '__mulkavesh_first_is gc report list check' -l no-legacy -d 'refuse legacy exceptions'
 complete -c mulkavesh -n '__mulkavesh_first_is gc' -s q -l quiet -d 'say nothing of what was dropped'
-complete -c mulkavesh -n '__mulkavesh_first_is report list check why' -l json -d 'write JSON'
+complete -c mulkavesh -n '__mulkavesh_first_is report list check sections why' -l json -d 'write JSON'

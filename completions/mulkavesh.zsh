@@ -6,16 +6,15 @@ _mulkavesh_options() {
   case $1 in
     gc) echo --no-names --no-producers --no-legacy --quiet --help ;;
     report | list | check) echo --json --no-legacy --no-names --no-producers --help ;;
-    strip) echo --no-names --no-producers --no-legacy --help ;;
-    why) echo --json --help ;;
-    snip | stub) echo --help ;;
+    sections | why) echo --json --help ;;
+    strip | snip | stub) echo --help ;;
   esac
 }
 
 # What can stand at the cursor: a subcommand first; behind it an option, or a file; and behind `help` a subcommand.
 _mulkavesh() {
   local -a names
-  names=(gc report list check strip snip stub why)
+  names=(gc report list check sections strip snip stub why)
   if (( CURRENT == 2 )); then
     compadd -- $names help --help --version
   elif (( CURRENT == 3 )) && [[ $words[2] == help ]]; then

@@ -10,7 +10,7 @@
  * A smaller module is seldom longer than its input: with 256 bytes more than that one call mostly serves.
  *
  * What the caller owes, and no call checks:
- *   - `input`, `name` and `output` have as many bytes as is told, `output` may be written, and nothing else writes them during the call;
+ *   - `input`, `name`, `choice`, `from` and `output` have as many bytes as is told, `output` may be written, and nothing else writes them during the call;
  *   - none of them is null, not even where the length is 0, and `length` isn't null and is aligned as a size_t;
  *   - `output` and `*length` stand apart from each other and from all that is read;
  *   - `malloc`, `realloc` and `free` are of one allocator, and align as the C standard says;
@@ -30,7 +30,7 @@ extern "C" {
 /* The statuses. */
 enum {
   MULKAVESH_DONE = 0,
-  /* The input is no module that keeps the rules. */
+  /* The input is no module that keeps the rules; of mulkavesh_strip and mulkavesh_sections, its framing alone is none. */
   MULKAVESH_INVALID = 1,
   /* What is to be written has a count or a size past 32 bits. */
   MULKAVESH_TOO_LARGE = 2,
@@ -38,7 +38,7 @@ enum {
   MULKAVESH_NO_MEMORY = 3,
   /* The room is smaller than the answer. */
   MULKAVESH_NO_ROOM = 4,
-  /* A flag isn't known. */
+  /* A flag isn't known, or the choice of mulkavesh_strip is no list of records. */
   MULKAVESH_UNKNOWN_FLAG = 5,
   /* There is nothing of this name or index that the call could work on. */
   MULKAVESH_NOT_FOUND = 6
@@ -61,7 +61,7 @@ enum {
 enum {
   /* Nothing: the bytes are accepted. The second number is 0. */
   MULKAVESH_FAULT_NONE = 0,
-  /* The bytes don't begin as a WebAssembly module. The second number is 0. */
+  /* The bytes don't begin as a WebAssembly module. The second number says what they begin as. */
   MULKAVESH_FAULT_HEADER = 1,
   /* No well-formed section stands at a byte. The second number is its place from the start of the input; whole sections stand up to there. */
   MULKAVESH_FAULT_SECTION = 2,
@@ -70,6 +70,32 @@ enum {
   /* The body of a function isn't made of allowed instructions, well nested, with declared indices. The second number is the function's index,
    * where imported ones come first; the bodies before it are well made. */
   MULKAVESH_FAULT_BODY = 4
+};
+
+/* What bytes begin as that don't begin as a module: the second number that mulkavesh_diagnose tells behind MULKAVESH_FAULT_HEADER. */
+enum {
+  /* None of these: the bytes don't begin as a WebAssembly module. */
+  MULKAVESH_BEGINS_OTHER = 0,
+  /* The bytes don't begin as a WebAssembly module: there are none. */
+  MULKAVESH_BEGINS_EMPTY = 1,
+  /* The bytes don't begin as a WebAssembly module: they end within the header. */
+  MULKAVESH_BEGINS_CUT = 2,
+  /* The bytes don't begin as a WebAssembly module: they are compressed by gzip. */
+  MULKAVESH_BEGINS_GZIP = 3,
+  /* The bytes don't begin as a WebAssembly module: they are a zip archive. */
+  MULKAVESH_BEGINS_ZIP = 4,
+  /* The bytes don't begin as a WebAssembly module: they are compressed by zstd. */
+  MULKAVESH_BEGINS_ZSTD = 5,
+  /* The bytes don't begin as a WebAssembly module: they are an ELF file. */
+  MULKAVESH_BEGINS_ELF = 6,
+  /* The bytes don't begin as a WebAssembly module: they are LLVM bitcode. */
+  MULKAVESH_BEGINS_BITCODE = 7,
+  /* The bytes don't begin as a WebAssembly module: they are WebAssembly text, not binary. */
+  MULKAVESH_BEGINS_TEXT = 8,
+  /* The bytes don't begin as a WebAssembly module: they are a component, not a module. */
+  MULKAVESH_BEGINS_COMPONENT = 9,
+  /* The bytes don't begin as a WebAssembly module: they have another version. */
+  MULKAVESH_BEGINS_OTHER_VERSION = 10
 };
 
 /* The rules on the whole: the second number that mulkavesh_diagnose tells behind MULKAVESH_FAULT_RULE. */
@@ -117,10 +143,21 @@ uint32_t mulkavesh_diagnose(const uint8_t *input, size_t input_length, uint32_t 
  * Of the flags MULKAVESH_NO_LEGACY alone has a say. */
 uint32_t mulkavesh_list(const uint8_t *input, size_t input_length, uint32_t flags, uint8_t *output, size_t room, size_t *length);
 
-/* The module without its first custom section of this name; MULKAVESH_NOT_FOUND where there is none. What nothing reaches stays, but all is written
- * anew as by mulkavesh_gc: functions are ordered by size, debug information is gone, and other custom sections are as they were, and so stale where they
- * hold indices. Names, producers and debug information aren't found by it; the flags say whether names and producers are written. */
-uint32_t mulkavesh_strip(const uint8_t *input, size_t input_length, uint32_t flags, const uint8_t *name, size_t name_length, uint8_t *output, size_t room, size_t *length);
+/* What sections stand in the bytes, by their framing alone: an id, a size and so many bytes, which in a custom section begin with its name in UTF-8. What else
+ * stands in them, and in which order they come, isn't looked at. First a byte, which is 1 where sections reach the end of the input and else 0, and the place where
+ * they end: the length of the input, or where no section stands. Behind that for each section its id, a byte; a byte that is 1 where a count of entries stands in
+ * front of its content and else 0; the place of its id; how many bytes all of it has; the count of its entries, 0 where none stands; the length of the name of a
+ * custom section, or MULKAVESH_NO_NAME of others; and the name. Places, counts and lengths are numbers of 32 bits, little-endian, and places are in bytes from the
+ * start. MULKAVESH_INVALID exactly where the magic number and the version don't stand in front; MULKAVESH_TOO_LARGE where a number passes 32 bits. */
+uint32_t mulkavesh_sections(const uint8_t *input, size_t input_length, uint8_t *output, size_t room, size_t *length);
+
+/* The module without the custom sections that are chosen. All else is as it stands, byte for byte: nothing is read but where sections begin and end and what
+ * custom ones are called, so that the module may break other rules. Debug information (`.debug_info`), names (`name`) and producers are custom sections as any.
+ * `choice` is a list of records, each of a byte, the length of a NAME as a number of 32 bits, little-endian, and the NAME. The byte is 0 where the custom sections
+ * whose name the NAME fits go, and 1 where they stay after all. In a NAME `*` stands for any bytes, also for none, and `\*` for a star. MULKAVESH_NOT_FOUND where
+ * a NAME behind 0 fits no custom section; MULKAVESH_INVALID exactly where the bytes aren't a header and whole sections; MULKAVESH_UNKNOWN_FLAG exactly where
+ * `choice` is no such list. */
+uint32_t mulkavesh_strip(const uint8_t *input, size_t input_length, const uint8_t *choice, size_t choice_length, uint8_t *output, size_t room, size_t *length);
 
 /* Why mulkavesh_gc keeps the function of this index: a line for each item of a chain of references that leads to it, a root first (`function 3`), or
  * `function 3 isn't reached`. Which chain it is isn't promised, so a second call may want more room than the first one told: call again with more until

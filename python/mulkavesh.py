@@ -13,7 +13,7 @@ a process with threads no call may be made (`multiprocessing` with the start met
 
 Each call with a module raises `InvalidModule` where the bytes are no module that keeps the rules, with what is wrong as its `fault`;
 `TooLarge` where what is to be written has a count or a size past 32 bits; and `MemoryError`. `strip`, `why`, `snip` and `stub` also raise
-`NotFound`. `diagnose` never raises `InvalidModule`: it answers the fault.
+`NotFound`. `diagnose` never raises `InvalidModule`: it answers the fault; and `strip` and `sections` look at the framing alone.
 """
 import ctypes
 import ctypes.util
@@ -23,11 +23,11 @@ import os
 import pathlib
 import struct
 from dataclasses import dataclass
-from typing import Any, Dict, Iterator, List, Optional, Tuple, Type, Union
+from typing import Any, Dict, Iterable, Iterator, List, Optional, Tuple, Type, Union
 
 __all__ = [
-    "Fault", "FaultKind", "Function", "InvalidModule", "MulkaveshError", "NotFound", "Rule", "TooLarge",
-    "diagnose", "gc", "list_functions", "report", "snip", "strip", "stub", "version", "why",
+    "Beginning", "Fault", "FaultKind", "Function", "InvalidModule", "MulkaveshError", "NotFound", "Rule", "Section", "Sections", "TooLarge",
+    "diagnose", "gc", "list_functions", "report", "sections", "snip", "strip", "stub", "version", "why",
 ]
 
 Bytes = Union[bytes, bytearray, memoryview]
@@ -81,6 +81,39 @@ class Function:
     name: Optional[str]
 
 
+# What the standard calls the sections of each id.
+_KINDS = ("custom", "type", "import", "function", "table", "memory", "global", "export", "start", "element", "code", "data", "data count", "tag")
+
+
+@dataclass(frozen=True)
+class Section:
+    """A section: the number in front of it; the name of a custom one, or None; where its id stands, in bytes from the start; how many bytes all
+    of it has, id and size too; and the count of entries in front of its content, or None where none stands there.
+    """
+
+    id: int
+    name: Optional[str]
+    start: int
+    size: int
+    entries: Optional[int]
+
+    @property
+    def kind(self) -> str:
+        """What the standard calls a section of this id, as in `data count`, or `unknown`."""
+        return _KINDS[self.id] if self.id < len(_KINDS) else "unknown"
+
+
+@dataclass(frozen=True)
+class Sections:
+    """The sections that stand in bytes, by their framing alone: an id, a size and so many bytes, which in a custom section begin with its name;
+    where they end, in bytes from the start: at the end of the bytes, or where no section stands; and whether they reach the end of the bytes.
+    """
+
+    sections: List[Section]
+    end: int
+    whole: bool
+
+
 class FaultKind(enum.IntEnum):
     """What a fault is of: the header, a section, a rule on the whole, or a body."""
 
@@ -88,6 +121,22 @@ class FaultKind(enum.IntEnum):
     SECTION = 2
     RULE = 3
     BODY = 4
+
+
+class Beginning(enum.IntEnum):
+    """What bytes begin as that don't begin as a module."""
+
+    OTHER = 0
+    EMPTY = 1
+    CUT = 2
+    GZIP = 3
+    ZIP = 4
+    ZSTD = 5
+    ELF = 6
+    BITCODE = 7
+    TEXT = 8
+    COMPONENT = 9
+    OTHER_VERSION = 10
 
 
 class Rule(enum.IntEnum):
@@ -104,6 +153,21 @@ class Rule(enum.IntEnum):
     OFFSETS = 9
     LOCALS = 10
 
+
+# What is said of bytes that don't begin as a module, behind that they don't.
+_BEGINS: Dict[Beginning, str] = {
+    Beginning.OTHER: "",
+    Beginning.EMPTY: ": there are none",
+    Beginning.CUT: ": they end within the header",
+    Beginning.GZIP: ": they are compressed by gzip",
+    Beginning.ZIP: ": they are a zip archive",
+    Beginning.ZSTD: ": they are compressed by zstd",
+    Beginning.ELF: ": they are an ELF file",
+    Beginning.BITCODE: ": they are LLVM bitcode",
+    Beginning.TEXT: ": they are WebAssembly text, not binary",
+    Beginning.COMPONENT: ": they are a component, not a module",
+    Beginning.OTHER_VERSION: ": they have another version",
+}
 
 # What is said where a rule is broken.
 _BROKEN: Dict[Rule, str] = {
@@ -124,7 +188,7 @@ _BROKEN: Dict[Rule, str] = {
 class Fault:
     """What is wrong with bytes that are no module. `str` says it in plain words.
 
-    The number is 0 for the header; for a section the place, in bytes from the start, where none stands; for a rule the `Rule` that is broken;
+    The number is for the header the `Beginning` that stands there; for a section the place, in bytes from the start, where none stands; for a rule the `Rule` that is broken;
     and for a body the index of its function, where imported ones come first.
     """
 
@@ -133,7 +197,7 @@ class Fault:
 
     def __str__(self) -> str:
         if self.kind == FaultKind.HEADER:
-            return "the bytes don't begin as a WebAssembly module"
+            return f"the bytes don't begin as a WebAssembly module{_BEGINS[Beginning(self.number)]}"
         if self.kind == FaultKind.SECTION:
             return f"no well-formed section stands at byte {self.number} (0x{self.number:X})"
         if self.kind == FaultKind.RULE:
@@ -154,7 +218,8 @@ _BETWEEN: Dict[str, Tuple[Any, ...]] = {
     "report": (ctypes.c_uint32,),
     "diagnose": (ctypes.c_uint32,),
     "list": (ctypes.c_uint32,),
-    "strip": (ctypes.c_uint32, *_READ),
+    "sections": (),
+    "strip": _READ,
     "why": (ctypes.c_uint32,),
     "snip": _READ,
     "stub": _READ,
@@ -207,12 +272,18 @@ _library = _loaded()
 _MARGIN = 256
 # Seven lines of a word and two numbers of ten digits are shorter, and some two hundred lines of a chain.
 _ROOM_OF_A_REPORT, _ROOM_OF_A_CHAIN = 512, 4096
+# Few modules have more than some forty sections.
+_ROOM_OF_SECTIONS = 1024
 # What is wrong, and the place, the rule or the index.
 _FAULT = struct.Struct("<II")
 # The flags.
 _NO_NAMES, _NO_PRODUCERS, _NO_LEGACY = 1, 2, 4
 # The numbers in front of each name in a list, and what stands there for the length of a name that isn't there.
 _ENTRY, _NO_NAME = struct.Struct("<III"), 2**32 - 1
+# What stands in front of all sections, and in front of the name of each.
+_FRAMING, _SECTION = struct.Struct("<?I"), struct.Struct("<B?IIII")
+# What stands in front of each name in a choice of sections: whether those that it fits stay after all, and its length.
+_CHOSEN = struct.Struct("<?I")
 _INVALID = "the input is no module that keeps the rules"
 _REFUSALS: Dict[int, Tuple[Type[Exception], str]] = {
     Status.TOO_LARGE: (TooLarge, "a count or a size passes 32 bits"),
@@ -248,6 +319,8 @@ def _fault_of(told: bytes) -> Optional[Fault]:
     kind, number = _FAULT.unpack(told)
     if kind == 0:
         return None
+    if kind == FaultKind.HEADER:
+        return Fault(FaultKind.HEADER, Beginning(number))
     return Fault(FaultKind(kind), Rule(number) if kind == FaultKind.RULE else number)
 
 
@@ -279,15 +352,29 @@ def _answer(call: str, module: Bytes, *words: Any, room: int = 0, missing: str =
     raise kind(text)
 
 
-def _functions(listed: bytes) -> Iterator[Function]:
-    """The functions of a list, which has three numbers and a name for each."""
-    at = 0
+def _entries(listed: bytes, at: int, entry: struct.Struct) -> Iterator[Tuple[Any, ...]]:
+    """The entries of a list from a place on: numbers, of which the last is the length of the name behind them, and this name or None."""
     while at < len(listed):
-        index, size, length = _ENTRY.unpack_from(listed, at)
-        at += _ENTRY.size
+        *numbers, length = entry.unpack_from(listed, at)
+        at += entry.size
         end = at if length == _NO_NAME else at + length
-        yield Function(index, size, None if length == _NO_NAME else listed[at:end].decode())
+        yield (*numbers, None if length == _NO_NAME else listed[at:end].decode())
         at = end
+
+
+def _sections(told: bytes) -> Sections:
+    """The sections that the library tells."""
+    whole, end = _FRAMING.unpack_from(told)
+    entries = _entries(told, _FRAMING.size, _SECTION)
+    return Sections([Section(kind, name, start, size, count if counted else None) for kind, counted, start, size, count, name in entries], end, whole)
+
+
+def _chosen(name: Name, stays: bool) -> bytes:
+    """The part of a choice that says that the sections which this name fits go, or that they stay after all."""
+    word = _bytes_of(name)
+    if len(word) >= 2**32:
+        raise TooLarge("the length of a name passes 32 bits")
+    return _CHOSEN.pack(stays, len(word)) + word
 
 
 # ---- the calls
@@ -321,19 +408,32 @@ def diagnose(module: Bytes, *, legacy: bool = True) -> Optional[Fault]:
 
 def list_functions(module: Bytes, *, legacy: bool = True) -> List[Function]:
     """The functions with a body that `gc` keeps, by rising index."""
-    return list(_functions(_answer("list", module, _flags(True, True, legacy), legacy=legacy)))
+    listed = _answer("list", module, _flags(True, True, legacy), legacy=legacy)
+    return [Function(*entry) for entry in _entries(listed, 0, _ENTRY)]
 
 
-def strip(module: Bytes, name: Name, *, names: bool = True, producers: bool = True, legacy: bool = True) -> bytes:
-    """The module without its first custom section of this name; `NotFound` where there is none.
+def sections(module: Bytes) -> Sections:
+    """What sections stand in the bytes, by their framing alone: what stands in them, and in which order they come, isn't looked at.
 
-    What nothing reaches stays, but all is written anew as by `gc`: functions are ordered by size, debug information is gone, and other custom
-    sections are as they were, and so stale where they hold indices. Names, producers and debug information aren't found by it; `names` and
-    `producers` say whether those are written.
+    `InvalidModule` exactly where the magic number and the version don't stand in front; `TooLarge` where a place, a size or a count passes
+    32 bits.
     """
-    word = _bytes_of(name)
-    missing = f"the module has no custom section {name!r} that could be taken away"
-    return _answer("strip", module, _flags(names, producers, legacy), word, len(word), missing=missing, legacy=legacy)
+    return _sections(_answer("sections", module, room=_ROOM_OF_SECTIONS))
+
+
+def strip(module: Bytes, *names: Name, keep: Union[Name, Iterable[Name]] = ()) -> bytes:
+    """The module without the custom sections whose names fit one of `names` and none of `keep`. All else is as it stands, byte for byte.
+
+    In these `*` stands for any bytes, also for none, and `\\*` for a star. Debug information (`.debug*`), names (`name`) and producers
+    (`producers`) are custom sections as any. Nothing is read but where sections begin and end and what custom ones are called, so that the
+    module may break other rules.
+
+    `NotFound` where one of `names` fits no custom section; `InvalidModule` exactly where the bytes aren't a header and whole sections.
+    """
+    stay = [keep] if isinstance(keep, (str, bytes, bytearray, memoryview)) else keep
+    choice = b"".join([*(_chosen(name, False) for name in names), *(_chosen(name, True) for name in stay)])
+    missing = f"no custom section fits {'' if len(names) == 1 else 'one of '}{', '.join(map(repr, names))}"
+    return _answer("strip", module, choice, len(choice), missing=missing)
 
 
 def why(module: Bytes, function: int) -> str:

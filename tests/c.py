@@ -7,12 +7,15 @@ It is what tests/c.sh does with the callers that it compiled, but for rooms and 
 REFUSED is refused.c as a shared library, COUNT says how many mutants, and FOLDER.. hold modules: those with a file NAME.expect are rows, whose words
 stand in NAME.args. The calls `gc` and `report` are held against the program: the same bytes, and the status that its own one and what it tells come
 to. So is `diagnose`, which has to say that nothing is wrong exactly where the program accepts, and against the faults that were worked out by hand
-(tests/faults.txt). The other calls are held against what stands in the modules themselves. Prints the finds and the counts.
+(tests/faults.txt). The other calls are held against what stands in the modules themselves, `sections` and `strip` also of mutants that are none. Prints
+the finds and the counts.
 """
 import collections
 import concurrent.futures
 import pathlib
 import random
+import re
+import struct
 import subprocess
 import sys
 
@@ -25,8 +28,14 @@ SEED = 73
 NO_NAME = 2**32 - 1
 # The kinds of what is wrong with bytes.
 NONE, HEADER, SECTION, RULE, BODY = range(5)
+HEADER_BYTES = b"\0asm\1\0\0\0"
+# What stands in front of files of other kinds, by the numbers of include/mulkavesh.h.
+FRONTS = {
+    3: (b"\x1f\x8b",), 4: (b"PK\3\4", b"PK\5\6"), 5: (b"\x28\xb5\x2f\xfd",), 6: (b"\x7fELF",), 7: (b"BC\xc0\xde", b"\xde\xc0\x17\x0b"),
+    9: (b"\0asm\x0d\0\1\0",),
+}
 RULES = 10
-NOT_FOUND = 6
+INVALID, UNKNOWN_FLAG, NOT_FOUND = 1, 5, 6
 WORDS = {"--no-names": 1, "--no-producers": 2, "--no-legacy": 4}
 UNKNOWN_WORD = 8
 STATUSES = {
@@ -39,6 +48,8 @@ STATUSES = {
 OUT_OF_MEMORY = (3, b"")
 # Of larger modules not each request for memory is refused.
 MOST_BYTES_REFUSED = 2_200
+# A longer name can't be handed in a word.
+MOST_BYTES_OF_A_NAME = 1_000
 
 
 def run(command, data):
@@ -46,9 +57,14 @@ def run(command, data):
     return ran.returncode, ran.stdout, ran.stderr
 
 
+def asked(caller, name, words):
+    """The command for a call with these words, of which bytes are told in hexadecimal."""
+    return [caller, name, *(word.hex() if isinstance(word, bytes) else str(word) for word in words)]
+
+
 def call(caller, name, data, *words):
     """The status and the bytes that a call answers."""
-    status, output, _ = run([caller, name, *map(str, words)], data)
+    status, output, _ = run(asked(caller, name, words), data)
     return status, output
 
 
@@ -159,10 +175,22 @@ def ends_sections(data, place):
     return at == place < len(data)
 
 
+def beginning(data):
+    """The number of what bytes begin as that don't begin as a module."""
+    for number, fronts in FRONTS.items():
+        if data.startswith(fronts):
+            return number
+    if len(data) < 8 and HEADER_BYTES.startswith(data):
+        return 2 if data else 1
+    if data.lstrip(b" \t\r\n").startswith((b"(", b";;")):
+        return 8
+    return 10 if len(data) >= 8 and data.startswith(b"\0asm") else 0
+
+
 def can_be(data, kind, of_it):
     """Whether this can be wrong with the bytes, by their framing."""
-    if kind == HEADER or not data.startswith(b"\0asm\1\0\0\0"):
-        return kind == HEADER and of_it == 0 and not data.startswith(b"\0asm\1\0\0\0")
+    if kind == HEADER or not data.startswith(HEADER_BYTES):
+        return kind == HEADER and not data.startswith(HEADER_BYTES) and of_it == beginning(data)
     if kind == SECTION:
         return ends_sections(data, of_it)
     if kind == RULE:
@@ -236,50 +264,143 @@ def imports(module):
         yield name, kind
 
 
-def stripped(caller, data):
-    """Where not just the first section of a name goes."""
-    first = call(caller, "gc", data, 0)[1]
-    there = [*customs(first)]
-    for name in dict.fromkeys(name for name, _ in there):
-        word = name.decode()
-        status, output = call(caller, "strip", first, 0, word)
-        if word in ("name", "producers"):
-            if status != NOT_FOUND:
-                yield f"strip {word}: status {status}"
-            continue
-        left = [*there]
-        left.remove(next(one for one in there if one[0] == name))
-        if status or [*customs(output)] != left or [one for one in sections(output) if one[0]] != [one for one in sections(first) if one[0]]:
-            yield f"strip {word}: status {status}, or other sections"
-        if call(caller, "strip", data, 0, word)[0]:
-            yield f"strip {word}: not of the input"
-    if call(caller, "strip", data, 0, "no section has this name") != (NOT_FOUND, b""):
-        yield "strip: a section that isn't there"
+def u32(data, at):
+    """The number of 32 bits that stands at a place, and the place behind it."""
+    value, behind = number(data, at)
+    if behind - at > 5 or value >= 2**32:
+        raise IndexError
+    return value, behind
+
+
+def framed(data):
+    """The id, name, count of entries, place and size of each section, and where they end; or None where the bytes don't begin as a module."""
+    if not data.startswith(b"\0asm\1\0\0\0"):
+        return None
+    found, at = [], 8
+    try:
+        while at < len(data):
+            size, begin = u32(data, at + 1)
+            content = data[begin : begin + size]
+            name = named(content) if data[at] == 0 else None
+            if len(content) < size:
+                break
+            found.append((data[at], name, counted(data[at], content), at, begin + size - at))
+            at = begin + size
+    except (IndexError, UnicodeDecodeError):
+        pass
+    return found, at
+
+
+def named(content):
+    """The name in front of a custom section's content."""
+    size, at = u32(content, 0)
+    if at + size > len(content):
+        raise IndexError
+    content[at : at + size].decode()
+    return content[at : at + size]
+
+
+def counted(kind, content):
+    """The count in front of the content of a list, where one stands there."""
+    try:
+        return u32(content, 0)[0] if 0 < kind < 14 and kind not in (8, 12) else None
+    except IndexError:
+        return None
+
+
+def in_the_sections(caller, data):
+    """Where other sections are told than stand there, or another status."""
+    status, told = call(caller, "sections", data)
+    wanted = framed(data)
+    if wanted is None or status:
+        if (status, wanted is None) != (INVALID, True):
+            yield f"sections: status {status}"
+        return
+    (whole, end), at, found = struct.unpack_from("<BI", told), 5, []
+    while at < len(told):
+        kind, is_counted, start, size, count, length = struct.unpack_from("<BBIIII", told, at)
+        at += 18 + (length if length != NO_NAME else 0)
+        name = None if length == NO_NAME else told[at - length : at]
+        found.append((kind, name, count if is_counted else None, start, size))
+        if is_counted > 1 or not is_counted and count:
+            yield f"sections: {is_counted} says whether {count} is a count"
+    if (found, end, whole) != (*wanted, wanted[1] == len(data)):
+        yield f"sections: {found}, {end}, {whole}, and not {wanted}"
+
+
+def choice(goes, stays=()):
+    """The list of records by which `strip` is told what goes and what stays after all."""
+    return b"".join(struct.pack("<BI", kind, len(name)) + name for kind, names in enumerate((goes, stays)) for name in names)
+
+
+def fits(pattern, name):
+    """Whether the name of a section fits one that may have stars."""
+    parts = re.findall(rb"\\\*|.", pattern, re.S)
+    return re.fullmatch(b"".join(b".*" if it == b"*" else re.escape(it[-1:]) for it in parts), name, re.S) is not None
+
+
+def without(data, goes, stays):
+    """The status and the bytes that `strip` has to answer."""
+    found, end = framed(data) or ([], None)
+    if end != len(data):
+        return INVALID, b""
+    names = [name for _, name, *_ in found if name is not None]
+    if not all(any(fits(one, name) for name in names) for one in goes):
+        return NOT_FOUND, b""
+    gone = {name for name in names if any(fits(one, name) for one in goes) and not any(fits(one, name) for one in stays)}
+    return 0, data[:8] + b"".join(data[at : at + size] for _, name, _, at, size in found if name not in gone)
+
+
+def choices_for(data):
+    """Names, which may have stars, of sections that go, and of those that stay after all."""
+    found, _ = framed(data) or ([], 8)
+    names = [name.replace(b"*", b"\\*") for name in dict.fromkeys(name for _, name, *_ in found) if name is not None and len(name) < MOST_BYTES_OF_A_NAME]
+    yield from (([name], []) for name in names)
+    yield from (([b"*"], [name]) for name in names)
+    yield from (([b"*"], []), ([b".debug*"], []), ([b"*e*"], [b"*_*", b"name"]), ([b"*", b"no section has this name"], []), ([], []), ([], [b"*"]))
+
+
+def stripped(callers, data, which=None):
+    """Where other bytes are left than those of the sections that stay, by all choices or by one of them."""
+    choices = [*choices_for(data)]
+    for number_of, (goes, stays) in enumerate(choices) if which is None else [(which, choices[which % len(choices)])]:
+        status, output = call(callers[number_of % len(callers)], "strip", data, 0, choice(goes, stays))
+        if (status, output) != without(data, goes, stays):
+            yield f"strip {goes} but {stays}: status {status} and {len(output)} bytes"
+
+
+def no_choice(callers, data):
+    """Where a choice that is no list of records is taken for one."""
+    whole = choice([b"*"], [b"name"])
+    for bad in [*(whole[:size] for size in range(1, len(whole)) if size != 6), b"\2" + whole[1:], choice([b"*"]) + b"\0", b"\xFF" * 5]:
+        for caller in callers:
+            if call(caller, "strip", data, 0, bad) != (UNKNOWN_FLAG, b""):
+                yield f"strip: the choice {bad.hex(' ')} is taken"
 
 
 def snipped_and_stubbed(program, caller, data):
     """Where what is written isn't settled, or the export or an import isn't as it has to be."""
     taken = 0
     for name, kind, _ in names_of(section(data, 7)):
-        status, output = call(caller, "snip", data, 0, name.decode())
+        status, output = call(caller, "snip", data, 0, name)
         taken += status == 0
         if status not in (0, NOT_FOUND) or (status == 0) > (kind == 0):
             yield f"snip {name}: status {status}"
         if status == 0 and (by_program(program, [], output) != (0, output) or [one[:2] for one in names_of(section(output, 7))] != [one[:2] for one in names_of(section(data, 7))]):
             yield f"snip {name}: not settled, or other exports"
-    if call(caller, "snip", data, 0, "nothing has this name") != (NOT_FOUND, b""):
+    if call(caller, "snip", data, 0, b"nothing has this name") != (NOT_FOUND, b""):
         yield "snip: an export that isn't there"
     for name in dict.fromkeys(name for name, _ in imports(data)):
-        status, output = call(caller, "stub", data, 0, name.decode())
+        status, output = call(caller, "stub", data, 0, name)
         if status or by_program(program, [], output) != (0, output) or (name, 0) in imports(output):
             yield f"stub {name}: status {status}, or not settled, or still imported"
-    if call(caller, "stub", data, 0, "nothing has this name") != call(caller, "gc", data, 0):
+    if call(caller, "stub", data, 0, b"nothing has this name") != call(caller, "gc", data, 0):
         yield "stub: an import that isn't there"
 
 
 def refused_in_turn(caller, refused, data, least, name, *words):
     """Where a call of which one request for memory fails ends otherwise than with ample memory, or as having too little; and fewer requests than the least."""
-    command = [caller, name, *map(str, words)]
+    command = asked(caller, name, words)
     ample, count = requests_of(command, data, refused)
     for which in range(1, count + 1):
         ended = subprocess.run(command, input=data, capture_output=True, env={"LD_PRELOAD": refused, "REFUSED": str(which)}, timeout=120, check=False)
@@ -344,15 +465,21 @@ def main():
     taken = [path for path in modules if call(static, "gc", data[path])[0] == 0]
     small = [path for path in taken if len(data[path]) < 100_000]
     tries.all("lists", ((path.name, in_the_list, static, data[path], flags) for path in taken for flags in (0, 3)))
-    others = (lambda it: (it.name, in_the_chains, static, data[it]), lambda it: (it.name, stripped, static, data[it]), lambda it: (it.name, snipped_and_stubbed, program, static, data[it]))
-    tries.all("chains, sections, exports and imports", (one(path) for path in small if len(data[path]) < 12_000 for one in others))
+    others = (lambda it: (it.name, in_the_chains, static, data[it]), lambda it: (it.name, snipped_and_stubbed, program, static, data[it]))
+    tries.all("chains, exports and imports", (one(path) for path in small if len(data[path]) < 12_000 for one in others))
+    tries.all("sections", ((path.name, in_the_sections, caller, data[path]) for path in [*modules, *rows] for caller in callers))
+    tries.all("sections that go", ((path.name, stripped, callers, data[path]) for path in [*modules, *rows]))
+    tries.all("choices that are none", ((path.name, no_choice, callers, data[path]) for path in small[:3]))
     bases = [data[path] for path in small]
     mutants = [mutated(random.Random(f"{SEED}:{i}"), bases) for i in range(int(count))]
     tries.all("mutants", ((f"mutant {i}", beside_the_program, program, [callers[i % 2]], mutant, ways[i % 16]) for i, mutant in enumerate(mutants)))
     tries.all("diagnoses of mutants", ((f"mutant {i}", diagnosed, program, [callers[i % 2]], mutant, i % 4 // 2 * 4) for i, mutant in enumerate(mutants)))
-    calls = (("gc", 0), ("report", 0), ("list", 0), ("why", 0), ("strip", 0, "target_features"), ("snip", 0, "fill"), ("stub", 0, "env"))
+    tries.all("sections of mutants", ((f"mutant {i}", in_the_sections, callers[i % 2], mutant) for i, mutant in enumerate(mutants)))
+    tries.all("sections of mutants that go", ((f"mutant {i}", stripped, callers, mutant, i) for i, mutant in enumerate(mutants)))
+    calls = [(10, *it) for it in (("gc", 0), ("report", 0), ("list", 0), ("why", 0), ("snip", 0, b"fill"), ("stub", 0, b"env"))]
+    calls += [(1, "diagnose", 0), (2, "sections"), (3, "strip", 0, choice([b"*"], [b"name"]))]
     tiny = [path for path in small if len(data[path]) < MOST_BYTES_REFUSED]
-    inputs = [*((path.name, data[path], 10, *one) for path in tiny for one in calls), *((path.name, data[path], 1, "diagnose", 0) for path in tiny)]
+    inputs = [(path.name, data[path], *one) for path in tiny for one in calls]
     inputs += [(why, given, 0, "diagnose", flags) for why, flags, _, given in faults()]
     tries.all("calls of which each request for memory was refused in turn", ((name, refused_in_turn, static, refused, *one) for name, *one in inputs))
     sys.exit(tries.finds > 0 or not taken)

@@ -199,13 +199,81 @@ def try_list(work):
         same(f"list --json of {title}", found, [(it.index, it.size, it.name) for it in listed])
 
 
+# the standard's words for sections, by their ids
+WORDS = (None, "type", "import", "function", "table", "memory", "global", "export", "start", "element", "code", "data", "data count", "tag")
+
+
+def is_fit(title, text):
+    """Whether a text fits a NAME, in which a star stands for any bytes, and a backslash and a star for a star."""
+    parts = re.findall(rb"\\\*|.", title, re.DOTALL)
+    pattern = b"".join(b".*" if part == b"*" else b"\\*" if part == b"\\*" else re.escape(part) for part in parts)
+    return re.fullmatch(pattern, text, re.DOTALL) is not None
+
+
+def stripped(data, title):
+    """What is left of a module without the custom sections that fit, and whether one does."""
+    parts, found, at = [data[:8]], False, 8
+    for code, content, length in sections(data):
+        if code == 0 and is_fit(title, read_name(content, 0)[0]):
+            found = True
+        else:
+            parts.append(data[at : at + length])
+        at += length
+    return (0, b"".join(parts)) if found else (1, b"")
+
+
 def try_strip(work):
     for title, data in samples():
-        names = [text.decode() for text, _ in customs(data)] if title not in ("broken", "empty") else []
-        for text in [*dict.fromkeys(names), "no such section", ""]:
-            same(f"strip {text} of {title}", run("strip", text, data=data)[:2], answer(mulkavesh.strip, data, text))
-        wanted = answer(mulkavesh.strip, data, "notes", names=False, producers=False, legacy=False)
-        same(f"strip with all options of {title}", run("strip", *FLAGS, "notes", data=data)[:2], wanted)
+        whole = title not in ("broken", "empty")
+        names = [text.decode() for text, _ in customs(data)] if whole else []
+        for text in [*dict.fromkeys(names), ".debug*", "*", "*o*e*", "\\*", "no such section", ""]:
+            wanted = stripped(data, text.encode()) if whole else (1, b"")
+            same(f"strip {text} of {title}", run("strip", text, data=data)[:2], wanted)
+
+
+def section_rows(data):
+    """Each whole section: its id, its name, its place, its whole length, and the count of its entries; and the place where they end."""
+    rows, at = [], 8
+    while at < len(data):
+        try:
+            size, begin = read_number(data, at + 1)
+        except IndexError:
+            break
+        if begin + size > len(data):
+            break
+        code, content = data[at], data[begin : begin + size]
+        try:
+            count = read_number(content, 0)[0] if 0 < code < 14 and code not in (8, 12) else None
+        except IndexError:
+            count = None
+        rows.append((code, read_name(content, 0)[0].decode() if code == 0 else None, at, begin + size - at, count))
+        at = begin + size
+    return rows, at
+
+
+def section_text(code, text, at, length, count):
+    what = "custom" + shown_name(text) if code == 0 else WORDS[code] if code < len(WORDS) else f"unknown {code}"
+    return f"{at} {length} {what}" + ("" if count is None else f" {count}") + "\n"
+
+
+def section_object(code, text, at, length, count):
+    kind = "custom" if code == 0 else WORDS[code] if code < len(WORDS) else "unknown"
+    return {"id": code, "kind": kind, "name": text, "start": at, "size": length, "entries": count}
+
+
+def try_sections(work):
+    odd = module_of(section(1, b""), section(77, b"abc"), custom("a\nb", b""), section(8, b"\0"), section(10, b"\x80"))
+    for title, data in [*samples(), ("odd", odd), ("cut", TWO + b"\0\x05\1a"), ("header", TWO[:8])]:
+        found = run("sections", data=data)
+        if data[:8] != TWO[:8]:
+            same(f"sections of {title}", found[:2], (1, b""))
+            continue
+        rows, end = section_rows(data)
+        status = 0 if end == len(data) else 1
+        said = "" if status == 0 else f"mulkavesh: no section stands at byte {end}\n"
+        same(f"sections of {title}", found, (status, "".join(section_text(*it) for it in rows).encode(), said))
+        listed = run("sections", "--json", data=data)
+        same(f"sections --json of {title}", (listed[0], listed[2], json.loads(listed[1])), (status, said, [section_object(*it) for it in rows]))
 
 
 def try_snip_and_stub(work):
@@ -302,8 +370,19 @@ def faults():
             yield not flags & 4, KINDS[kind], number, bytes.fromhex(data), re.sub(r" \(0x[0-9A-F]+\)", "", words)
 
 
-# The names of the rules, by their numbers in docs/FORMATS.md.
-RULES = {int(number): name for name, number in re.findall(r"^\| 3 `(\w+)` \| (\d+) \|", (TOP / "docs" / "FORMATS.md").read_text(), re.M)}
+def numbered(kind):
+    """The names of docs/FORMATS.md for the second numbers behind this first one, by these."""
+    text = (TOP / "docs" / "FORMATS.md").read_text()
+    return {int(number): name for name, number in re.findall(rf"^\| {kind} `(\w+)` \| (\d+) \|", text, re.M)}
+
+
+# The names of the rules, by their numbers.
+RULES = numbered(3)
+
+
+
+# The names of what bytes begin as, by their numbers there, in lower case.
+BEGINNINGS = {number: re.sub(r"\B([A-Z])", r" \1", name).lower() for number, name in numbered(1).items()}
 
 
 def try_check(work):
@@ -316,13 +395,37 @@ def try_check(work):
         told = (1, f"{words}\n".encode(), refused) if kind else (0, b"accepted\n", "")
         same(f"check of {data.hex()}", run("check", *flags, data=data), told)
         status, text, said = run("check", "--json", *flags, data=data)
-        where = {"section": {"place": number}, "body": {"index": number}, "rule": {"rule": RULES.get(number)}}.get(kind, {})
+        begins = {"begins": BEGINNINGS[number]} if kind == "header" and number else {}
+        where = {"header": begins, "section": {"place": number}, "body": {"index": number}, "rule": {"rule": RULES.get(number)}}.get(kind, {})
         wanted = {"accepted": False, "reason": words, "kind": kind, **where} if kind else {"accepted": True}
         same(f"check --json of {data.hex()}", (status, json.loads(text), said), (told[0], wanted, told[2]))
     out = work / "verdict"
     out.write_bytes(b"as it was")
     same("check -o of what is refused", run("check", "-o", out, data=BROKEN)[0], 1)
     same("OUT of a check that was refused", out.read_bytes(), run("check", data=BROKEN)[1])
+
+
+def try_page(work):
+    """The page that shows what is said of a file of another kind: its line, as it stands there, and its answer."""
+    found = re.findall(r"^    (gzip .*\| \./mulkavesh check)\n\n    (.*)$", (TOP / "docs" / "USING.md").read_text(), re.M)
+    same("lines of docs/USING.md", len(found), 1)
+    for line, answer in found:
+        done = subprocess.run(["sh", "-c", line.replace("./mulkavesh", '"$0"'), str(PROGRAM)], cwd=TOP, capture_output=True, check=False)
+        same(line, (done.returncode, done.stdout.decode()), (1, f"{answer}\n"))
+
+
+def try_faults(work):
+    """Each subcommand that refuses bytes as invalid says in its line what `check` writes, under the same choice of legacy exceptions."""
+    choosing = (["gc"], ["report"], ["report", "--json"], ["list"], ["strip", "a"], ["strip", "a", "--no-names"])
+    others = (["snip", "a"], ["stub", "env"], ["why", "0"], ["why", "a"], ["why", "--json", "0"])
+    for legacy, kind, _, data, words in faults():
+        flags = [] if legacy else ["--no-legacy"]
+        if kind:
+            said = run("check", *flags, data=data)[1].decode()
+            same(f"check of {data.hex()}", said, f"{words}\n")
+            for order in (*([*it, *flags] for it in choosing), *(others if legacy else ())):
+                line = f"mulkavesh: standard input: the input WebAssembly is invalid: {said}"
+                same(f"{order} of {data.hex()}", run(*order, data=data), (1, b"", line))
 
 
 def try_note(work):
@@ -345,11 +448,14 @@ def try_note(work):
 def try_silence(work):
     """What is said on standard error where all was done: nothing, but for what gc says without --quiet, and for snip and stub, of which nothing is told here."""
     data = functions(2, [("run", 1)], [(0, "gone"), (1, "main")], [custom("notes", b"abc")])
-    for words in ("check", "report", "list", "why 0", "why main", "strip notes", "gc --quiet", "check --json", "report --json", "list --json", "why --json run"):
+    for words in (
+        "check", "report", "list", "why 0", "why main", "sections", "strip notes", "gc --quiet", "check --json", "report --json", "list --json", "sections --json",
+        "why --json run",
+    ):
         status, _, said = run(*words.split(), data=data)
         same(f"what {words} says", (status, said), (0, ""))
     for title, data in samples():
-        for words in ("check", "report", "list", "why 0", "strip producers", "gc --quiet"):
+        for words in ("check", "report", "list", "sections", "why 0", "strip producers", "gc --quiet"):
             status, _, said = run(*words.split(), data=data)
             same(f"how many lines {words} says of {title}", len(said.splitlines()), status)
 
@@ -423,8 +529,12 @@ def try_failures(work):
     ):
         same(f"{words}", run(*words, data=TWO), (1, b"", f"mulkavesh: {of}: {why}\n"))
         same(f"OUT of {words}", out.read_bytes(), b"as it was")
-    for work_word in ("gc", "report", "list", "check"):
-        same(f"{work_word} of what is refused", run(work_word, "-o", out, data=BROKEN), (1, b"", "mulkavesh: standard input: the input WebAssembly is invalid\n"))
+    line = f"mulkavesh: standard input: the input WebAssembly is invalid: {run('check', data=BROKEN)[1].decode()}"
+    for work_word in ("gc", "report", "list", "strip none", "snip none", "stub none", "why none"):
+        same(f"{work_word} of what is refused", run(*work_word.split(), "-o", out, data=BROKEN), (1, b"", line))
+        same(f"OUT of {work_word} of what is refused", out.read_bytes(), b"as it was")
+    line = "mulkavesh: standard input: the input WebAssembly is invalid\n"
+    same("check of what is refused", run("check", "-o", out, data=BROKEN), (1, b"", line))
     data = functions(1, [("a", 0), ("b", 0)])
     same("snip of a second name", run("snip", "b", data=data)[2], "mulkavesh: standard input: this function is imported, or exported before under another name\n")
     is_clean("what was refused", work)
@@ -578,6 +688,9 @@ MISTAKES = (
     ("report --quiet", "report: --quiet is no option of this subcommand; mulkavesh report --help tells more"),
     ("list -q in", "list: -q is no option of this subcommand; mulkavesh list --help tells more"),
     ("snip a --no-names", "snip: --no-names is no option of this subcommand; mulkavesh snip --help tells more"),
+    ("strip a --no-names", "strip: --no-names is no option of this subcommand; mulkavesh strip --help tells more"),
+    ("sections --quiet", "sections: --quiet is no option of this subcommand; mulkavesh sections --help tells more"),
+    ("sections in out", "sections: 'out' is a second input; the output goes behind -o"),
     ("why a --no-legacy", "why: --no-legacy is no option of this subcommand; mulkavesh why --help tells more"),
     ("gc --quiet=1", "gc: --quiet=1 has a value, but this option takes none; mulkavesh gc --help tells more"),
     ("check --json= in", "check: --json= has a value, but this option takes none; mulkavesh check --help tells more"),
@@ -589,7 +702,7 @@ MISTAKES = (
     ("gc in out.wasm", "gc: 'out.wasm' is a second input; the output goes behind -o"),
     ("gc -- in -o", "gc: '-o' is a second input; the output goes behind -o"),
     ("why a b c", "why: 'c' is a second input; the output goes behind -o"),
-    ("strip", "strip: SECTION is missing; mulkavesh strip --help tells more"),
+    ("strip", "strip: NAME is missing; mulkavesh strip --help tells more"),
     ("snip -o out", "snip: EXPORT is missing; mulkavesh snip --help tells more"),
     ("stub --", "stub: MODULE is missing; mulkavesh stub --help tells more"),
     ("why --json", "why: FUNCTION is missing; mulkavesh why --help tells more"),
@@ -658,7 +771,7 @@ def try_forms_of_help(work):
 def try_help(work):
     version = run("--version")
     same("--version", (version[0], version[2], re.fullmatch(rb"mulkavesh \d+\.\d+\.\d+\n", version[1]) is not None), (0, "", True))
-    words = ["gc", "report", "list", "check", "strip", "snip", "stub", "why"]
+    words = ["gc", "report", "list", "check", "sections", "strip", "snip", "stub", "why"]
     whole = run("--help")
     same("--help", (whole[0], whole[2]), (0, ""))
     flags = {}
@@ -668,7 +781,7 @@ def try_help(work):
         same(f"{word} --help", (status, said, text.startswith(f"usage: mulkavesh {word} ".encode())), (0, "", True))
         flags[word] = set(re.findall(r"--[a-z-]+", text.decode()))
         for flag in ("--no-names", "--no-producers", "--no-legacy", "--quiet", "--json"):
-            operand = ["x"] if word in words[4:] else []
+            operand = ["x"] if word in words[5:] else []
             known = run(word, flag, *operand, data=b"")[0] != 2
             same(f"{word} --help names {flag}", flag in flags[word], known)
     lines = [line for it in (whole, *(run(word, "--help") for word in words)) for line in it[1].decode().splitlines()]
@@ -688,7 +801,7 @@ def completed(*words):
 def try_completions(words, flags):
     same("bash -n of the completions", subprocess.run(["bash", "-n", TOP / "completions" / "mulkavesh.bash"], check=False).returncode, 0)
     same("the first word", completed("mulkavesh", ""), {*words, "help", "--help", "--version"})
-    same("a word that is begun", completed("mulkavesh", "s"), {"strip", "snip", "stub"})
+    same("a word that is begun", completed("mulkavesh", "s"), {"sections", "strip", "snip", "stub"})
     same("a word behind help", completed("mulkavesh", "help", "st"), {"strip", "stub"})
     for word in words:
         same(f"the options of {word}", completed("mulkavesh", word, "-"), {*flags[word], "--help", "-o", "--output"})

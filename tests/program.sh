@@ -3,6 +3,7 @@
 # tests/program.sh [PROGRAM [WALRUS_GC [FOLDER]]], the proved programs and library that tools/build.sh left where none are given, or those of tools/unproved.sh.
 # The program is run as a user does. What program.py tries, over the modules of tests/samples, ../shared/samples (where it is there) and made ones:
 #   gc and report beside WALRUS_GC, under all words: the same bytes and statuses; list, strip, snip, stub and why beside the library in FOLDER, by python/mulkavesh.py
+#   the bytes of faults.txt: what check writes of them, and the line of each other subcommand that refuses them
 #   files and streams, as IN and as OUT: links, rights, a named pipe, a device, IN as OUT; each failure, after which OUT is as it was and no file is beside it
 #   a disk that is full, where this user may mount one; another user, where this one is root; a pipe that nobody reads; a list of a million lines into `head`
 #   arguments that say nothing, of which nothing is read, with the line that is told of each; the forms of options; --json by Python's json; --help, --version, the completions, the manual page (where groff is there)

@@ -58,6 +58,8 @@ FILES_OF_NUMBERS = (
     "wasm_frames/specs/Frames.antt",
     "wasm_frames/src/read.rt",
     "wasm_writer/src/writer.rt",
+    # the bytes by which files of other kinds are known
+    "walrus_tools/specs/Beginnings.antt",
     # counts of pages, no bytes
     "wasm_wire/src/rules/limits.rt",
     # operators that no code names

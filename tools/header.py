@@ -63,6 +63,8 @@ def faults_of_sources():
     text = read("crates", "walrus_tools", "src", "tool", "diagnose.rt")
     kinds = re.findall(r"(None|Fault::\w+)(?:\(\w+\))?\)? => \((\d+),", text)
     yield from ((f"FAULT_{name.removeprefix('Fault::').upper()}", int(number)) for name, number in kinds)
+    for name, number in re.findall(r"Beginning::(\w+) => (\d+),", read("crates", "walrus_tools", "src", "beginnings.rt")):
+        yield "BEGINS" + re.sub(r"([A-Z])", r"_\1", name).upper(), int(number)
     for name, number in re.findall(r"BrokenRule::(\w+) => (\d+),", text):
         yield "RULE" + re.sub(r"([A-Z])", r"_\1", name).upper(), int(number)
 
@@ -84,7 +86,7 @@ def constants_of_rust(text):
 
 def constants_of_python(text):
     found = {}
-    for of_python, front in (("Status", ""), ("FaultKind", "FAULT_"), ("Rule", "RULE_")):
+    for of_python, front in (("Status", ""), ("FaultKind", "FAULT_"), ("Beginning", "BEGINS_"), ("Rule", "RULE_")):
         numbers = re.search(rf"class {of_python}\(.*?(?=\n\n\n)", text, re.S)
         found.update((front + name, int(number)) for name, number in re.findall(r"^    ([A-Z_]+) = (\d+)", numbers[0], re.M))
     return found
@@ -113,8 +115,8 @@ def unlike_the_words(header):
         wanted = words.replace("byte 1234 (0x4D2)", "a byte").replace("of function 7", "of a function")
         if f"{wanted[0].upper()}{wanted[1:]}." not in told:
             yield f"include/mulkavesh.h: no comment says of {name}: {wanted}"
-    if len(rows) != 13:
-        yield f"docs/FORMATS.md: {len(rows)} rows say what is wrong with bytes, and not 13"
+    if len(rows) != 23:
+        yield f"docs/FORMATS.md: {len(rows)} rows say what is wrong with bytes, and not 23"
 
 
 def versions(number):

@@ -22,15 +22,49 @@ export interface Listed {
   name: string | null;
 }
 
+/** What the standard calls a section. */
+export type SectionKind =
+  | 'custom' | 'type' | 'import' | 'function' | 'table' | 'memory' | 'global' | 'export' | 'start' | 'element' | 'code' | 'data' | 'data count' | 'tag' | 'unknown';
+
+/** A section, as its framing tells of it. */
+export interface Section {
+  /** The number in front of it, and what the standard calls a section of this id. */
+  id: number;
+  kind: SectionKind;
+  /** The name of a custom section, or null. */
+  name: string | null;
+  /** Where its id stands, in bytes from the start, and how many bytes all of it has, id and size too. */
+  start: number;
+  size: number;
+  /** The count of entries in front of its content, or null where none stands there. */
+  entries: number | null;
+}
+
+/** The sections that stand in bytes, by their framing alone: an id, a size and so many bytes, which in a custom section begin with its name. */
+export interface Sections {
+  sections: Section[];
+  /** Where they end, in bytes from the start: at the end of the bytes, or where no section stands. */
+  end: number;
+  /** Whether they reach the end of the bytes. */
+  whole: boolean;
+}
+
+/** NAMEs of custom sections, in which `*` stands for any bytes, also for none, and `\*` for a star. */
+export type Names = string | Bytes | readonly (string | Bytes)[];
+
+/** What bytes begin as that don't begin as a module. */
+export type Beginning = 'empty' | 'cut' | 'gzip' | 'zip' | 'zstd' | 'elf' | 'bitcode' | 'text' | 'component' | 'other version';
+
 /** A rule on the sections of a module as a whole. */
 export type Rule = 'Order' | 'Types' | 'Indices' | 'FunctionTypes' | 'Limits' | 'Counts' | 'ExportNames' | 'Start' | 'Offsets' | 'Locals';
 
 /**
- * What is wrong with bytes that are no module: the header; the place, in bytes from the start, where no section stands; the rule that is broken; or the index of
- * a function whose body isn't well made, where imported ones come first. `text` says it in plain words.
+ * What is wrong with bytes that are no module: the header, with what stands there in its place, or null where that isn't known; the place, in bytes from the
+ * start, where no section stands; the rule that is broken; or the index of a function whose body isn't well made, where imported ones come first. `text` says
+ * it in plain words.
  */
 export type Fault =
-  | { kind: 'header'; text: string }
+  | { kind: 'header'; begins: Beginning | null; text: string }
   | { kind: 'section'; place: number; text: string }
   | { kind: 'rule'; rule: Rule; text: string }
   | { kind: 'body'; index: number; text: string };
@@ -46,11 +80,16 @@ export interface Mulkavesh {
   /** The functions with a body that `gc` keeps, by rising index. */
   list(input: Bytes, options?: Options): Listed[];
   /**
-   * The module without its first custom section of this name, or NotFound. What nothing reaches stays, but all is written anew as by `gc`: functions are ordered by
-   * size, debug information is gone, and other custom sections are as they were, and so stale where they hold indices. Names, producers and debug information
-   * aren't found by it.
+   * What sections stand in the bytes, by their framing alone: what stands in them, and in which order they come, isn't looked at. InvalidModule exactly where the
+   * magic number and the version don't stand in front.
    */
-  strip(input: Bytes, name: string | Bytes, options?: Options): Uint8Array;
+  sections(input: Bytes): Sections;
+  /**
+   * The module without the custom sections whose names fit one of `names` and none of `keep`; NotFound where one of `names` fits none. All else is as it stands,
+   * byte for byte. Debug information (`.debug*`), names (`name`) and producers (`producers`) are custom sections as any. Nothing is read but where sections begin
+   * and end and what custom ones are called, so that the module may break other rules: InvalidModule exactly where the bytes aren't a header and whole sections.
+   */
+  strip(input: Bytes, names: Names, options?: { keep?: Names }): Uint8Array;
   /** By which references the function of this index stays, a line for each item of a chain, a root first; or that it isn't reached; or NotFound. Which chain it is isn't promised. */
   why(input: Bytes, index: number): string;
   /**
@@ -76,7 +115,7 @@ export type Code = 'INVALID' | 'TOO_LARGE' | 'NO_MEMORY' | 'NOT_FOUND' | 'TRAPPE
 export class MulkaveshError extends Error {
   readonly code: Code;
 }
-/** The input is no module that keeps the rules. */
+/** The input is no module that keeps the rules; of `strip` and `sections`, its framing is none. */
 export class InvalidModule extends MulkaveshError {
   /** What `diagnose` tells of it under the same choice of `legacy`; the message says it. Null where memory ran out while it was looked for. */
   readonly fault: Fault | null;

@@ -4,7 +4,7 @@
 //     const { gc } = await load();
 //     const smaller = gc(module, { names: false });
 //
-// Each call goes from the bytes of a module to bytes, a text, a list or a fault, and keeps nothing. mulkavesh.d.ts says what each takes and answers.
+// Each call goes from the bytes of a module to bytes, a text, a list, sections or a fault, and keeps nothing. mulkavesh.d.ts says what each takes and answers.
 
 /** A call was refused; `code` is one of INVALID, TOO_LARGE, NO_MEMORY, NOT_FOUND, TRAPPED and UNKNOWN_STATUS. */
 export class MulkaveshError extends Error {
@@ -14,7 +14,7 @@ export class MulkaveshError extends Error {
     this.code = code;
   }
 }
-/** The input is no module that keeps the rules; `fault` is what is wrong with it, as `diagnose` tells it, or null where that could not be found out. */
+/** The input is no module that keeps the rules (of `strip` and `sections`: its framing is none); `fault` is what is wrong with it, as `diagnose` tells it, or null where that could not be found out. */
 export class InvalidModule extends MulkaveshError {
   constructor(code, message, fault = null) {
     super(code, fault === null ? message : `${message}: ${fault.text}`);
@@ -46,6 +46,8 @@ const ROOM_OF_A_REPORT = 512;
 // Two numbers of 32 bits.
 const ROOM_OF_A_FAULT = 8;
 const ROOM_OF_A_CHAIN = 4096;
+// Few modules have more than some forty sections.
+const ROOM_OF_SECTIONS = 1024;
 // Memory of WebAssembly never shrinks: an instance that has come to more is left behind, however the call ends.
 const MOST_MEMORY = 64 * 1024 * 1024;
 const NO_NAME = 2 ** 32 - 1;
@@ -75,6 +77,24 @@ function flagsOf(options = {}) {
     else if (wanted !== true && wanted !== undefined) throw new TypeError(`the option ${word} has to be true or false`);
   }
   return flags;
+}
+
+// Names as a list: one alone is none.
+const listOfNames = (names) => (Array.isArray(names) ? names : [names]).map(nameOf);
+
+// What goes and what stays after all: for each name a byte, its length, and the name.
+function choiceOf(names, { keep = [], ...others } = {}) {
+  for (const word of Object.keys(others)) throw new TypeError(`there is no option ${word}`);
+  const records = [names, keep].flatMap((those, kind) => listOfNames(those).map((name) => [kind, name]));
+  const choice = new Uint8Array(records.reduce((sum, [, name]) => sum + 5 + name.length, 0)), view = new DataView(choice.buffer);
+  let at = 0;
+  for (const [kind, name] of records) {
+    view.setUint8(at, kind);
+    view.setUint32(at + 1, name.length, true);
+    choice.set(name, at + 5);
+    at += 5 + name.length;
+  }
+  return choice;
 }
 
 function indexOf(index) {
@@ -171,6 +191,21 @@ function listOf(bytes) {
   return found;
 }
 
+// What the standard calls the sections of each id.
+const KINDS = ['custom', 'type', 'import', 'function', 'table', 'memory', 'global', 'export', 'start', 'element', 'code', 'data', 'data count', 'tag'];
+
+function sectionsOf(bytes) {
+  const view = new DataView(bytes.buffer), sections = [];
+  for (let at = 5; at < bytes.length; ) {
+    const id = bytes[at], counted = bytes[at + 1] === 1, [start, size, count, length] = [2, 6, 10, 14].map((more) => view.getUint32(at + more, true));
+    at += 18;
+    const ends = at + (length === NO_NAME ? 0 : length), name = length === NO_NAME ? null : decoder.decode(bytes.subarray(at, ends));
+    sections.push({ id, kind: KINDS[id] ?? 'unknown', name, start, size, entries: counted ? count : null });
+    at = ends;
+  }
+  return { sections, end: view.getUint32(1, true), whole: bytes[0] === 1 };
+}
+
 // The rules on the whole, by their numbers from 1 on, and what is said where one is broken.
 const RULES = [
   ['Order', 'the sections stand out of order, or one stands twice'],
@@ -185,10 +220,25 @@ const RULES = [
   ['Locals', 'a body declares more than 50,000 locals'],
 ];
 
+// What bytes begin as that don't begin as a module, by its number, and what is said of that.
+const BEGINNINGS = [
+  [null, ''],
+  ['empty', ': there are none'],
+  ['cut', ': they end within the header'],
+  ['gzip', ': they are compressed by gzip'],
+  ['zip', ': they are a zip archive'],
+  ['zstd', ': they are compressed by zstd'],
+  ['elf', ': they are an ELF file'],
+  ['bitcode', ': they are LLVM bitcode'],
+  ['text', ': they are WebAssembly text, not binary'],
+  ['component', ': they are a component, not a module'],
+  ['other version', ': they have another version'],
+];
+
 // What is wrong, by its kind and the number behind that.
 const FAULTS = [
   () => null,
-  () => ({ kind: 'header', text: "the bytes don't begin as a WebAssembly module" }),
+  (number) => ({ kind: 'header', begins: BEGINNINGS[number][0], text: `the bytes don't begin as a WebAssembly module${BEGINNINGS[number][1]}` }),
   (place) => ({ kind: 'section', place, text: `no well-formed section stands at byte ${place} (0x${place.toString(16).toUpperCase()})` }),
   (number) => ({ kind: 'rule', rule: RULES[number - 1][0], text: RULES[number - 1][1] }),
   (index) => ({ kind: 'body', index, text: `the body of function ${index} isn't made of allowed instructions, well nested, with declared indices` }),
@@ -231,7 +281,8 @@ function callsOver(module) {
     report: (input, options) => decoder.decode(call('report', bytesOf(input), flagsOf(options), [], ROOM_OF_A_REPORT)),
     diagnose: (input, options) => faultOf(call('diagnose', bytesOf(input), flagsOf(options), [], ROOM_OF_A_FAULT)),
     list: (input, options) => listOf(whole('list', bytesOf(input), flagsOf(options))),
-    strip: (input, name, options) => whole('strip', bytesOf(input), flagsOf(options), nameOf(name)),
+    sections: (input) => sectionsOf(call('sections', bytesOf(input), null, [], ROOM_OF_SECTIONS)),
+    strip: (input, names, options) => whole('strip', bytesOf(input), null, choiceOf(names, options)),
     why: (input, index) => decoder.decode(call('why', bytesOf(input), null, [indexOf(index)], ROOM_OF_A_CHAIN)),
     snip: (input, name) => whole('snip', bytesOf(input), null, nameOf(name)),
     stub: (input, from) => whole('stub', bytesOf(input), null, nameOf(from)),

@@ -111,35 +111,9 @@ function show(id) {
 
 // ---- Refusals, in words
 
-// How other files begin.
-const BEGINNINGS = [
-  [[0x1f, 0x8b], 'It is packed by gzip: unpack it first.'],
-  [[0x50, 0x4b, 0x03, 0x04], 'It is a zip archive: the module may be one of the files in it.'],
-  [[0x7f, 0x45, 0x4c, 0x46], 'It is a program or a library for a processor (ELF).'],
-  [[0x42, 0x43, 0xc0, 0xde], 'It is code of LLVM (bitcode): compile it to WebAssembly first.'],
-];
-const IN_TEXT = 'It looks like one in the text form (.wat): wat2wasm makes bytes of it.';
-const MAGIC = [0x00, 0x61, 0x73, 0x6d], VERSION = [0x01, 0x00, 0x00, 0x00], COMPONENT = [0x0d, 0x00, 0x01, 0x00];
-
-const beginsWith = (bytes, wanted) => wanted.every((it, at) => bytes[at] === it);
-
-// What can be said of bytes that don't even begin as a module, without the library; or nothing.
-function firstLook(bytes) {
-  if (bytes.length === 0) return 'The file is empty.';
-  if (!beginsWith(bytes, MAGIC)) {
-    const text = new TextDecoder().decode(bytes).trimStart();
-    const kind = /^(\(|;;)/.test(text) ? IN_TEXT : BEGINNINGS.find(([beginning]) => beginsWith(bytes, beginning))?.[1];
-    return `These bytes don’t begin as a WebAssembly module, which is by 00 61 73 6D. ${kind ?? 'It is a file of another kind.'}`;
-  }
-  if (bytes.length < 8) return 'The file ends before its eighth byte, within the header of a module: it is cut off.';
-  const version = bytes.subarray(4);
-  if (beginsWith(version, COMPONENT)) return 'It is a component, not a module. Take the modules out of it, as wasm-tools component unbundle does.';
-  return beginsWith(version, VERSION) ? null : 'It begins as a module, but of another version of WebAssembly than 1.';
-}
-
 const UNREADABLE = 'The file could not be read. It may be a folder, or it was changed or moved since.';
 const REASONS = {
-  INVALID: 'It begins as a WebAssembly module, but it is no module that keeps the rules. '
+  INVALID: 'It is no WebAssembly module that keeps the rules. '
     + 'Not taken are components, stack switching, shared-everything threads and custom descriptors.',
   TOO_LARGE: 'A count or a size in the smaller module would pass 32 bits.',
   NO_MEMORY: 'There isn’t enough memory for it here: the library has at most 4 GB, and the module with all that is made of it has to stand there.',
@@ -148,12 +122,16 @@ const REASONS = {
   NotFoundError: UNREADABLE,
 };
 
-/** What is wrong with a module that is refused: by the code of the library's error, the first bytes of the file, what the library finds, and the choices. */
-function wordsOf(error, bytes, { legacy }) {
+// The library's words, as they stand in a sentence.
+const sentence = (text) => `${text[0].toUpperCase()}${text.slice(1).replaceAll("'", '’')}.`;
+
+/** What is wrong with a module that is refused: by the code of the library's error, what the library finds, and the choices. */
+function wordsOf(error, { legacy }) {
   if (error.code !== 'INVALID') return REASONS[error.code] ?? `It could not be taken: ${error.message}.`;
-  const fault = error.fault === null ? '' : ` What is wrong: ${error.fault.replaceAll("'", '’')}.`;
+  if (error.fault?.kind === 'header') return sentence(error.fault.text);
+  const fault = error.fault === null ? '' : ` What is wrong: ${error.fault.text.replaceAll("'", '’')}.`;
   const choice = legacy ? '' : ' As you chose, legacy exceptions aren’t taken either.';
-  return firstLook(bytes) ?? `${REASONS.INVALID}${fault}${choice}`;
+  return `${REASONS.INVALID}${fault}${choice}`;
 }
 
 function refuse(words) {
@@ -165,7 +143,7 @@ function refuse(words) {
 }
 
 function onRefused(told) {
-  if (told.asked === 'take') refuse(wordsOf(told, told.first, options()));
+  if (told.asked === 'take') refuse(wordsOf(told, options()));
   else if (told.asked === 'why') byId('why-told').replaceChildren(element('p', {}, REASONS[told.code] ?? told.message));
 }
 

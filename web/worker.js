@@ -6,7 +6,6 @@ import { load, MulkaveshError } from './mulkavesh.js';
 const MOST_BOXES = 500;
 // So many lines from either end of a chain.
 const LINES_OF_A_CHAIN = 100;
-const BYTES_TO_LOOK_AT = 256;
 
 const library = load();
 let bytes = null, functions = [], byIndex = null;
@@ -86,8 +85,7 @@ self.onmessage = async ({ data }) => {
     await ANSWERS[data.word](data, tell);
   } catch (error) {
     const code = error instanceof MulkaveshError ? error.code : error.name;
-    const first = bytes?.slice(0, BYTES_TO_LOOK_AT) ?? null, fault = error.fault?.text ?? null;
-    tell('refused', { code, message: error.message, first, fault, last: true });
+    tell('refused', { code, message: error.message, fault: error.fault ?? null, last: true });
     // Nothing more is asked of a file that is refused.
     if (data.word === 'take') forget();
   }

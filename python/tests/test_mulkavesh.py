@@ -2,6 +2,7 @@
 import base64
 import concurrent.futures
 import ctypes
+import gzip
 import hashlib
 import inspect
 import os
@@ -21,7 +22,7 @@ from unittest import mock
 
 import mulkavesh
 import packing
-from mulkavesh import Fault, FaultKind, Function, InvalidModule, MulkaveshError, NotFound, Rule, TooLarge
+from mulkavesh import Beginning, Fault, FaultKind, Function, InvalidModule, MulkaveshError, NotFound, Rule, Section, Sections, TooLarge
 from tests import worked
 
 HERE = pathlib.Path(__file__).resolve().parent.parent
@@ -32,6 +33,7 @@ CALLS: Dict[str, Callable[[Any], Any]] = {
     "report": mulkavesh.report,
     "diagnose": mulkavesh.diagnose,
     "list": mulkavesh.list_functions,
+    "sections": mulkavesh.sections,
     "strip": lambda module: mulkavesh.strip(module, "a"),
     "why": lambda module: mulkavesh.why(module, 0),
     "snip": lambda module: mulkavesh.snip(module, "a"),
@@ -74,11 +76,14 @@ class Answers(unittest.TestCase):
         self.assertIsNone(mulkavesh.diagnose(worked.TWO))
         self.assertIsNone(mulkavesh.diagnose(worked.LEGACY))
         self.assertEqual(mulkavesh.diagnose(worked.LEGACY, legacy=False), Fault(FaultKind.BODY, 0))
-        self.assertEqual(mulkavesh.diagnose(b"no module"), Fault(FaultKind.HEADER, 0))
+        self.assertEqual(mulkavesh.diagnose(b"no module"), Fault(FaultKind.HEADER, Beginning.OTHER))
         self.assertEqual(mulkavesh.diagnose(worked.TWO + b"\0"), Fault(FaultKind.SECTION, len(worked.TWO)))
         found = mulkavesh.diagnose(worked.TWO[:-10])
         self.assertEqual(found, Fault(FaultKind.RULE, Rule.COUNTS))
         self.assertIsInstance(found and found.number, Rule)
+        found = mulkavesh.diagnose(gzip.compress(worked.TWO))
+        self.assertEqual(found, Fault(FaultKind.HEADER, Beginning.GZIP))
+        self.assertIsInstance(found and found.number, Beginning)
 
     def test_faults_that_were_worked_out(self) -> None:
         count = 0
@@ -104,15 +109,59 @@ class Answers(unittest.TestCase):
         self.assertGreater(len(chain), 4096)
         self.assertEqual(mulkavesh.why(worked.chained(), 499), chain)
 
+    def test_sections(self) -> None:
+        wanted = [Section(1, None, 8, 6, 1), Section(3, None, 14, 5, 2), Section(7, None, 19, 7, 1), Section(10, None, 26, 10, 2)]
+        self.assertEqual(mulkavesh.sections(worked.TWO), Sections(wanted, 36, True))
+        wanted = [Section(0, "a", 8, 5, None), Section(0, "a", 13, 5, None), Section(0, "é", 18, 6, None)]
+        self.assertEqual(mulkavesh.sections(worked.SECTIONS), Sections(wanted, 24, True))
+        self.assertEqual(mulkavesh.sections(worked.HEADER), Sections([], 8, True))
+
+    def test_sections_of_a_cut_module(self) -> None:
+        whole = mulkavesh.sections(worked.TWO)
+        for cut in range(27, 36):
+            self.assertEqual(mulkavesh.sections(worked.TWO[:cut]), Sections(whole.sections[:3], 26, False))
+
+    def test_kinds_of_sections(self) -> None:
+        found = mulkavesh.sections(worked.BROKEN)
+        self.assertEqual([it.kind for it in found.sections], ["custom", "code", "function", "custom", "custom", "custom"])
+        kinds = "custom type import function table memory global export start element code data".split() + ["data count", "tag", "unknown"]
+        self.assertEqual([Section(number, None, 8, 2, None).kind for number in range(15)], kinds)
+        self.assertEqual(Section(255, None, 8, 2, None).kind, "unknown")
+
     def test_strip(self) -> None:
-        self.assertEqual(mulkavesh.strip(worked.SECTIONS, "a", producers=False), worked.FIRST_GONE)
-        self.assertEqual(mulkavesh.strip(worked.SECTIONS, "a"), worked.HEADER + worked.PRODUCERS + worked.FIRST_GONE[len(worked.HEADER):])
-        named = worked.TWO_NAMED + worked.SECTIONS[len(worked.HEADER):]
-        self.assertEqual(mulkavesh.strip(named, "a", names=False, producers=False)[-len(worked.FIRST_GONE) + 8:], worked.FIRST_GONE[8:])
+        self.assertEqual(mulkavesh.strip(worked.SECTIONS, "a"), worked.BOTH_GONE)
+        self.assertEqual(mulkavesh.strip(worked.SECTIONS, "é", "a"), worked.HEADER)
+        self.assertEqual(mulkavesh.strip(worked.SECTIONS), worked.SECTIONS)
+        self.assertEqual(mulkavesh.strip(worked.TWO_NAMED, "name"), worked.TWO)
+        self.assertEqual(mulkavesh.strip(worked.ONE + worked.PRODUCERS, "producers"), worked.ONE)
+
+    def test_strip_by_stars(self) -> None:
+        for name in ("*", "**", b"*"):
+            self.assertEqual(mulkavesh.strip(worked.SECTIONS, name), worked.HEADER)
+        for name in ("a*", "*a", "*a*"):
+            self.assertEqual(mulkavesh.strip(worked.SECTIONS, name), worked.BOTH_GONE)
+        self.assertEqual(mulkavesh.strip(worked.SECTIONS, b"*\xA9"), worked.LAST_GONE)
+        without = worked.BROKEN.replace(b"\0\x04\x02a*\x03", b"")
+        self.assertEqual(len(without), len(worked.BROKEN) - 6)
+        self.assertEqual(mulkavesh.strip(worked.BROKEN, r"a\*"), without)
+        for name in ("c*", "a*a", r"\*", r"a\*"):
+            self.assertRaises(NotFound, mulkavesh.strip, worked.SECTIONS, name)
+
+    def test_what_strip_keeps(self) -> None:
+        self.assertEqual(mulkavesh.strip(worked.SECTIONS, "*", keep="é"), worked.BOTH_GONE)
+        self.assertEqual(mulkavesh.strip(worked.SECTIONS, "*", keep=b"a*"), worked.LAST_GONE)
+        self.assertEqual(mulkavesh.strip(worked.SECTIONS, "*", keep=["a", "é"]), worked.SECTIONS)
+        self.assertEqual(mulkavesh.strip(worked.SECTIONS, "a", keep=iter(("é", "c"))), worked.BOTH_GONE)
+        self.assertRaises(NotFound, mulkavesh.strip, worked.SECTIONS, "*", "c", keep="c")
+
+    def test_strip_of_what_breaks_a_rule(self) -> None:
+        self.assertEqual(mulkavesh.diagnose(worked.BROKEN), Fault(FaultKind.RULE, Rule.ORDER))
+        self.assertEqual(mulkavesh.strip(worked.BROKEN, ".debug*"), worked.NO_DEBUG)
 
     def test_names_of_each_kind(self) -> None:
         for name in ("é", "é".encode(), bytearray("é".encode()), memoryview("é".encode())):
-            self.assertEqual(mulkavesh.strip(worked.SECTIONS, name, producers=False), worked.LAST_GONE)
+            self.assertEqual(mulkavesh.strip(worked.SECTIONS, name), worked.LAST_GONE)
+            self.assertEqual(mulkavesh.strip(worked.SECTIONS, "*", keep=name), worked.BOTH_GONE)
         for name in ("a", b"a", bytearray(b"a"), memoryview(b"a")):
             self.assertEqual(mulkavesh.snip(worked.CALLS, name), worked.SNIPPED)
         for name in ("env", b"env", bytearray(b"env"), memoryview(b"env")):
@@ -156,6 +205,17 @@ class Refusals(unittest.TestCase):
             call(*words, **choices)
         self.assertEqual(raised.exception.fault, fault)
 
+    def assert_framing(self, fault: Fault, module: bytes) -> None:
+        """`strip` and `sections` refuse these bytes only where their framing is none, and then with this fault."""
+        if fault.kind == FaultKind.HEADER:
+            self.assert_invalid(fault, mulkavesh.sections, module)
+        elif mulkavesh.sections(module).whole:
+            self.assertEqual(mulkavesh.strip(module), module)
+            return
+        else:
+            self.assertEqual(fault.kind, FaultKind.SECTION)
+        self.assert_invalid(fault, mulkavesh.strip, module, "a")
+
     def test_faults_of_refusals(self) -> None:
         count = 0
         for flags, kind, number, module, words in worked.faults():
@@ -166,7 +226,7 @@ class Refusals(unittest.TestCase):
                 self.assert_invalid(fault, mulkavesh.gc, module, names=not flags & 1, producers=not flags & 2, legacy=legacy)
                 self.assert_invalid(fault, mulkavesh.report, module, legacy=legacy)
                 self.assert_invalid(fault, mulkavesh.list_functions, module, legacy=legacy)
-                self.assert_invalid(fault, mulkavesh.strip, module, "a", legacy=legacy)
+                self.assert_framing(fault, module)
                 if legacy:
                     self.assert_invalid(fault, mulkavesh.why, bytearray(module), 0)
                     self.assert_invalid(fault, mulkavesh.snip, module, "a")
@@ -177,7 +237,6 @@ class Refusals(unittest.TestCase):
     def test_faults_of_legacy_exceptions(self) -> None:
         for call in (mulkavesh.gc, mulkavesh.report, mulkavesh.list_functions):
             self.assert_invalid(Fault(FaultKind.BODY, 0), call, worked.LEGACY, legacy=False)
-        self.assert_invalid(Fault(FaultKind.BODY, 0), mulkavesh.strip, worked.LEGACY, "a", legacy=False)
 
     def test_what_a_refusal_says(self) -> None:
         with self.assertRaises(InvalidModule) as raised:
@@ -185,7 +244,7 @@ class Refusals(unittest.TestCase):
         text = "the input is no module that keeps the rules: the bytes don't begin as a WebAssembly module"
         self.assertEqual(str(raised.exception), text)
         copied = pickle.loads(pickle.dumps(raised.exception))
-        self.assertEqual((type(copied), str(copied), copied.fault), (InvalidModule, text, Fault(FaultKind.HEADER, 0)))
+        self.assertEqual((type(copied), str(copied), copied.fault), (InvalidModule, text, Fault(FaultKind.HEADER, Beginning.OTHER)))
 
     def test_no_memory_for_the_fault(self) -> None:
         tried = mulkavesh._tried
@@ -214,14 +273,16 @@ class Refusals(unittest.TestCase):
                 with self.subTest(name, module=bytes(module)):
                     if name == "diagnose":
                         self.assertIsNotNone(call(module))
+                    elif name == "sections" and bytes(module).startswith(worked.HEADER):
+                        self.assertFalse(call(module).whole)
                     else:
                         self.assertRaises(InvalidModule, call, module)
 
     def test_what_is_not_found(self) -> None:
-        self.assertRaisesRegex(NotFound, "no custom section 'c'", mulkavesh.strip, worked.SECTIONS, "c")
+        self.assertRaisesRegex(NotFound, "no custom section fits 'c'$", mulkavesh.strip, worked.SECTIONS, "c")
+        self.assertRaisesRegex(NotFound, "no custom section fits one of 'a', b'c'$", mulkavesh.strip, worked.SECTIONS, "a", b"c")
         self.assertRaises(NotFound, mulkavesh.strip, worked.SECTIONS, "")
-        self.assertRaises(NotFound, mulkavesh.strip, worked.TWO_NAMED, "name")
-        self.assertRaises(NotFound, mulkavesh.strip, worked.ONE + worked.PRODUCERS, "producers")
+        self.assertRaises(NotFound, mulkavesh.strip, worked.TWO, "*")
         self.assertRaisesRegex(NotFound, "no function 2$", mulkavesh.why, worked.TWO, 2)
         self.assertRaises(NotFound, mulkavesh.why, worked.TWO, 2**32 - 1)
         self.assertRaisesRegex(NotFound, "exported as 'c'", mulkavesh.snip, worked.TWICE, "c")
@@ -244,6 +305,9 @@ class Refusals(unittest.TestCase):
                     self.assertRaises(TypeError, call, module)
         for name in (None, 5, ["a"]):
             self.assertRaises(TypeError, mulkavesh.strip, worked.SECTIONS, name)
+            self.assertRaises(TypeError, mulkavesh.strip, worked.SECTIONS, "a", keep=[name])
+        for keep in (None, 5):
+            self.assertRaises(TypeError, mulkavesh.strip, worked.SECTIONS, "a", keep=keep)
         for index in (None, 0.5, "0"):
             self.assertRaises(TypeError, mulkavesh.why, worked.TWO, index)
 
@@ -386,7 +450,7 @@ class Declared(unittest.TestCase):
         declared = {}
         for name, parameters in re.findall(r"^uint32_t (\w+)\((.*)\);", HEADER.read_text(encoding="utf-8"), re.M):
             declared[name] = [self.IN_C[kind] for kind in re.findall(r"(const uint8_t \*|uint8_t \*|uint32_t |size_t \*|size_t )\w", parameters)]
-        self.assertEqual(len(declared), 9)
+        self.assertEqual(len(declared), 10)
         for name, kinds in declared.items():
             call = getattr(getattr(mulkavesh, "_library"), name)
             self.assertEqual((name, list(call.argtypes), call.restype), (name, kinds, ctypes.c_uint32))
@@ -395,7 +459,7 @@ class Declared(unittest.TestCase):
     def test_the_numbers_of_the_header(self) -> None:
         numbers = {name: int(number) for name, number in re.findall(r"MULKAVESH_(\w+) = (\d+)", HEADER.read_text(encoding="utf-8"))}
         wanted = {name: getattr(mulkavesh, f"_{name}") for name in ("NO_NAMES", "NO_PRODUCERS", "NO_LEGACY")}
-        for of_python, front in ((mulkavesh.Status, ""), (FaultKind, "FAULT_"), (Rule, "RULE_")):
+        for of_python, front in ((mulkavesh.Status, ""), (FaultKind, "FAULT_"), (Beginning, "BEGINS_"), (Rule, "RULE_")):
             wanted.update((front + name, member.value) for name, member in of_python.__members__.items())
         self.assertEqual(numbers, {**wanted, "FAULT_NONE": 0})
 

@@ -35,10 +35,18 @@ LEGACY_LEFT = module(
     "0A 0C 01 0A 00 06 7F 41 00 07 00 0B 1A 0B",
 )
 
-# Three custom sections: `a`, `a` and `é`; the first one gone, and the last one gone.
+# Three custom sections: `a`, `a` and `é`; those called `a` gone, and the last one gone.
 SECTIONS = module("00 03 01 61 01", "00 03 01 61 02", "00 04 02 C3 A9 03")
-FIRST_GONE = module("00 03 01 61 02", "00 04 02 C3 A9 03")
+BOTH_GONE = module("00 04 02 C3 A9 03")
 LAST_GONE = module("00 03 01 61 01", "00 03 01 61 02")
+
+# `.debug_info` with its size in two bytes, the bodies of two functions in front of the functions, `.debug_line`, `a*`, and names that are none; and the
+# same without debug information.
+BROKEN = module(
+    "00 8D 00 0B 2E 64 65 62 75 67 5F 69 6E 66 6F 01", "0A 08 02 03 00 01 0B 02 00 0B", "03 03 02 00 00",
+    "00 0D 0B 2E 64 65 62 75 67 5F 6C 69 6E 65 02", "00 04 02 61 2A 03", "00 06 04 6E 61 6D 65 FF",
+)
+NO_DEBUG = module("0A 08 02 03 00 01 0B 02 00 0B", "03 03 02 00 00", "00 04 02 61 2A 03", "00 06 04 6E 61 6D 65 FF")
 
 # Functions `f` and `g` from `env`, and `h` from `m`; the exported `a` calls `h` and gives what `f` makes of its argument.
 IMPORTS = module(

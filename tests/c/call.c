@@ -1,5 +1,6 @@
-// call CALL [NUMBER [NAME]] < IN > OUT: one call over standard input, whose answer goes to standard output and whose status is its own. It asks for no
-// memory itself, so that each request which is refused is one of the library's. Status 90 to 93: what a call leaves isn't what the header says.
+// call CALL [NUMBER [BYTES]] < IN > OUT: one call over standard input, whose answer goes to standard output and whose status is its own. BYTES are a name, or a
+// choice of sections, in hexadecimal. It asks for no memory itself, so that each request which is refused is one of the library's. Status 90 to 93: what a call
+// leaves isn't what the header says.
 #include <unistd.h>
 
 #include "calls.h"
@@ -8,12 +9,21 @@
 #define UNTOUCHED 0xA5
 #define BEHIND 64
 
-static uint8_t input[MOST], output[MOST];
+static uint8_t input[MOST], output[MOST], given[1 << 16];
 
-// What the words CALL, NUMBER and NAME ask for; the last two may be left out.
+// The bytes that the digits say, and how many they are.
+static size_t bytes_of(const char *digits) {
+  size_t count = 0;
+  for (; digits[0] && digits[1] && count < sizeof given; digits += 2) {
+    const char byte[] = {digits[0], digits[1], 0};
+    given[count++] = (uint8_t)strtoul(byte, NULL, 16);
+  }
+  return count;
+}
+
+// What the words CALL, NUMBER and BYTES ask for; the last two may be left out.
 static struct asked asked_by(int count, char **words) {
-  const char *name = count > 2 ? words[2] : "";
-  struct asked asked = {words[0], count > 1 ? (uint32_t)strtoul(words[1], NULL, 10) : 0, (const uint8_t *)name, strlen(name)};
+  struct asked asked = {words[0], count > 1 ? (uint32_t)strtoul(words[1], NULL, 10) : 0, given, bytes_of(count > 2 ? words[2] : "")};
   return asked;
 }
 

@@ -1,4 +1,4 @@
-// One form for all calls: by its name, with a number (flags, or an index) and a name, where it takes them.
+// One form for all calls: by its name, with a number (flags, or an index) and bytes (a name, or a choice of sections), where it takes them.
 #ifndef CALLS_H
 #define CALLS_H
 
@@ -10,8 +10,8 @@
 struct asked {
   const char *call;
   uint32_t number;
-  const uint8_t *name;
-  size_t name_length;
+  const uint8_t *bytes;
+  size_t count;
 };
 
 // What no call answers: there is no such call.
@@ -23,9 +23,10 @@ static uint32_t answer(const struct asked *it, const uint8_t *input, size_t size
   if (!strcmp(it->call, "diagnose")) return mulkavesh_diagnose(input, size, it->number, output, room, length);
   if (!strcmp(it->call, "list")) return mulkavesh_list(input, size, it->number, output, room, length);
   if (!strcmp(it->call, "why")) return mulkavesh_why(input, size, it->number, output, room, length);
-  if (!strcmp(it->call, "strip")) return mulkavesh_strip(input, size, it->number, it->name, it->name_length, output, room, length);
-  if (!strcmp(it->call, "snip")) return mulkavesh_snip(input, size, it->name, it->name_length, output, room, length);
-  if (!strcmp(it->call, "stub")) return mulkavesh_stub(input, size, it->name, it->name_length, output, room, length);
+  if (!strcmp(it->call, "sections")) return mulkavesh_sections(input, size, output, room, length);
+  if (!strcmp(it->call, "strip")) return mulkavesh_strip(input, size, it->bytes, it->count, output, room, length);
+  if (!strcmp(it->call, "snip")) return mulkavesh_snip(input, size, it->bytes, it->count, output, room, length);
+  if (!strcmp(it->call, "stub")) return mulkavesh_stub(input, size, it->bytes, it->count, output, room, length);
   return NO_SUCH_CALL;
 }
 

@@ -1,4 +1,4 @@
-// rooms FILE..: each call over each module in rooms of every length from none to one more than is wanted. Input, name and room end where no memory is: at
+// rooms FILE..: each call over each module in rooms of every length from none to one more than is wanted. Input, bytes and room end where no memory is: at
 // a page that can't be touched, or, where it is compiled with IN_BLOCKS for AddressSanitizer, at the end of a block of their size. Each call has to answer as it
 // does in ample room, and to leave what it doesn't write as it was. Prints the counts, and a line for each find.
 #include <stdio.h>
@@ -8,6 +8,7 @@
 #include "calls.h"
 
 #define UNTOUCHED 0xA5
+#define BYTES(text) (const uint8_t *)text, sizeof text - 1
 
 static long finds, calls;
 
@@ -50,7 +51,7 @@ static uint8_t *read_file(const char *path, size_t *size) {
 }
 
 static void find(const char *path, const struct asked *asked, size_t room, const char *why) {
-  printf("FIND %s: %s %u, a name of %zu bytes, room %zu: %s\n", path, asked->call, asked->number, asked->name_length, room, why);
+  printf("FIND %s: %s %u, with %zu bytes, room %zu: %s\n", path, asked->call, asked->number, asked->count, room, why);
   finds++;
 }
 
@@ -90,20 +91,21 @@ int main(int count, char **paths) {
   static const struct asked all[] = {
       {"gc", 0, NULL, 0}, {"gc", 7, NULL, 0}, {"gc", 8, NULL, 0}, {"gc", UINT32_MAX, NULL, 0}, {"report", 0, NULL, 0}, {"report", 8, NULL, 0},
       {"diagnose", 0, NULL, 0}, {"diagnose", 4, NULL, 0}, {"diagnose", 8, NULL, 0}, {"list", 0, NULL, 0}, {"list", 8, NULL, 0}, {"why", 0, NULL, 0}, {"why", 5, NULL, 0}, {"why", UINT32_MAX, NULL, 0},
-      {"strip", 0, (const uint8_t *)"target_features", 15}, {"strip", 3, (const uint8_t *)"target_features", 15}, {"strip", 0, (const uint8_t *)"", 0},
-      {"strip", 8, (const uint8_t *)"", 0}, {"snip", 0, (const uint8_t *)"f", 1}, {"snip", 0, (const uint8_t *)"\xFF", 1},
-      {"stub", 0, (const uint8_t *)"env", 3}, {"stub", 0, (const uint8_t *)"", 0}, {"stub", 0, (const uint8_t *)"\xFF", 1}};
+      {"sections", 0, NULL, 0}, {"strip", 0, NULL, 0}, {"strip", 0, BYTES("\0\x0F\0\0\0target_features")}, {"strip", 0, BYTES("\0\1\0\0\0*")},
+      {"strip", 0, BYTES("\0\2\0\0\0*s\1\4\0\0\0name")}, {"strip", 0, BYTES("\1\1\0\0\0*")}, {"strip", 0, BYTES("\0\0\0\0\0")},
+      {"strip", 0, BYTES("\0\2\0\0\0*")}, {"strip", 0, BYTES("\2\0\0\0\0")}, {"strip", 0, BYTES("\0")}, {"strip", 0, BYTES("\0\xFF\xFF\xFF\xFF")},
+      {"snip", 0, BYTES("f")}, {"snip", 0, BYTES("\xFF")}, {"stub", 0, BYTES("env")}, {"stub", 0, NULL, 0}, {"stub", 0, BYTES("\xFF")}};
   for (int i = 1; i < count; i++) {
     size_t size;
     uint8_t *input = read_file(paths[i], &size);
     for (size_t which = 0; which < sizeof all / sizeof *all; which++) {
-      // a name ends where no memory is, too
+      // the bytes end where no memory is, too
       struct asked asked = all[which];
-      uint8_t *name = take(asked.name_length);
-      if (asked.name_length) memcpy(name, asked.name, asked.name_length);
-      asked.name = name;
+      uint8_t *bytes = take(asked.count);
+      if (asked.count) memcpy(bytes, asked.bytes, asked.count);
+      asked.bytes = bytes;
       in_rooms(paths[i], &asked, input, size);
-      drop(name, asked.name_length);
+      drop(bytes, asked.count);
     }
     drop(input, size);
   }

@@ -1,11 +1,13 @@
 // Compares what the calls from JavaScript answer with what walrus-gc writes of the same modules, and with one another.
 // node tests/web/beside.mjs FOLDER PROGRAM MUTANTS MODULES.. , each but the program a folder. tests/web.sh calls it.
-// The calls `gc` and `report` are held against the program, and `diagnose`, which has to find nothing wrong exactly where the program accepts; the other calls
-// against one another. The modules go under each of the eight sets of words, a mutant under one of the sixteen ways.
+// The calls `gc` and `report` are held against the program, and `diagnose`, which has to find nothing wrong exactly where the program accepts; `sections` and
+// `strip` against what stands in the bytes, read anew; the other calls against one another. The modules go under each of the eight sets of words, a mutant under
+// one of the sixteen ways.
 import { spawnSync } from 'node:child_process';
 import { readFileSync, readdirSync } from 'node:fs';
 import { basename, join } from 'node:path';
 import { pathToFileURL } from 'node:url';
+import { isDeepStrictEqual } from 'node:util';
 
 const [folder, program, mutants, ...folders] = process.argv.slice(2);
 const { load, MulkaveshError } = await import(pathToFileURL(join(folder, 'mulkavesh.js')));
@@ -21,6 +23,7 @@ const WAYS = [...Array(16).keys()].map((bits) => ({
   call: bits & 8 ? 'report' : 'gc',
   options: Object.fromEntries(Object.keys(WORDS).map((word, at) => [word, !(bits & (1 << at))])),
 }));
+const utf8 = new TextDecoder('utf-8', { fatal: true, ignoreBOM: true });
 let finds = 0;
 
 function find(name, text) {
@@ -79,31 +82,76 @@ function othersBesideGc(name, input) {
     const left = told === 'DONE' && WebAssembly.Module.imports(new WebAssembly.Module(stubbed));
     if (!left || left.some((it) => it.module === word && it.kind === 'function')) find(name, `stub ${word}: ${told}, or still imported`);
   }
-  for (const word of new Set([...customs(input)])) {
-    const told = answered('strip', input, word)[0];
-    if (told !== (['name', 'producers'].includes(word) || word.startsWith('.debug') ? 'NOT_FOUND' : 'DONE')) find(name, `strip ${word}: ${told}`);
+}
+
+// The number of 32 bits that stands at a place, and the place behind it; or null where none stands there.
+function numberAt(bytes, at) {
+  let value = 0;
+  for (let shift = 0; shift < 35; shift += 7) {
+    const byte = bytes[at++];
+    if (byte === undefined) return null;
+    value += (byte & 127) * 2 ** shift;
+    if (byte < 128) return value < 2 ** 32 ? [value, at] : null;
+  }
+  return null;
+}
+
+// The name in front of these bytes, or null where none stands there.
+function nameIn(content) {
+  const [length, at] = numberAt(content, 0) ?? [Infinity, 0];
+  if (at + length > content.length) return null;
+  try {
+    return utf8.decode(content.subarray(at, at + length));
+  } catch {
+    return null;
   }
 }
 
-// The names of the custom sections.
-function* customs(input) {
-  let at = 8;
-  const number = () => {
-    let value = 0, shift = 0, byte;
-    do {
-      byte = input[at++];
-      value += (byte & 127) * 2 ** shift;
-      shift += 7;
-    } while (byte & 128);
-    return value;
+// The section at a place, or null where none stands there.
+function sectionAt(input, start) {
+  const id = input[start], [length, at] = numberAt(input, start + 1) ?? [Infinity, 0], content = input.subarray(at, at + length);
+  const name = id === 0 && content.length === length ? nameIn(content) : null;
+  if (content.length < length || (id === 0 && name === null)) return null;
+  const [entries] = (id > 0 && id < 14 && id !== 8 && id !== 12 && numberAt(content, 0)) || [null];
+  return { id, name, start, size: at + length - start, entries };
+}
+
+// The sections that stand in the bytes, or null where they don't begin as a module.
+function framed(input) {
+  if (input.subarray(0, 8).compare(Buffer.from('\0asm\x01\0\0\0', 'latin1')) !== 0) return null;
+  const sections = [];
+  let end = 8;
+  for (let it; end < input.length && (it = sectionAt(input, end)) !== null; end += it.size) sections.push(it);
+  return { sections, end, whole: end === input.length };
+}
+
+// What `sections` answers, but for the kinds, or the code of what it throws.
+function sectionsOf(input) {
+  try {
+    const { sections, ...others } = library.sections(input);
+    return { sections: sections.map(({ kind, ...all }) => all), ...others };
+  } catch (error) {
+    return error.code;
+  }
+}
+
+// The call `sections`, and `strip` of all custom sections, of those of each name, and of all but those.
+function besideTheFraming(name, input) {
+  const wanted = framed(input), found = sectionsOf(input);
+  if (!isDeepStrictEqual(found, wanted ?? 'INVALID')) find(name, `sections: ${JSON.stringify(found)}, and not ${JSON.stringify(wanted)}`);
+  const all = wanted?.sections ?? [], names = new Set(all.map((it) => it.name).filter((it) => it !== null));
+  const right = wanted?.whole ? (names.size > 0 ? 'DONE' : 'NOT_FOUND') : 'INVALID';
+  const left = (goes) => all.filter((it) => it.name === null || !goes(it.name)).map(({ start, size }) => input.subarray(start, start + size));
+  const strips = (goes, keep, test) => {
+    const [told, output] = answered('strip', input, goes, { keep }), bytes = Buffer.concat(told === 'DONE' ? [input.subarray(0, 8), ...left(test)] : []);
+    if (told !== right || !output.equals(bytes)) find(name, `strip ${goes} but ${keep}: ${told} and ${output.length} bytes, and not ${right} and ${bytes.length}`);
   };
-  while (at < input.length) {
-    const kind = input[at++], size = number(), end = at + size;
-    if (kind === 0) {
-      const length = number();
-      yield input.subarray(at, at + length).toString();
-    }
-    at = end;
+  strips('*', [], () => true);
+  for (const word of names) {
+    const escaped = word.replaceAll('*', '\\*');
+    strips(escaped, [], (it) => it === word);
+    strips('*', escaped, (it) => it !== word);
+    if (!word.endsWith('\\')) strips(`${escaped}*`, [], (it) => it.startsWith(word));
   }
 }
 
@@ -137,4 +185,7 @@ runs('mutants', changed.map((path, at) => [path, [WAYS[at % 16]]]));
 const before = finds;
 for (const path of modules) othersBesideGc(basename(path), readFileSync(path));
 told('modules in the other calls', modules.length, before, {});
+const beforeFraming = finds;
+for (const path of [...modules, ...changed]) besideTheFraming(basename(path), readFileSync(path));
+told('modules and mutants by their framing', modules.length + changed.length, beforeFraming, {});
 process.exitCode = finds > 0 || modules.length === 0 || changed.length === 0 ? 1 : 0;

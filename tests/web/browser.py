@@ -323,11 +323,11 @@ def refusals(test, name):
     whole = test.modules[name].read_bytes()
     for file, content, words in (
         ("cut.wasm", whole[:-100], "keeps the rules"),
-        ("empty.wasm", b"", "is empty"),
-        ("text.wat", b"\n(module (func))\n", "text form"),
-        ("words.wasm", b"any words at all", "don’t begin as a WebAssembly module"),
-        ("packed.wasm", b"\x1f\x8b\x08\0\0\0\0\0\0\3", "gzip"),
-        ("short.wasm", whole[:6], "cut off"),
+        ("empty.wasm", b"", "there are none."),
+        ("text.wat", b"\n(module (func))\n", "they are WebAssembly text"),
+        ("words.wasm", b"any words at all", "The bytes don’t begin as a WebAssembly module."),
+        ("packed.wasm", b"\x1f\x8b\x08\0\0\0\0\0\0\3", "compressed by gzip"),
+        ("short.wasm", whole[:6], "within the header"),
         ("component.wasm", b"\0asm\x0d\0\1\0", "a component"),
         ("version.wasm", b"\0asm\2\0\0\0", "another version"),
         ("section.wasm", HEADER + b"\x0e\0", "no well-formed section stands at byte 8"),

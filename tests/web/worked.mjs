@@ -13,7 +13,7 @@ const folder = process.argv[2], here = pathToFileURL(join(folder, 'mulkavesh.js'
 const wasm = readFileSync(join(folder, 'mulkavesh.wasm'));
 const { load, MulkaveshError, InvalidModule, TooLarge, OutOfMemory, NotFound, Trapped } = await import(here);
 const library = await load();
-const { gc, report, diagnose, list, strip, why, snip, stub, version } = library;
+const { gc, report, diagnose, list, sections, strip, why, snip, stub, version } = library;
 
 // ---- modules
 
@@ -33,6 +33,10 @@ const ONE_NAMED = module(...ONE_SECTIONS, '00 0C 04 6E 61 6D 65 01 05 01 00 02 C
 const LEGACY = module('01 08 02 60 00 00 60 01 7F 00', '03 02 01 00', '0D 03 01 00 01', '07 05 01 01 66 00 00', '0A 0C 01 0A 00 06 7F 41 00 07 00 0B 1A 0B');
 // Three custom sections: `a`, `a` and `é`.
 const SECTIONS = module('00 03 01 61 01', '00 03 01 61 02', '00 04 02 C3 A9 03');
+// `.debug_info` with its size in two bytes, the bodies of two functions in front of the functions, `.debug_line`, `a*`, and names that are none.
+const BROKEN_SECTIONS = ['0A 08 02 03 00 01 0B 02 00 0B', '03 03 02 00 00', '00 04 02 61 2A 03', '00 06 04 6E 61 6D 65 FF'];
+const [CODE, FUNCTIONS, STAR, NAMES] = BROKEN_SECTIONS, INFO = '00 8D 00 0B 2E 64 65 62 75 67 5F 69 6E 66 6F 01', LINE = '00 0D 0B 2E 64 65 62 75 67 5F 6C 69 6E 65 02';
+const BROKEN = module(INFO, CODE, FUNCTIONS, LINE, STAR, NAMES);
 // Functions `f` and `g` from `env`, and `h` from `m`; the exported `a` calls `h` and gives what `f` makes of its argument.
 const IMPORTS = module(
   '01 09 02 60 01 7F 01 7F 60 00 00', '02 17 03 03 65 6E 76 01 66 00 00 03 65 6E 76 01 67 00 01 01 6D 01 68 00 01', '03 02 01 00', '07 05 01 01 61 00 03',
@@ -81,11 +85,13 @@ function junk(size) {
 
 // The lines of tests/faults.txt: the options, the fault that is to be told, and the bytes.
 function faults() {
+  const begin = [null, 'empty', 'cut', 'gzip', 'zip', 'zstd', 'elf', 'bitcode', 'text', 'component', 'other version'];
   const rules = [, 'Order', 'Types', 'Indices', 'FunctionTypes', 'Limits', 'Counts', 'ExportNames', 'Start', 'Offsets', 'Locals'];
   const lines = readFileSync(new URL('../faults.txt', import.meta.url), 'utf8').split('\n').filter((it) => it !== '' && !it.startsWith('#'));
   return lines.map((line) => {
     const [numbers, digits, text] = line.split('|').map((it) => it.trim()), [flags, kind, which] = numbers.split(' ').map(Number);
-    const of = [null, { kind: 'header' }, { kind: 'section', place: which }, { kind: 'rule', rule: rules[which] }, { kind: 'body', index: which }][kind];
+    const header = { kind: 'header', begins: begin[which] };
+    const of = [null, header, { kind: 'section', place: which }, { kind: 'rule', rule: rules[which] }, { kind: 'body', index: which }][kind];
     const options = { names: !(flags & 1), producers: !(flags & 2), legacy: !(flags & 4) };
     return { options, fault: of && { ...of, text }, bytes: digits === '' ? new Uint8Array() : hex(digits) };
   });
@@ -238,8 +244,13 @@ const TRIES = {
     assert.ok(faults().length > 13);
   },
   'a refusal has the fault': () => faults().filter(({ fault }) => fault !== null).forEach(({ options, fault, bytes }) => {
-    refusesFor(fault, () => gc(bytes, options), () => report(bytes, options), () => list(bytes, options), () => strip(bytes, 'a', options));
+    refusesFor(fault, () => gc(bytes, options), () => report(bytes, options), () => list(bytes, options));
     if (options.legacy) refusesFor(fault, () => why(bytes, 0), () => snip(bytes, 'a'), () => stub(bytes, 'env'));
+  }),
+  'a refusal of the framing has the fault': () => faults().filter(({ fault }) => fault !== null).forEach(({ fault, bytes }) => {
+    if (fault.kind === 'header') refusesFor(fault, () => sections(bytes), () => strip(bytes, []));
+    else if (sections(bytes).whole) equals(strip(bytes, []), bytes);
+    else refusesFor({ ...fault, kind: 'section' }, () => strip(bytes, []));
   }),
   'a refusal says the fault': () => {
     const { name, code, message } = errorOf(() => why(hex('00 61'), 0));
@@ -258,9 +269,56 @@ const TRIES = {
   list: () => assert.deepEqual(list(TWO), [{ index: 1, size: 2, name: null }]),
   'list with a name': () => assert.deepEqual(list(TWO_NAMED), [{ index: 1, size: 2, name: 'é' }]),
   'list with more room': () => assert.deepEqual(list(listedInMore()), [...Array(120).keys()].map((index) => ({ index, size: 2, name: null }))),
-  strip: () => equals(strip(SECTIONS, 'a', alone), module('00 03 01 61 02', '00 04 02 C3 A9 03')),
-  'strip by a name that is not ASCII': () => equals(strip(SECTIONS, 'é', alone), module('00 03 01 61 01', '00 03 01 61 02')),
-  'strip by bytes': () => equals(strip(SECTIONS, hex('C3 A9'), alone), module('00 03 01 61 01', '00 03 01 61 02')),
+  sections: () => {
+    const told = (id, kind, start, size, entries) => ({ id, kind, name: null, start, size, entries });
+    const wanted = [told(1, 'type', 8, 6, 1), told(3, 'function', 14, 5, 2), told(7, 'export', 19, 7, 1), told(10, 'code', 26, 10, 2)];
+    assert.deepEqual(sections(TWO), { sections: wanted, end: 36, whole: true });
+    for (let cut = 27; cut < 36; cut++) assert.deepEqual(sections(TWO.subarray(0, cut)), { sections: wanted.slice(0, 3), end: 26, whole: false });
+    assert.deepEqual(sections(module()), { sections: [], end: 8, whole: true });
+  },
+  'sections with names': () => {
+    const custom = (name, start, size) => ({ id: 0, kind: 'custom', name, start, size, entries: null });
+    const wanted = [custom('a', 8, 5), custom('a', 13, 5), custom('é', 18, 6)];
+    assert.deepEqual(sections(SECTIONS), { sections: wanted, end: 24, whole: true });
+    assert.deepEqual(sections(hex(HEADER, '00 02 01 FF')), { sections: [], end: 8, whole: false });
+  },
+  'kinds of sections': () => {
+    const kinds = 'custom type import function table memory global export start element code data'.split(' ').concat('data count', 'tag', 'unknown');
+    const all = kinds.map((_, id) => hex(`0${id.toString(16)} 01 00`)), { sections: found } = sections(Uint8Array.from([...module(), ...all.flatMap((it) => [...it])]));
+    assert.deepEqual(found.map(({ kind }) => kind), kinds);
+    assert.deepEqual(found.filter(({ entries }) => entries === null).map(({ id }) => id), [0, 8, 12, 14]);
+  },
+  'sections with more room': () => {
+    const all = Array(100).fill('00 03 01 61 01'), { sections: found } = sections(module(...all));
+    assert.deepEqual(found.map(({ start }) => start), all.map((_, at) => 8 + 5 * at));
+  },
+  strip: () => {
+    equals(strip(SECTIONS, 'a'), module('00 04 02 C3 A9 03'));
+    equals(strip(SECTIONS, ['a', 'é']), module());
+    equals(strip(SECTIONS, []), SECTIONS);
+    equals(strip(TWO_NAMED, 'name'), TWO);
+    equals(strip(hex(HEADER, ...ONE_SECTIONS, PRODUCERS), ['producers']), ONE);
+  },
+  'strip by a name that is not ASCII': () => equals(strip(SECTIONS, 'é'), module('00 03 01 61 01', '00 03 01 61 02')),
+  'strip by bytes': () => equals(strip(SECTIONS, hex('C3 A9')), module('00 03 01 61 01', '00 03 01 61 02')),
+  'strip by stars': () => {
+    ['*', '**', ['a*', '*\u00E9']].forEach((names) => equals(strip(SECTIONS, names), module()));
+    ['a*', '*a', '*a*'].forEach((name) => equals(strip(SECTIONS, name), module('00 04 02 C3 A9 03')));
+    ['c*', 'a*a', '\\*', 'a\\*'].forEach((name) => refuses(NotFound, 'NOT_FOUND', () => strip(SECTIONS, name)));
+    equals(strip(BROKEN, 'a\\*'), module(INFO, CODE, FUNCTIONS, LINE, NAMES));
+  },
+  'strip and keep': () => {
+    equals(strip(SECTIONS, '*', { keep: 'a' }), module('00 03 01 61 01', '00 03 01 61 02'));
+    equals(strip(SECTIONS, ['*'], { keep: ['c', '*\u00E9'] }), module('00 04 02 C3 A9 03'));
+    equals(strip(SECTIONS, 'a', { keep: [] }), module('00 04 02 C3 A9 03'));
+    equals(strip(SECTIONS, 'a', { keep: '*' }), SECTIONS);
+    refuses(NotFound, 'NOT_FOUND', () => strip(SECTIONS, ['*', 'c'], { keep: 'c' }));
+  },
+  'strip of what breaks a rule': () => {
+    assert.equal(diagnose(BROKEN).rule, 'Order');
+    equals(strip(BROKEN, '.debug*'), module(CODE, FUNCTIONS, STAR, NAMES));
+    assert.deepEqual(sections(BROKEN).sections.map(({ id }) => id), [0, 10, 3, 0, 0, 0]);
+  },
   why: () => assert.equal(why(CALLS, 1), 'function 0\nfunction 1\n'),
   'why not': () => assert.equal(why(TWO, 0), "function 0 isn't reached\n"),
   'why with more room': () => assert.equal(why(chained(), 499), [...Array(500).keys()].map((at) => `function ${at}\n`).join('')),
@@ -271,10 +329,12 @@ const TRIES = {
     equals(gc(TWO.buffer, alone), ONE);
     equals(gc(new DataView(Uint8Array.from([1, 2, ...TWO, 3]).buffer, 2, TWO.length), alone), ONE);
   },
-  invalid: () => [gc, report, list, (it) => strip(it, 'a'), (it) => why(it, 0), (it) => snip(it, 'a'), (it) => stub(it, 'a')].forEach((call) => {
-    refuses(InvalidModule, 'INVALID', () => call(new Uint8Array()));
-    refuses(InvalidModule, 'INVALID', () => call(TWO.subarray(0, TWO.length - 1)));
-  }),
+  invalid: () => {
+    [gc, report, list, sections, (it) => strip(it, 'a'), (it) => why(it, 0), (it) => snip(it, 'a'), (it) => stub(it, 'a')].forEach((call) => {
+      refuses(InvalidModule, 'INVALID', () => call(new Uint8Array()));
+      if (call !== sections) refuses(InvalidModule, 'INVALID', () => call(TWO.subarray(0, TWO.length - 1)));
+    });
+  },
   'legacy exceptions are invalid': () => {
     assert.ok(gc(LEGACY).length > 0);
     [gc, report, list].forEach((call) => refuses(InvalidModule, 'INVALID', () => call(LEGACY, { legacy: false })));
@@ -284,8 +344,9 @@ const TRIES = {
     calls.forEach((call) => refuses(NotFound, 'NOT_FOUND', call));
   },
   'wrong arguments': () => {
-    const calls = [() => gc('text'), () => gc(TWO, { name: false }), () => gc(TWO, { names: 0 }), () => snip(CALLS, 3), () => strip(SECTIONS, '\uD800')];
-    calls.forEach((call) => assert.throws(call, TypeError));
+    const calls = [() => gc('text'), () => gc(TWO, { name: false }), () => gc(TWO, { names: 0 }), () => snip(CALLS, 3), () => sections('text')];
+    const names = ['\uD800', 3, undefined, ['a', 3]].flatMap((it) => [() => strip(SECTIONS, it), () => strip(SECTIONS, 'a', { keep: it ?? null })]);
+    [...calls, ...names, () => strip(SECTIONS, 'a', { names: false })].forEach((call) => assert.throws(call, TypeError));
     [-1, 0.5, 2 ** 32, '1'].forEach((index) => assert.throws(() => why(TWO, index), RangeError));
   },
   'the statuses that only huge modules come to': async () => {

@@ -6,6 +6,7 @@ mod Lines
 mod Ordered
 mod Pieces
 mod Refusals
+mod SectionLines
 mod Showing
 mod Sound
 mod Spelling

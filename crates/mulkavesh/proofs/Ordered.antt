@@ -41,9 +41,10 @@ work_named word =
     else (if bytes_eq word (codes "report") then Some work.Report
     else (if bytes_eq word (codes "list") then Some work.List
     else (if bytes_eq word (codes "check") then Some work.Check
+    else (if bytes_eq word (codes "sections") then Some work.Sections
     else (if bytes_eq word (codes "strip") then Some work.Strip
     else (if bytes_eq word (codes "snip") then Some work.Snip
-    else (if bytes_eq word (codes "stub") then Some work.Stub else Some work.Why))))))
+    else (if bytes_eq word (codes "stub") then Some work.Stub else Some work.Why)))))))
 
 named_back : (w : Work) → work_named (work_word w) ≡ Some w
 unfolding work_named
@@ -51,6 +52,7 @@ named_back work.Gc = refl
 named_back work.Report = refl
 named_back work.List = refl
 named_back work.Check = refl
+named_back work.Sections = refl
 named_back work.Strip = refl
 named_back work.Snip = refl
 named_back work.Stub = refl

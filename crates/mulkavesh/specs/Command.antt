@@ -1,10 +1,13 @@
 -- What one order comes to, for all that was read and all that was written, and what is told of it.
-use Rattle.std.specs.Prelude.{ℕ, Bool, true, false, List, Option, Result, Ok, Err, OnOk, codes, ◌≡◌, ⊤}
+use Rattle.std.specs.Prelude.{ℕ, Bool, true, false, List, [], ◌∷◌, Option, Result, Ok, Err, String, IfSome, OnOk, string_bytes, ◌≡◌, ◌⊎◌, ⊤}
 use Rattle.std.specs.Io.KnownBytes.{Appends, Keeps}
-use Rattle.walrus_tools.specs.Handed.{CountsReads, CountsWrites, Error, InvalidWasm, IsUntouched, Memory, Module, NotFound, NotReplaceable, Read, ReadsWhole, Stream, Tells, ToolError, Write, WroteFront, error_text, stream_of}
+use Rattle.std.specs.declared.alloc.Global.{Global}
+use Rattle.walrus_tools.specs.Handed.{Config, CountsReads, CountsWrites, Error, IsUntouched, Memory, Module, Read, ReadsWhole, Stream, Tells, ToolError, Write, WroteFront, stream_of}
+use Rattle.mulkavesh.specs.declared.cause.Cause.{Cause}
+use Rattle.mulkavesh.specs.declared.cause.Cause.TheVariants as cause
 use Rattle.mulkavesh.specs.declared.subcommands.Made.{Made}
 use Rattle.mulkavesh.specs.declared.order.Work.{Work}
-use Rattle.mulkavesh.specs.declared.order.Work.TheVariants as work
+use Rattle.mulkavesh.specs.Cause.{IsInvalid, SaysFault, SaysRefused, refusal_text, refused_text}
 use Rattle.mulkavesh.specs.Message.{line}
 
 -- ---- from the source to the sink
@@ -30,24 +33,17 @@ module _ (Answers : List ℕ → Result Made Error → Type 0) (from_old from_ne
   Carries (Err Read) = Keeps to_old to_new
   Carries (Err (Module e)) = Keeps to_old to_new × RefusesRead e
 
+  -- where there is a text, it says what is wrong with all that was read, which is refused as invalid
+  abbrev pub FindsRead : Config → Cause → Type 0
+  FindsRead c (cause.Refused e said) = IfSome said (λ text. (bytes : List ℕ) × ReadsAndMakes bytes (Err e) × SaysRefused c bytes e text)
+  FindsRead c _ = ⊤
+
 -- ---- what is told
 
--- what is said of a module that isn't accepted
-abbrev pub refused_text : List ℕ
-refused_text = codes "the input WebAssembly is invalid"
-
--- what isn't there
-abbrev pub absent_text : Work → List ℕ
-absent_text work.Strip = codes "there is no custom section of this name"
-absent_text work.Snip = codes "no function is exported under this name"
-absent_text _ = codes "there is no such function"
-
--- what a refusal says
-abbrev pub refusal_text : Work → Error → List ℕ
-refusal_text w (InvalidWasm kind) = refused_text
-refusal_text w NotFound = absent_text w
-refusal_text w NotReplaceable = codes "this function is imported, or exported before under another name"
-refusal_text w e = error_text e
+-- what is told of bytes that aren't accepted: what is noted of them, and where nothing is, that they are invalid
+abbrev pub unaccepted_text : (name note : List ℕ) → List ℕ
+unaccepted_text name [] = line name refused_text
+unaccepted_text name (byte ∷ more) = byte ∷ more
 
 -- a source or a sink: its stream, its name, why its last call failed, and whether its reader went away
 pub record Device : Type 0 where
@@ -75,34 +71,45 @@ TellsUnlessLeft false text errors = Tells errors text
 abbrev pub TellsUnwritten : Device → (errors : Stream) → Type 0
 TellsUnwritten to = TellsUnlessLeft to.is_left (line to.name to.trouble)
 
--- what came of an order, as the program tells it: the status, and on the error stream a note, or the refusal in a line
-module _ (w : Work) (from to : Device) (errors : Stream) (status : ℕ) where
+-- what came of an order that is read under this configuration, as the program tells it: the status, and on the error stream a note, or the refusal in
+-- a line
+module _ (Answers : List ℕ → Result Made Error → Type 0) (w : Work) (c : Config) (from to : Device) (errors : Stream) (status : ℕ) where
   -- the status is 1, and a line says this text of this name
   abbrev pub TellsLine : List ℕ → List ℕ → Type 0
   TellsLine name text = (status ≡ 1) × Tells errors (line name text)
 
-  -- a module that isn't accepted is a refusal
+  -- bytes that aren't accepted are a refusal
   abbrev pub TellsMade : (is_refused : Bool) → (note : List ℕ) → Type 0
-  TellsMade true note = TellsLine from.name refused_text
+  TellsMade true note = (status ≡ 1) × Tells errors (unaccepted_text from.name note)
   TellsMade false note = (status ≡ 0) × Tells errors note
+
+  -- a line says that the bytes are invalid, which are all of the source, and behind it something that is wrong with them
+  abbrev pub TellsFaultRead : Error → Type 0
+  TellsFaultRead e = IsInvalid e
+      × ((bytes : List ℕ) × ReadsAndMakes Answers from.stream.old from.stream.new to.stream.old to.stream.new bytes (Err e)
+      × ((text : String Global) × SaysFault c bytes text × TellsLine from.name (string_bytes text)))
+
+  -- a line says why, and of invalid bytes also what is wrong with them, but where memory ran out while that was looked for
+  abbrev pub TellsRefusal : Error → Type 0
+  TellsRefusal e = TellsFaultRead e ⊎ TellsLine from.name (refusal_text w e)
 
   -- what comes of each answer
   abbrev pub TellsResult : Result Made ToolError → Type 0
   TellsResult (Ok made) = TellsMade made.is_refused made.note.items
   TellsResult (Err Read) = TellsLine from.name from.trouble
   TellsResult (Err Write) = (status ≡ 1) × TellsUnwritten to errors
-  TellsResult (Err (Module e)) = TellsLine from.name (refusal_text w e)
+  TellsResult (Err (Module e)) = TellsRefusal e
 
 -- The order was carried out or refused; its two devices counted the failure of which it answers and no other; what was written whole is flushed, also
 -- where it says that a module isn't accepted; and its answer was told.
-pub record RunsAndTells (Answers : List ℕ → Result Made Error → Type 0) (w : Work) (from to : Device) (errors : Stream) (status : ℕ)
+pub record RunsAndTells (Answers : List ℕ → Result Made Error → Type 0) (w : Work) (c : Config) (from to : Device) (errors : Stream) (status : ℕ)
     (is_flushed : Bool) : Type 0 where
   pub answer : Result Made ToolError
   pub ran : Carries Answers from.stream.old from.stream.new to.stream.old to.stream.new answer
   pub reads : CountsReads from.stream.failures_old from.stream.failures_new answer
   pub writes : CountsWrites to.stream.failures_old to.stream.failures_new answer
   pub flushed : OnOk answer (is_flushed ≡ true)
-  pub told : TellsResult w from to errors status answer
+  pub told : TellsResult Answers w c from to errors status answer
 
 -- a text was written and the status is 0; or the sink failed, and a beginning of the text was written
 pub data Prints (text : List ℕ) (to : Device) (errors : Stream) (status : ℕ) : Type 0 where

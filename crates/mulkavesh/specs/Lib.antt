@@ -1,8 +1,10 @@
+pub mod Cause
 pub mod Command
 pub mod Entries
 pub mod Message
 pub mod Mistakes
 pub mod Order
+pub mod Sections
 pub mod Steps
 pub mod Subcommands
 pub mod Visible

@@ -15,6 +15,7 @@ work_word work.Gc = codes "gc"
 work_word work.Report = codes "report"
 work_word work.List = codes "list"
 work_word work.Check = codes "check"
+work_word work.Sections = codes "sections"
 work_word work.Strip = codes "strip"
 work_word work.Snip = codes "snip"
 work_word work.Stub = codes "stub"
@@ -62,7 +63,6 @@ has_wanted work.Gc = true
 has_wanted work.Report = true
 has_wanted work.List = true
 has_wanted work.Check = true
-has_wanted work.Strip = true
 has_wanted _ = false
 
 -- its answer can be for programs
@@ -70,6 +70,7 @@ abbrev pub has_json : Work → Bool
 has_json work.Report = true
 has_json work.List = true
 has_json work.Check = true
+has_json work.Sections = true
 has_json work.Why = true
 has_json _ = false
 

@@ -1,13 +1,15 @@
 -- What each subcommand makes of the bytes of a module. Left open are what is written for programs, under `--json`, and what is noted by gc
 -- without `--quiet`, by snip and by stub.
-use Rattle.std.specs.Prelude.{ℕ, Bool, true, false, List, [], ◌++◌, Option, Some, None, Result, Ok, Err, String, codes, is_some, string_bytes, ◌≡◌, ◌⊎◌, ⊤}
+use Rattle.std.specs.Prelude.{ℕ, Bool, true, false, not, List, [], ◌∷◌, ◌++◌, Option, Some, None, Result, Ok, Err, String, codes, flat_map, is_some, string_bytes, ◌≡◌, ◌⊎◌, ⊤}
 use Rattle.std.specs.Global.{Vec}
 use Rattle.std.specs.declared.alloc.Global.{Global}
 use Rattle.std.specs.Str.Parse.{ParsesUnsigned}
-use Rattle.walrus_tools.specs.Diagnosed.{Finds, fault_text}
+use Rattle.walrus_tools.specs.Diagnosed.{Finds, WordsFault}
 use Rattle.walrus_tools.specs.Found.{AnswersFound, IsFound}
-use Rattle.walrus_tools.specs.Handed.{Config, Error, Fault, Memory, ReportsOn, RunsOn, config_of, defaults}
+use Rattle.walrus_tools.specs.Handed.{Config, Error, Fault, InvalidWasm, Memory, ReportsOn, RunsOn, config_of, defaults}
 use Rattle.walrus_tools.specs.Reasons.{AnswersChain}
+use Rattle.walrus_tools.specs.Choice.{Choice}
+use Rattle.walrus_tools.specs.Sections.{LacksHeader, Piece, StandUpTo}
 use Rattle.walrus_tools.specs.Sized.{AnswersListed}
 use Rattle.walrus_tools.specs.Snipped.{AnswersSnipped}
 use Rattle.walrus_tools.specs.Stripped.{AnswersStripped}
@@ -18,6 +20,7 @@ use Rattle.mulkavesh.specs.declared.order.Order.{Order}
 use Rattle.mulkavesh.specs.declared.order.Work.{Work}
 use Rattle.mulkavesh.specs.declared.order.Work.TheVariants as work
 use Rattle.mulkavesh.specs.Entries.{TellsList}
+use Rattle.mulkavesh.specs.Sections.{section_line, stop_text}
 
 -- what a call of the library answers: bytes, or why not
 abbrev pub Answer : Type 0
@@ -66,10 +69,10 @@ IsSame bytes text = text ≡ bytes
 
 -- ---- check
 
--- the line of what was found
-abbrev pub verdict_text : Option Fault → List ℕ
-verdict_text None = codes "accepted\n"
-verdict_text (Some fault) = fault_text fault ++ codes "\n"
+-- the line of what was found in the bytes
+abbrev pub TellsVerdict : (bytes : List ℕ) → Option Fault → (text : List ℕ) → Type 0
+TellsVerdict bytes None text = text ≡ codes "accepted\n"
+TellsVerdict bytes (Some fault) text = (words : List ℕ) × WordsFault bytes fault words × (text ≡ words ++ codes "\n")
 
 -- nothing was found exactly where the bytes are accepted, and otherwise something that is wrong with them; the module is refused where something was
 -- found, and the text says what
@@ -77,13 +80,32 @@ pub record IsVerdict (c : Config) (bytes : List ℕ) (is_json is_refused : Bool)
   pub found : Option Fault
   pub finds : Finds c bytes found
   pub refused : is_refused ≡ is_some found
-  pub says : ForPeople is_json (text ≡ verdict_text found)
+  pub says : ForPeople is_json (TellsVerdict bytes found text)
 
 -- the verdict, and nothing is noted; or memory ran out
 abbrev pub Checks : Config → (bytes : List ℕ) → (is_json : Bool) → Result Made Error → Type 0
 Checks c bytes is_json (Ok m) = IsVerdict c bytes is_json m.is_refused m.output.items × NotesNothing m
 Checks c bytes is_json (Err (Memory e)) = ⊤
 Checks c bytes is_json (Err _) = ⊥
+
+-- ---- sections
+
+-- a line for each section that stands there; where bytes are left behind them, that is a refusal, which says where
+pub record SaysSections (bytes : List ℕ) (is_json : Bool) (m : Made) : Type 0 where
+  pub is_whole : Bool
+  pub place : ℕ
+  pub pieces : List Piece
+  pub stand : StandUpTo bytes is_whole place pieces
+  pub lines : ForPeople is_json (m.output.items ≡ flat_map section_line pieces)
+  pub note : m.note.items ≡ stop_text is_whole place
+  pub refused : m.is_refused ≡ not is_whole
+
+-- that, or the header isn't there, or memory ran out
+abbrev pub TellsSections : (bytes : List ℕ) → (is_json : Bool) → Result Made Error → Type 0
+TellsSections bytes is_json (Ok m) = SaysSections bytes is_json m
+TellsSections bytes is_json (Err (InvalidWasm kind)) = LacksHeader bytes
+TellsSections bytes is_json (Err (Memory e)) = ⊤
+TellsSections bytes is_json (Err _) = ⊥
 
 -- ---- why
 
@@ -101,11 +123,6 @@ abbrev pub MeansNone : Config → (bytes word : List ℕ) → Answer → Type 0
 MeansNone c bytes word (Ok answer) = ⊥
 MeansNone c bytes word (Err e) = ((i : ℕ) → IsIndex word i → ⊥) × AnswersFound c bytes word (Err e)
 
--- the function that is meant, or why there is none
-abbrev pub FindsMeant : Config → (bytes word : List ℕ) → Result ℕ Error → Type 0
-FindsMeant c bytes word (Ok function) = Means c bytes word function
-FindsMeant c bytes word (Err e) = MeansNone c bytes word (Err e)
-
 -- the chain to the function that is meant
 abbrev pub AnswersWhy : Config → (bytes word : List ℕ) → Answer → Type 0
 AnswersWhy c bytes word answer = ((function : ℕ) × Means c bytes word function × AnswersChain c bytes function vec_bytes answer) ⊎ MeansNone c bytes word answer
@@ -117,12 +134,17 @@ abbrev pub operand_bytes : Option (String Global) → List ℕ
 operand_bytes None = []
 operand_bytes (Some word) = string_bytes word
 
+-- that sections with such a name go
+abbrev pub named : (operand : List ℕ) → Choice
+named operand = record { is_kept = false; name = operand }
+
 abbrev pub AnswersWork : Work → Config → (is_quiet is_json : Bool) → (operand bytes : List ℕ) → Result Made Error → Type 0
 AnswersWork work.Gc c is_quiet is_json operand bytes = WritesQuietly is_quiet (RunsOn c bytes vec_bytes)
 AnswersWork work.Report c is_quiet is_json operand bytes = WritesText is_json IsSame (ReportsOn c bytes vec_bytes)
 AnswersWork work.List c is_quiet is_json operand bytes = WritesText is_json TellsList (AnswersListed c bytes)
 AnswersWork work.Check c is_quiet is_json operand bytes = Checks c bytes is_json
-AnswersWork work.Strip c is_quiet is_json operand bytes = WritesAlone (AnswersStripped c bytes operand)
+AnswersWork work.Sections c is_quiet is_json operand bytes = TellsSections bytes is_json
+AnswersWork work.Strip c is_quiet is_json operand bytes = WritesAlone (AnswersStripped bytes (named operand ∷ []))
 AnswersWork work.Snip c is_quiet is_json operand bytes = Writes (AnswersSnipped (config_of defaults) bytes operand)
 AnswersWork work.Stub c is_quiet is_json operand bytes = Writes (AnswersStubbed (config_of defaults) bytes operand)
 AnswersWork work.Why c is_quiet is_json operand bytes = WritesText is_json IsSame (AnswersWhy (config_of defaults) bytes operand)

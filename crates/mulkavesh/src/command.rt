@@ -1,18 +1,20 @@
 //! One order from its source to its sink, and what is told of it.
 
-ghost use Rattle.std.specs.Prelude.{◌≡◌, OnOk, true};
-ghost use Rattle.mulkavesh.specs.Command.{Carries, RunsAndTells, Prints, TellsUnlessLeft, absent_text, device_of, refusal_text};
+ghost use Rattle.std.specs.Prelude.{◌≡◌, IfErr, OnOk, true};
+ghost use Rattle.mulkavesh.specs.Cause.{answer_of, config_read};
+ghost use Rattle.mulkavesh.specs.Command.{Carries, FindsRead, RunsAndTells, Prints, TellsUnlessLeft, device_of, unaccepted_text};
 ghost use Rattle.mulkavesh.specs.Subcommands.{AnswersOrder};
 ghost use Rattle.mulkavesh.specs.Message.{line};
-ghost use Rattle.walrus_tools.specs.Handed.{CountsReads, CountsWrites, stream_of};
+ghost use Rattle.walrus_tools.specs.Handed.{CountsReads, CountsWrites, Tells, stream_of};
 
+use crate::cause::{Cause, said_of, text_said};
 use crate::explains::Explains;
 use crate::message::refuse;
-use crate::order::{Order, Work};
+use crate::order::Order;
 use crate::subcommands::{Made, make};
 use crate::verdicts::REFUSED;
 use std::alloc::Global;
-use walrus_tools::{Error, ReadAllError, Sink, Source, ToolError, read_all, write_all};
+use walrus_tools::{Error, ReadAllError, Sink, Source, read_all, write_all};
 
 // Reads all of the source, and writes what the order makes of it to the sink.
 fn carry<R: Source, W: Sink>(
@@ -20,52 +22,32 @@ fn carry<R: Source, W: Sink>(
     order: &Order,
     input: &mut R,
     output: &mut W,
-) -> Result<Made, ToolError>
+) -> Result<Made, Cause>
     ensures headline { Carries (AnswersOrder order.now) (R.left input.old) (R.left input.new)
-        (W.held output.old) (W.held output.new) result }
+        (W.held output.old) (W.held output.new) (answer_of result) }
+    ensures found { IfErr result (FindsRead (AnswersOrder order.now) (R.left input.old) (R.left input.new)
+        (W.held output.old) (W.held output.new) (config_read order.now)) }
     ensures flushed { OnOk result (W.is_flushed output.new ≡ true) }
-    ensures reads { CountsReads (R.read_failures input.old) (R.read_failures input.new) result }
-    ensures writes { CountsWrites (W.write_failures output.old) (W.write_failures output.new) result }
+    ensures reads { CountsReads (R.read_failures input.old) (R.read_failures input.new) (answer_of result) }
+    ensures writes { CountsWrites (W.write_failures output.old) (W.write_failures output.new)
+        (answer_of result) }
 {
     let bytes = match read_all(alloc, input) {
         Ok(bytes) => bytes,
-        Err(ReadAllError::Device) => return Err(ToolError::Read),
-        Err(ReadAllError::Memory(error)) => return Err(ToolError::Module(Error::Memory(error))),
+        Err(ReadAllError::Device) => return Err(Cause::Read),
+        Err(ReadAllError::Memory(error)) => return Err(Cause::Refused(Error::Memory(error), None)),
     };
     let answer = match make(alloc, order, &bytes) {
         Ok(answer) => answer,
-        Err(error) => return Err(ToolError::Module(error)),
+        Err(error) => {
+            let said = said_of(alloc, order, &bytes, &error);
+            return Err(Cause::Refused(error, said));
+        }
     };
     drop(bytes);
     match write_all(output, &answer.output) {
         Ok(()) => Ok(answer),
-        Err(_) => Err(ToolError::Write),
-    }
-}
-
-// Why an exported function isn't replaced.
-const KEPT: &str = "this function is imported, or exported before under another name";
-
-// What a refusal says, in the words of the subcommand.
-fn text_of(work: Work, error: &Error) -> &str
-    ensures { result.now ≡ refusal_text work error.now }
-{
-    match error {
-        Error::InvalidWasm(_) => REFUSED,
-        Error::NotFound => absent(work),
-        Error::NotReplaceable => KEPT,
-        other => other.text(),
-    }
-}
-
-// What isn't there.
-fn absent(work: Work) -> &'static str
-    ensures { result.now ≡ absent_text work }
-{
-    match work {
-        Work::Strip => "there is no custom section of this name",
-        Work::Snip => "no function is exported under this name",
-        _ => "there is no such function",
+        Err(_) => Err(Cause::Write),
     }
 }
 
@@ -93,6 +75,19 @@ fn unwritten<W: Explains, E: Sink>(output: &W, errors: &mut E) -> u8
     refuse(errors, output.name(), output.trouble())
 }
 
+// Tells what is noted of bytes that aren't accepted, and where nothing is, that they aren't.
+fn unaccepted<E: Sink>(errors: &mut E, name: &str, note: &[u8]) -> u8
+    ensures status { result ≡ 1 }
+    ensures told { Tells (stream_of E.held E.write_failures errors.old errors.new)
+        (unaccepted_text name.now note.now) }
+{
+    if note.is_empty() {
+        return refuse(errors, name, REFUSED);
+    }
+    let _told = write_all(errors, note);
+    1
+}
+
 /// Runs one order: reads all of the source, writes what is made of it to the sink, and tells of a refusal in one line. The answer is the status: 0
 /// where all was written, 1 where it was refused, or where the module that was checked isn't accepted. Where the reader of the sink went away,
 /// nothing is told.
@@ -103,20 +98,22 @@ pub(crate) fn command<R: Source + Explains, W: Sink + Explains, E: Sink>(
     output: &mut W,
     errors: &mut E,
 ) -> u8
-    ensures runs { RunsAndTells (AnswersOrder order.now) order.now.work
+    ensures runs { RunsAndTells (AnswersOrder order.now) order.now.work (config_read order.now)
         (device_of R.left R.read_failures R.name R.trouble R.is_left input.old input.new)
         (device_of W.held W.write_failures W.name W.trouble W.is_left output.old output.new)
         (stream_of E.held E.write_failures errors.old errors.new) result (W.is_flushed output.new) }
     ensures flushed { result ≡ 0 → W.is_flushed output.new ≡ true }
 {
     match carry(alloc, order, input, output) {
-        Ok(answer) if answer.is_refused => refuse(errors, input.name(), REFUSED),
+        Ok(answer) if answer.is_refused => unaccepted(errors, input.name(), &answer.note),
         Ok(answer) => {
             let _told = write_all(errors, &answer.note);
             0
         }
-        Err(ToolError::Read) => refuse(errors, input.name(), input.trouble()),
-        Err(ToolError::Write) => unwritten(output, errors),
-        Err(ToolError::Module(error)) => refuse(errors, input.name(), text_of(order.work, &error)),
+        Err(Cause::Read) => refuse(errors, input.name(), input.trouble()),
+        Err(Cause::Write) => unwritten(output, errors),
+        Err(Cause::Refused(error, said)) => {
+            refuse(errors, input.name(), text_said(order.work, &error, &said))
+        }
     }
 }

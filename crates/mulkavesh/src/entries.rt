@@ -48,8 +48,8 @@ fn first(list: &[u8]) -> Option<(Entry<'_>, &[u8])>
     Some((entry, behind))
 }
 
-// Puts a name behind the text, as people see it.
-fn add_name(to: &mut Vec<u8>, name: &[u8]) -> Result<(), AllocError>
+/// Puts a name behind the text, as people see it.
+pub(crate) fn add_name(to: &mut Vec<u8>, name: &[u8]) -> Result<(), AllocError>
     ensures { OnOk result (to.new.items ≡ to.old.items ++ shown name.now) }
 {
     let mut rest = name;

@@ -7,6 +7,7 @@
 #![tactic(auto)]
 
 mod beside;
+mod cause;
 mod chains;
 mod command;
 mod entries;
@@ -22,6 +23,7 @@ mod numbers;
 mod order;
 mod output;
 mod reports;
+mod sections;
 mod subcommands;
 mod telling;
 mod usage;

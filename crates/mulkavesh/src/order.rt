@@ -12,6 +12,7 @@ pub(crate) enum Work {
     Report,
     List,
     Check,
+    Sections,
     Strip,
     Snip,
     Stub,
@@ -126,6 +127,7 @@ pub(crate) fn work_of(word: &str) -> Option<Work>
         "report" => Some(Work::Report),
         "list" => Some(Work::List),
         "check" => Some(Work::Check),
+        "sections" => Some(Work::Sections),
         "strip" => Some(Work::Strip),
         "snip" => Some(Work::Snip),
         "stub" => Some(Work::Stub),
@@ -161,10 +163,10 @@ pub(crate) fn takes(work: Work, flag: Flag) -> bool
 {
     match flag {
         Flag::Quiet => work == Work::Gc,
-        Flag::Json => matches!(work, Work::Report | Work::List | Work::Check | Work::Why),
-        _ => matches!(
+        Flag::Json => matches!(
             work,
-            Work::Gc | Work::Report | Work::List | Work::Check | Work::Strip
+            Work::Report | Work::List | Work::Check | Work::Sections | Work::Why
         ),
+        _ => matches!(work, Work::Gc | Work::Report | Work::List | Work::Check),
     }
 }

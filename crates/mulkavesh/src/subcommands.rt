@@ -1,17 +1,20 @@
 //! What each subcommand makes of the bytes of a module.
 
-ghost use Rattle.std.specs.Prelude.{◌≡◌, false};
+ghost use Rattle.std.specs.Prelude.{◌≡◌, ◌∷◌, [], false};
 ghost use Rattle.mulkavesh.specs.Entries.{TellsList};
-ghost use Rattle.mulkavesh.specs.Subcommands.{AnswersOrder, AnswersText, AnswersWhy, FindsMeant, IsSame, NotesNothing, Writes, WritesQuietly, operand_bytes, vec_bytes};
+ghost use Rattle.mulkavesh.specs.Subcommands.{AnswersOrder, AnswersText, AnswersWhy, IsSame, NotesNothing, Writes, WritesQuietly, named, operand_bytes, vec_bytes};
 ghost use Rattle.walrus_tools.specs.Handed.{ReportsOn, RunsOn, config_of, defaults};
 ghost use Rattle.walrus_tools.specs.Sized.{AnswersListed};
+ghost use Rattle.walrus_tools.specs.Stripped.{AnswersStripped};
 ghost use Rattle.walrus_tools.specs.Wanted.{config_wanted};
 
 use crate::notes::note_of;
 use crate::order::{Order, Work};
-use crate::{chains, entries, reports, verdicts};
+use crate::{chains, entries, reports, sections, verdicts};
 use std::alloc::Global;
-use walrus_tools::{Error, Wanted, find, gc, gc_counted, list, report, snip, strip, stub, why};
+use walrus_tools::{
+    Choice, Error, Wanted, gc, gc_counted, list, report, snip, strip, stub, why, why_called,
+};
 
 /// What a subcommand makes.
 #[derive(Drop)]
@@ -57,7 +60,8 @@ pub(crate) fn make(alloc: Global, order: &Order, bytes: &[u8]) -> Result<Made, E
         Work::Report => Ok(only(alloc, reported(alloc, order, bytes)?)),
         Work::List => Ok(only(alloc, listed(alloc, order, bytes)?)),
         Work::Check => verdicts::checked(alloc, order, bytes),
-        Work::Strip => Ok(only(alloc, strip(alloc, bytes, operand, order.wanted)?)),
+        Work::Sections => sections::told(alloc, order, bytes),
+        Work::Strip => Ok(only(alloc, stripped(alloc, bytes, operand)?)),
         Work::Snip => Ok(only(alloc, snip(alloc, bytes, operand)?)),
         Work::Stub => Ok(only(alloc, stub(alloc, bytes, operand)?)),
         Work::Why => Ok(only(alloc, reasoned(alloc, order, bytes, operand)?)),
@@ -112,24 +116,35 @@ fn listed(alloc: Global, order: &Order, bytes: &[u8]) -> Result<Vec<u8>, Error>
     Ok(entries::text(alloc, &list)?)
 }
 
+// What is left without the custom sections of this name.
+fn stripped(alloc: Global, bytes: &[u8], operand: &str) -> Result<Vec<u8>, Error>
+    ensures { AnswersStripped bytes.now (named operand.now ∷ []) result }
+{
+    let choice = Choice {
+        is_kept: false,
+        name: operand.as_bytes(),
+    };
+    strip(alloc, bytes, &[choice])
+}
+
 // Why a function stays.
 fn reasoned(alloc: Global, order: &Order, bytes: &[u8], operand: &str) -> Result<Vec<u8>, Error>
     ensures { AnswersText order.now.is_json IsSame
         (AnswersWhy (config_of defaults) bytes.now operand.now) result }
 {
-    let text = why(alloc, bytes, function_of(alloc, bytes, operand)?)?.into_bytes();
+    let text = chain_of(alloc, bytes, operand)?;
     if order.is_json {
         return Ok(chains::json(alloc, &text)?);
     }
     Ok(text)
 }
 
-// The function that is meant: an index, or else a name, or else that of an export.
-fn function_of(alloc: Global, bytes: &[u8], operand: &str) -> Result<u32, Error>
-    ensures { FindsMeant (config_of defaults) bytes.now operand.now result }
+// A chain to the function that is meant: by its index, or else by a name, its own or that of an export.
+fn chain_of(alloc: Global, bytes: &[u8], operand: &str) -> Result<Vec<u8>, Error>
+    ensures { AnswersWhy (config_of defaults) bytes.now operand.now result }
 {
     match operand.parse::<u32>() {
-        Ok(index) => Ok(index),
-        Err(_) => find(alloc, bytes, operand),
+        Ok(index) => Ok(why(alloc, bytes, index)?.into_bytes()),
+        Err(_) => Ok(why_called(alloc, bytes, operand)?.into_bytes()),
     }
 }

@@ -15,6 +15,7 @@ const FIRST: &[&str] = &[
     "report",
     "list",
     "check",
+    "sections",
     "strip",
     "snip",
     "stub",

@@ -9,15 +9,17 @@ pub(crate) const VERSION: &str = "mulkavesh 0.1.0\n";
 pub(crate) const UNREADABLE: &str = "mulkavesh: an argument isn't UTF-8\n";
 
 /// All subcommands, the options that several have, and the statuses.
-pub(crate) const USAGE: &str = "usage: mulkavesh gc | report | list | check [options] [IN] [-o OUT]
-       mulkavesh strip SECTION | snip EXPORT | stub MODULE | why FUNCTION [options] [IN] [-o OUT]
+pub(crate) const USAGE: &str =
+    "usage: mulkavesh gc | report | list | check | sections [options] [IN] [-o OUT]
+       mulkavesh strip NAME | snip EXPORT | stub MODULE | why FUNCTION [options] [IN] [-o OUT]
        mulkavesh help [SUBCOMMAND] | SUBCOMMAND --help | --help | --version
 
   gc              drops what nothing reaches
   report          counts the items that gc would keep and drop
   list            lists the functions that gc would keep, with the bytes of each
   check           says whether a module is accepted (well made), and else what is wrong with it
-  strip SECTION   removes a custom section, the first of this name
+  sections        lists the sections as they stand, with the place and the size of each
+  strip NAME      removes the custom sections of this name, as '.debug*'; all else stays, byte for byte
   snip EXPORT     makes an exported function trap, and drops what nothing reaches then
   stub MODULE     makes the functions that are imported from this module trap, and drops what nothing reaches then
   why FUNCTION    says by which references a function stays
@@ -72,14 +74,19 @@ status is 1. Accepted means well made. That is less than valid: the types of ope
   --no-names, --no-producers    known, as to gc; they change nothing here
 ";
 
-const STRIP: &str = "usage: mulkavesh strip SECTION [options] [IN] [-o OUT]
+const SECTIONS: &str = "usage: mulkavesh sections [options] [IN] [-o OUT]
 
-Removes a custom section, the first of this name. What nothing reaches stays, but all is written anew, as by gc. The sections of names, of
-producers and of debug information aren't found by their names.
+Lists the sections as they stand, whatever they hold, a line each: its place in bytes from the start, its bytes, and what it is: custom and its
+name, or the standard's word and the count of its entries where one stands there, or unknown and its id. Where bytes are left in which no
+section stands, standard error says where, and the status is 1.
 
-  --no-names      write no names
-  --no-producers  write no producers
-  --no-legacy     refuse bodies with legacy exceptions
+  --json          an array of objects, as {\"id\":10,\"kind\":\"code\",\"name\":null,\"start\":30,\"size\":12,\"entries\":2}
+";
+
+const STRIP: &str = "usage: mulkavesh strip NAME [IN] [-o OUT]
+
+Removes the custom sections of this name. In NAME a star stands for any bytes, also none, and a backslash and a star for a star. All else stays,
+byte for byte, and no section is looked into.
 ";
 
 const SNIP: &str = "usage: mulkavesh snip EXPORT [IN] [-o OUT]
@@ -108,6 +115,7 @@ pub(crate) fn help_of(work: Work) -> &'static str {
         Work::Report => REPORT,
         Work::List => LIST,
         Work::Check => CHECK,
+        Work::Sections => SECTIONS,
         Work::Strip => STRIP,
         Work::Snip => SNIP,
         Work::Stub => STUB,
@@ -122,6 +130,7 @@ pub(crate) fn name_of(work: Work) -> &'static str {
         Work::Report => "report",
         Work::List => "list",
         Work::Check => "check",
+        Work::Sections => "sections",
         Work::Strip => "strip",
         Work::Snip => "snip",
         Work::Stub => "stub",
@@ -132,7 +141,7 @@ pub(crate) fn name_of(work: Work) -> &'static str {
 /// What the subcommand is about, as its usage calls it.
 pub(crate) fn operand_of(work: Work) -> &'static str {
     match work {
-        Work::Strip => "SECTION",
+        Work::Strip => "NAME",
         Work::Snip => "EXPORT",
         Work::Stub => "MODULE",
         _ => "FUNCTION",

@@ -1,5 +1,5 @@
 -- What a call from C leaves behind: its status, the caller's room, and the length that is told.
-use Rattle.std.specs.Prelude.{ℕ, Bool, false, ◌<◌, ◌≤◌, List, ◌++◌, drop, length, Result, Ok, Err, ◌≡◌, ◌≢◌, ◌↔◌, ◌⊎◌}
+use Rattle.std.specs.Prelude.{ℕ, ◌<◌, ◌≤◌, List, ◌++◌, drop, length, Result, Ok, Err, ◌≡◌, ◌≢◌, ◌↔◌, ◌⊎◌}
 use Rattle.std.specs.Global.{Vec}
 use Rattle.walrus_tools.specs.Handed.{Error, InvalidWasm, Memory, TooLarge}
 
@@ -36,10 +36,10 @@ abbrev pub Puts : Answer → (old new : List ℕ) → (told status : ℕ) → Ty
 Puts (Ok bytes) old new told status = ((status ≡ 0) × Fills bytes.items old new told) ⊎ ((status ≡ 4) × Lacks bytes.items old new told)
 Puts (Err e) old new told status = (status ≡ status_of e) × Leaves old new told
 
--- What a call comes to that answers as `Answers` says where its flags are known: 5 exactly where they aren't; else 0, and an answer fills the
--- front of the room; 4, which is too small for an answer; or a refusal.
-pub record Gives (known : Bool) (Answers : Answer → Type 0) (old new : List ℕ) (told status : ℕ) : Type 0 where
-  pub flags : (status ≡ 5) ↔ (known ≡ false)
+-- What a call comes to that answers as `Answers` says where `Known` holds, that its flags or its choices are such: 5 exactly where it doesn't;
+-- else 0, and an answer fills the front of the room; 4, which is too small for an answer; or a refusal.
+pub record Gives (Known : Type 0) (Answers : Answer → Type 0) (old new : List ℕ) (told status : ℕ) : Type 0 where
+  pub flags : (status ≡ 5) ↔ (Known → ⊥)
   pub unknown : status ≡ 5 → Leaves old new told
   pub done : status ≡ 0 → (bytes : Vec ℕ) × Answers (Ok bytes) × Fills bytes.items old new told
   pub room : status ≡ 4 → (bytes : Vec ℕ) × Answers (Ok bytes) × Lacks bytes.items old new told

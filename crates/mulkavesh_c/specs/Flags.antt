@@ -1,10 +1,13 @@
 -- What the flags of a call ask for.
-use Rattle.std.specs.Prelude.{ℕ, Bool, bit_and, nat_eq, nat_lt}
+use Rattle.std.specs.Prelude.{◌≡◌, ℕ, Bool, true, bit_and, nat_eq, nat_lt}
 use Rattle.walrus_tools.specs.declared.wanted.Wanted.{Wanted}
 
 -- each flag has a bit of its own: 1 turns names off, 2 producers, 4 legacy exceptions; there are no others
 abbrev pub is_known : (flags : ℕ) → Bool
 is_known flags = nat_lt flags 8
+
+abbrev pub IsKnown : (flags : ℕ) → Type 0
+IsKnown flags = is_known flags ≡ true
 
 abbrev pub lacks : (flags bit : ℕ) → Bool
 lacks flags bit = nat_eq (bit_and flags bit) 0

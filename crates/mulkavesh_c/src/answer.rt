@@ -15,7 +15,7 @@ const TOO_LARGE: u32 = 2;
 const NO_MEMORY: u32 = 3;
 /// The room is smaller than the answer, whose length is told.
 const NO_ROOM: u32 = 4;
-/// A flag isn't known.
+/// A flag isn't known, or the bytes are no list of choices.
 pub(crate) const UNKNOWN_FLAG: u32 = 5;
 /// There is nothing of this name or index that the call could work on.
 const NOT_FOUND: u32 = 6;

@@ -9,22 +9,25 @@ mod answer;
 mod flags;
 mod names;
 
-ghost use Rattle.std.specs.Prelude.{◌≡◌, true};
+ghost use Rattle.std.specs.Prelude.{◌≡◌, ⊤};
 ghost use Rattle.walrus_tools.specs.Diagnosed.{AnswersFault};
 ghost use Rattle.walrus_tools.specs.Handed.{ReportsOn, RunsOn, config_of, defaults};
 ghost use Rattle.walrus_tools.specs.Reasons.{AnswersChain};
+ghost use Rattle.walrus_tools.specs.Choice.{IsList};
+ghost use Rattle.walrus_tools.specs.Sections.{AnswersSections};
 ghost use Rattle.walrus_tools.specs.Sized.{AnswersListed};
 ghost use Rattle.walrus_tools.specs.Snipped.{AnswersSnipped};
 ghost use Rattle.walrus_tools.specs.Stripped.{AnswersStripped};
 ghost use Rattle.walrus_tools.specs.Stubbed.{AnswersStubbed};
 ghost use Rattle.walrus_tools.specs.Wanted.{config_wanted};
-ghost use Rattle.mulkavesh_c.specs.Flags.{is_known, wanted};
+ghost use Rattle.mulkavesh_c.specs.Flags.{IsKnown, wanted};
 ghost use Rattle.mulkavesh_c.specs.Answer.{Gives};
-ghost use Rattle.mulkavesh_c.specs.Names.{UnderName};
+ghost use Rattle.mulkavesh_c.specs.Names.{UnderChoices, UnderName};
 
 use crate::answer::{UNKNOWN_FLAG, put, refused};
 use crate::flags::wanted_by;
 use std::alloc::Global;
+use walrus_tools::are_choices;
 
 /// The version: the major number times 2^16, the minor one times 2^8, and the patch.
 const VERSION: u32 = 256;
@@ -46,7 +49,7 @@ pub extern "C" fn mulkavesh_gc(
     output: &mut [u8],
     length: &mut usize,
 ) -> u32
-    ensures { Gives (is_known flags) (RunsOn (config_wanted (wanted flags)) input.now (λ bytes. bytes.items))
+    ensures { Gives (IsKnown flags) (RunsOn (config_wanted (wanted flags)) input.now (λ bytes. bytes.items))
         output.old output.new length.new result }
 {
     let Some(wanted) = wanted_by(flags) else {
@@ -65,7 +68,7 @@ pub extern "C" fn mulkavesh_report(
     output: &mut [u8],
     length: &mut usize,
 ) -> u32
-    ensures { Gives (is_known flags) (ReportsOn (config_wanted (wanted flags)) input.now (λ text. text.items))
+    ensures { Gives (IsKnown flags) (ReportsOn (config_wanted (wanted flags)) input.now (λ text. text.items))
         output.old output.new length.new result }
 {
     let Some(wanted) = wanted_by(flags) else {
@@ -84,7 +87,7 @@ pub extern "C" fn mulkavesh_diagnose(
     output: &mut [u8],
     length: &mut usize,
 ) -> u32
-    ensures { Gives (is_known flags) (AnswersFault (config_wanted (wanted flags)) input.now)
+    ensures { Gives (IsKnown flags) (AnswersFault (config_wanted (wanted flags)) input.now)
         output.old output.new length.new result }
 {
     let Some(wanted) = wanted_by(flags) else {
@@ -103,7 +106,7 @@ pub extern "C" fn mulkavesh_list(
     output: &mut [u8],
     length: &mut usize,
 ) -> u32
-    ensures { Gives (is_known flags) (AnswersListed (config_wanted (wanted flags)) input.now)
+    ensures { Gives (IsKnown flags) (AnswersListed (config_wanted (wanted flags)) input.now)
         output.old output.new length.new result }
 {
     let Some(wanted) = wanted_by(flags) else {
@@ -113,24 +116,36 @@ pub extern "C" fn mulkavesh_list(
     put(made, output, length)
 }
 
-/// The module without its first custom section of this name: `walrus_tools::strip`.
+/// The bytes without the custom sections that go by a list of choices: `walrus_tools::strip`.
 #[unsafe(no_mangle)]
 pub extern "C" fn mulkavesh_strip(
     alloc: Global,
     input: &[u8],
-    flags: u32,
-    name: &[u8],
+    choice: &[u8],
     output: &mut [u8],
     length: &mut usize,
 ) -> u32
-    ensures { Gives (is_known flags)
-        (UnderName name.now (AnswersStripped (config_wanted (wanted flags)) input.now name.now))
+    ensures { Gives (IsList choice.now) (UnderChoices choice.now (AnswersStripped input.now))
         output.old output.new length.new result }
 {
-    let Some(wanted) = wanted_by(flags) else {
+    if !are_choices(choice) {
         return refused(length, UNKNOWN_FLAG);
-    };
-    let made = names::stripped(alloc, input, name, wanted);
+    }
+    let made = names::stripped(alloc, input, choice);
+    put(made, output, length)
+}
+
+/// The sections, with the place and the size of each, whatever they hold: `walrus_tools::section_list`.
+#[unsafe(no_mangle)]
+pub extern "C" fn mulkavesh_sections(
+    alloc: Global,
+    input: &[u8],
+    output: &mut [u8],
+    length: &mut usize,
+) -> u32
+    ensures { Gives ⊤ (AnswersSections input.now) output.old output.new length.new result }
+{
+    let made = walrus_tools::section_list(alloc, input);
     put(made, output, length)
 }
 
@@ -143,7 +158,7 @@ pub extern "C" fn mulkavesh_why(
     output: &mut [u8],
     length: &mut usize,
 ) -> u32
-    ensures { Gives true (AnswersChain (config_of defaults) input.now function (λ text. text.items))
+    ensures { Gives ⊤ (AnswersChain (config_of defaults) input.now function (λ text. text.items))
         output.old output.new length.new result }
 {
     let made = names::reasoned(alloc, input, function);
@@ -159,7 +174,7 @@ pub extern "C" fn mulkavesh_snip(
     output: &mut [u8],
     length: &mut usize,
 ) -> u32
-    ensures { Gives true (UnderName name.now (AnswersSnipped (config_of defaults) input.now name.now))
+    ensures { Gives ⊤ (UnderName name.now (AnswersSnipped (config_of defaults) input.now name.now))
         output.old output.new length.new result }
 {
     let made = names::snipped(alloc, input, name);
@@ -175,7 +190,7 @@ pub extern "C" fn mulkavesh_stub(
     output: &mut [u8],
     length: &mut usize,
 ) -> u32
-    ensures { Gives true (UnderName from.now (AnswersStubbed (config_of defaults) input.now from.now))
+    ensures { Gives ⊤ (UnderName from.now (AnswersStubbed (config_of defaults) input.now from.now))
         output.old output.new length.new result }
 {
     let made = names::stubbed(alloc, input, from);

@@ -1,4 +1,4 @@
-//! The calls that take a name or an index. A name is compared as bytes; no name of a module is bytes that aren't UTF-8, so those aren't
+//! The calls that take a name, a list of choices or an index. A name is compared as bytes; no name of a module is bytes that aren't UTF-8, so those aren't
 //! found.
 
 ghost use Rattle.walrus_tools.specs.Handed.{config_of, defaults};
@@ -6,11 +6,10 @@ ghost use Rattle.walrus_tools.specs.Reasons.{AnswersChain};
 ghost use Rattle.walrus_tools.specs.Snipped.{AnswersSnipped};
 ghost use Rattle.walrus_tools.specs.Stripped.{AnswersStripped};
 ghost use Rattle.walrus_tools.specs.Stubbed.{AnswersStubbed};
-ghost use Rattle.walrus_tools.specs.Wanted.{config_wanted};
-ghost use Rattle.mulkavesh_c.specs.Names.{UnderName};
+ghost use Rattle.mulkavesh_c.specs.Names.{UnderChoices, UnderName};
 
 use std::alloc::Global;
-use walrus_tools::{Error, Wanted, snip, strip, stub, why};
+use walrus_tools::{Error, read_choices, snip, strip, stub, why};
 
 /// Why the function of this index stays, as bytes.
 pub(crate) fn reasoned(alloc: Global, input: &[u8], function: u32) -> Result<Vec<u8>, Error>
@@ -22,18 +21,13 @@ pub(crate) fn reasoned(alloc: Global, input: &[u8], function: u32) -> Result<Vec
     }
 }
 
-/// The module without its first custom section of this name.
-pub(crate) fn stripped(
-    alloc: Global,
-    input: &[u8],
-    name: &[u8],
-    wanted: Wanted,
-) -> Result<Vec<u8>, Error>
-    ensures { UnderName name.now (AnswersStripped (config_wanted wanted) input.now name.now) result }
+/// The bytes without the custom sections that go by these choices. Bytes that are no list of choices choose nothing that could be found.
+pub(crate) fn stripped(alloc: Global, input: &[u8], choice: &[u8]) -> Result<Vec<u8>, Error>
+    ensures { UnderChoices choice.now (AnswersStripped input.now) result }
 {
-    match str::from_utf8(name) {
-        Ok(name) => strip(alloc, input, name, wanted),
-        Err(_) => Err(Error::NotFound),
+    match read_choices(alloc, choice)? {
+        Some(choices) => strip(alloc, input, &choices),
+        None => Err(Error::NotFound),
     }
 }
 

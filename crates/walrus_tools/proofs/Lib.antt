@@ -1,6 +1,9 @@
+mod Among
 mod BodiesRise
 mod CallBody
 mod CallSound
+mod ChoiceLists
+mod Chosen
 mod Closures
 mod CountEnds
 mod CountRead
@@ -11,6 +14,7 @@ mod EditEnds
 mod FaultEnds
 mod Finishing
 mod FoundEnds
+mod Fronts
 mod FunctionsThere
 mod HookEnds
 mod HookSteps
@@ -21,11 +25,13 @@ mod ListedEnds
 mod ListedReached
 mod ListedWritten
 mod Matched
+mod MeantThere
 mod MetadataEnds
 mod MovesEnds
 mod MovesOnce
 mod MovesRuns
 mod MovesTrue
+mod OneBeginning
 mod OneNumber
 mod PlacedEnds
 mod PlacedOps
@@ -33,13 +39,16 @@ mod PlacedSlots
 mod Places
 mod ReadBodies
 mod ReasonEnds
+pub mod Records
 mod RenameSteps
-mod Sections
+mod SectionLemmas
+mod SectionsWritten
 mod SizeEnds
 mod SizeLemmas
 mod SnipCall
 mod SnipStep
-mod StripEnds
+mod StripLemmas
+mod Stars
 mod StubCall
 mod StubStep
 mod StubTurn

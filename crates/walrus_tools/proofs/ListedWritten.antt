@@ -12,7 +12,7 @@ use Rattle.walrus_model.specs.Reached.{root}
 use Rattle.walrus_model.specs.Roots.{asked_for}
 use Rattle.walrus_base.proofs.Lists.{Contains-head, Contains-map, Contains-tail}
 use Rattle.walrus_theorem.proofs.StepLeaves.{between}
-use Rattle.walrus_tools.proofs.Sections.{stands_among}
+use Rattle.walrus_tools.proofs.SectionsWritten.{stands_among}
 use Rattle.walrus.specs.Listed.{found_bytes, list_bytes}
 use Rattle.walrus_tools.specs.Ends.{LeavesWritten, LeftOf}
 use Rattle.walrus_tools.specs.Listed.{HasListing, listing}

@@ -1,5 +1,5 @@
 -- What was parsed, collected and written, with its places, and why a function stays: what the whole way comes to, and each refusal.
-use Rattle.std.proofs.Common.{◌≡◌, ℕ, Bool, false, List, Option, refl, sym, ap, ◌∙◌, map, subst}
+use Rattle.std.proofs.Common.{◌≡◌, ℕ, Bool, false, List, Option, Result, refl, sym, ap, ◌∙◌, map, subst}
 use Rattle.std.specs.Prelude.{Contains, IsSome, Ok, Err, String, string_bytes}
 use Rattle.std.specs.Global.{Vec}
 use Rattle.std.specs.declared.alloc.Global.{Global}
@@ -39,15 +39,16 @@ use Rattle.walrus_module.specs.declared.module.Module.{Module}
 use Rattle.walrus_module.proofs.Emission.{left_refused, well_refused_too}
 use Rattle.walrus_writing.specs.Transform.{IsTransformOf}
 use Rattle.walrus.specs.Marked.{ReachesUnsound}
-use Rattle.walrus.specs.Used.{RefusesSearch}
+use Rattle.walrus.specs.Used.{RefusesSearch, Searches}
 use Rattle.walrus.specs.Why.{Explains}
 use Rattle.walrus_module.proofs.KeptRaw.{none_refuses}
 use Rattle.walrus.proofs.HeadlineLemmas.{search_refused as never_dead}
 use Rattle.walrus_tools.proofs.EditEnds.{edit_finishes, edit_refused, edited_live, edited_to, edited_well, parsed_whole, plain_read}
 use Rattle.walrus_tools.proofs.Finishing.{finished, search_refused}
-use Rattle.walrus_tools.specs.Edited.{AnswersEdited, IsWhole, with_customs}
+use Rattle.walrus_tools.specs.Edited.{AnswersEdited, IsWhole, RefusesEdit, with_customs}
+use Rattle.walrus_tools.specs.Ends.{Answers}
 use Rattle.walrus_tools.specs.Measured.{IsMeasured, IsSame}
-use Rattle.walrus_tools.specs.Reasons.{AnswersChain, AnswersReason, FindsFunction, LacksFunction, chain_text, report_text}
+use Rattle.walrus_tools.specs.Reasons.{AnswersChain, AnswersReason, FindsFunction, IsChain, LacksFunction, TellsChain, chain_text, report_text}
 
 module _ {V : Type 0} {O : V → Type 0} (G : (v : V) → Ghosts (O v)) (Refuses : Contents → Error → Type 0) (g : Flags) (plain : g.preserve_code_transform ≡ false) (bytes : List ℕ)
     (read : Module (SectionEntry V O)) (parsed : IsParsed (config_of g) bytes (view G read)) where
@@ -101,53 +102,62 @@ module _ {V : Type 0} {O : V → Type 0} (G : (v : V) → Ghosts (O v)) (Refuses
               (subst (λ (h : Flags). IsTransformOf (config_of h) h.preserve_code_transform (locations_of left) (view G left) output.items (transform_of transform)) f_is (tells sayable));
         }
 
-module _ {V : Type 0} {O : V → Type 0} (G : (v : V) → Ghosts (O v)) (c : Config) (bytes : List ℕ) (read : Module (SectionEntry V O)) (parsed : IsParsed c bytes (view G read)) (function : ℕ) where
-  abbrev Lacks : Contents → Error → Type 0
-  Lacks = LacksFunction function
-
-  -- there is no such function
-  pub function_lacks : (e : Error) → FindsFunction (functions read.funcs) function (Err e) → AnswersReason c bytes function (Err e)
-  function_lacks error.NotFound h = edit_refused G IsSame Lacks c bytes read parsed (λ k d. d) (λ d. d) error.NotFound h
-  function_lacks _ h = absurd h
-
-  pub chain_lacks : (e : Error) → FindsFunction (functions read.funcs) function (Err e) → AnswersChain c bytes function (λ (text : String Global). string_bytes text) (Err e)
-  chain_lacks error.NotFound h = edit_refused G IsSame Lacks c bytes read parsed (λ k d. d) (λ d. d) error.NotFound h
-  chain_lacks _ h = absurd h
-
-  -- the search for a chain refuses
-  pub chain_refused : (raws : List RawCustomSection) → sections read.customs ≡ raw_sections raws → (e : Error) → RefusesSearch (ReachesUnsound (view G read)) (OneMayRefuse (meanings G read)) e
-      → AnswersChain c bytes function (λ (text : String Global). string_bytes text) (Err e)
-  chain_refused raws are (error.Memory m) h = tt
-  chain_refused raws are error.DeadItem h =
+module _ {V : Type 0} {O : V → Type 0} (G : (v : V) → Ghosts (O v)) (c : Config) (bytes : List ℕ) (read : Module (SectionEntry V O)) (parsed : IsParsed c bytes (view G read)) where
+  -- the search for a chain refuses, for want of memory alone
+  pub chain_refused : (Done : String Global → Type 0) (Refuses : Error → Type 0) (raws : List RawCustomSection) → sections read.customs ≡ raw_sections raws → (e : Error)
+      → RefusesSearch (ReachesUnsound (view G read)) (OneMayRefuse (meanings G read)) e → Answers {X = String Global} c bytes Done ⊥ Refuses (Err e)
+  chain_refused Done Refuses raws are (error.Memory m) h = tt
+  chain_refused Done Refuses raws are error.DeadItem h =
       absurd (never_dead c (λ (text : String Global). string_bytes text) (λ b o. ⊥) (λ b. ⊥) (OneMayRefuse (meanings G read)) bytes (view G read) error.DeadItem parsed (none_refuses G read raws are) h)
-  chain_refused raws are (error.Caller text) h = absurd (none_refuses G read raws are h)
-  chain_refused raws are _ h = absurd h
+  chain_refused Done Refuses raws are (error.Caller text) h = absurd (none_refuses G read raws are h)
+  chain_refused Done Refuses raws are _ h = absurd h
 
-  -- a chain leads to it, or none does
-  module _ (n : ℕ) (n_is : n ≡ function) (there : IsSome (item_at (functions read.funcs) function)) (chain : Option (List Item)) (found : Explains (view G read) (function_item n) chain) where
-    explains : Explains (with_customs (view G read).customs (contents_of read)) (function_item function) chain
-    explains = subst (λ (v : Abstract). Explains v (function_item function) chain) (plain_read G IsSame Lacks c bytes read parsed) (subst (λ (k : ℕ). Explains (view G read) (function_item k) chain) n_is found)
+  module _ (function : ℕ) where
+    abbrev Lacks : Contents → Error → Type 0
+    Lacks = LacksFunction function
 
-    pub chain_told : (text : String Global) → string_bytes text ≡ chain_text (function_item n) chain → AnswersChain c bytes function (λ (text : String Global). string_bytes text) (Ok text)
-    chain_told text says = record {
-      customs = (view G read).customs;
-      module_parsed = contents_of read;
-      parsed = subst (λ (v : Abstract). IsParsed c bytes v) (plain_read G IsSame Lacks c bytes read parsed) parsed;
-      there = there;
-      chain = chain;
-      explains = explains;
-      is = says ∙ ap (λ (k : ℕ). chain_text (function_item k) chain) n_is;
-    }
+    -- there is no such function
+    pub function_lacks : (e : Error) → FindsFunction (functions read.funcs) function (Err e) → AnswersReason c bytes function (Err e)
+    function_lacks error.NotFound h = edit_refused G IsSame Lacks c bytes read parsed (λ k d. d) (λ d. d) error.NotFound h
+    function_lacks _ h = absurd h
 
-    pub reason_told : (u : Abstract) (x : Transform) (m : IsMeasured c bytes u x) → m.comes.module_parsed ≡ contents_of read → m.comes.customs ≡ (view G read).customs
-        → (text : String Global) → string_bytes text ≡ report_text (function_item n) chain x → AnswersReason c bytes function (Ok text)
-    reason_told u x m held same text says = record {
-      module_left = u;
-      transform = x;
-      measured = m;
-      there = subst (λ (h : Contents). IsSome (item_at (functions h.funcs) function)) (sym held) there;
-      chain = chain;
-      explains = subst (λ (h : Contents). Explains (with_customs m.comes.customs h) (function_item function) chain) (sym held)
-          (subst (λ (cs : List Custom). Explains (with_customs cs (contents_of read)) (function_item function) chain) (sym same) explains);
-      is = says ∙ ap (λ (k : ℕ). report_text (function_item k) chain x) n_is;
-    }
+    pub chain_lacks : (e : Error) → FindsFunction (functions read.funcs) function (Err e) → AnswersChain c bytes function (λ (text : String Global). string_bytes text) (Err e)
+    chain_lacks error.NotFound h = edit_refused G IsSame Lacks c bytes read parsed (λ k d. d) (λ d. d) error.NotFound h
+    chain_lacks _ h = absurd h
+
+    module _ (n : ℕ) (n_is : n ≡ function) (there : IsSome (item_at (functions read.funcs) function)) where
+      -- a chain leads to it, or none does
+      module _ (chain : Option (List Item)) (found : Explains (view G read) (function_item n) chain) where
+        pub explains : Explains (with_customs (view G read).customs (contents_of read)) (function_item function) chain
+        explains = subst (λ (v : Abstract). Explains v (function_item function) chain) (plain_read G IsSame Lacks c bytes read parsed) (subst (λ (k : ℕ). Explains (view G read) (function_item k) chain) n_is found)
+
+        abbrev pub chain_told : (text : List ℕ) → text ≡ chain_text (function_item n) chain → IsChain c bytes function text
+        chain_told text says = record {
+          customs = (view G read).customs;
+          module_parsed = contents_of read;
+          parsed = subst (λ (v : Abstract). IsParsed c bytes v) (plain_read G IsSame Lacks c bytes read parsed) parsed;
+          there = there;
+          chain = chain;
+          explains = explains;
+          is = says ∙ ap (λ (k : ℕ). chain_text (function_item k) chain) n_is;
+        }
+
+        pub reason_told : (u : Abstract) (x : Transform) (m : IsMeasured c bytes u x) → m.comes.module_parsed ≡ contents_of read → m.comes.customs ≡ (view G read).customs
+            → (text : String Global) → string_bytes text ≡ report_text (function_item n) chain x → AnswersReason c bytes function (Ok text)
+        reason_told u x m held same text says = record {
+          module_left = u;
+          transform = x;
+          measured = m;
+          there = subst (λ (h : Contents). IsSome (item_at (functions h.funcs) function)) (sym held) there;
+          chain = chain;
+          explains = subst (λ (h : Contents). Explains (with_customs m.comes.customs h) (function_item function) chain) (sym held)
+              (subst (λ (cs : List Custom). Explains (with_customs cs (contents_of read)) (function_item function) chain) (sym same) explains);
+          is = says ∙ ap (λ (k : ℕ). report_text (function_item k) chain x) n_is;
+        }
+
+      -- what the search for a chain answers
+      pub chain_answered : (raws : List RawCustomSection) → sections read.customs ≡ raw_sections raws → (r : Result (String Global) Error)
+          → Searches G read (λ (text : String Global). TellsChain (view G read) (function_item n) (string_bytes text)) r → AnswersChain c bytes function (λ (text : String Global). string_bytes text) r
+      chain_answered raws are (Ok text) told = chain_told told.chain told.explains (string_bytes text) told.is
+      chain_answered raws are (Err e) refused =
+          chain_refused (λ (text : String Global). IsChain c bytes function (string_bytes text)) (λ (x : Error). RefusesEdit Lacks c bytes x) raws are e refused

@@ -6,16 +6,10 @@ use Rattle.walrus_base.specs.declared.keys.FunctionKey.{FunctionKey}
 use Rattle.walrus_model.specs.Abstract.{Name}
 use Rattle.walrus_items.specs.Transform.{range_of}
 use Rattle.walrus_items.specs.declared.error.Error.{Error}
-use Rattle.walrus_items.specs.declared.error.Error.TheVariants as error
 use Rattle.walrus_contents.proofs.NamedLemmas.{among, row_more}
 use Rattle.walrus_tools.specs.Sized.{HasLong, IsLong, IsLongEntry, NoneLong, RefusesIf, entry_bytes, entry_of}
+use Rattle.walrus_tools.proofs.Among.{because}
 use Rattle.walrus_tools.proofs.LineLemmas.{line_more}
-
--- memory ran out, or the same is so for another reason
-pub because : (A B : Type 0) → (A → B) → (e : Error) → RefusesIf A e → RefusesIf B e
-because A B f (error.Memory m) h = tt
-because A B f error.TooLarge h = f h
-because A B f _ h = absurd h
 
 module _ (names : ℕ → List Name) (ranges : List (Id FunctionKey × Range ℕ)) (i : ℕ) (d : Id FunctionKey × Range ℕ) (lt : i < length ranges) (size : ℕ)
     (is_size : size ≡ (get_or ranges i d).1.end - (get_or ranges i d).1.start) where

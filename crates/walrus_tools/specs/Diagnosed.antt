@@ -9,7 +9,9 @@ use Rattle.walrus_reading.specs.declared.faults.Fault.{Fault}
 use Rattle.walrus_reading.specs.declared.faults.Fault.TheVariants.{Body, Header, Rule, Section}
 use Rattle.walrus_theorem.specs.Features.{features_of}
 use Rattle.walrus_theorem.specs.Headline.{Accepts}
+use Rattle.walrus_tools.specs.Beginnings.{BeginsAs, beginning_number, beginning_text}
 use Rattle.walrus_tools.specs.Sized.{number_bytes}
+use Rattle.walrus_tools.specs.declared.beginnings.Beginning.{Beginning}
 use Rattle.wasm_wire.specs.declared.rules.broken.BrokenRule.{BrokenRule}
 use Rattle.wasm_wire.specs.declared.rules.broken.BrokenRule.TheVariants as rules
 
@@ -39,23 +41,28 @@ rule_number rules.Start = 8
 rule_number rules.Offsets = 9
 rule_number rules.Locals = 10
 
--- the kind of what was found, and its number: the place of a section, the number of a rule, the index of a function
-abbrev pub numbers_of : Option Fault → ℕ × ℕ
-numbers_of None = (0, 0)
-numbers_of (Some Header) = (1, 0)
-numbers_of (Some (Section place)) = (2, place)
-numbers_of (Some (Rule rule)) = (3, rule_number rule)
-numbers_of (Some (Body index)) = (4, index)
+-- the kind of what was found, and its number: what the bytes begin as, the place of a section, the number of a rule, the index of a function
+abbrev pub numbers_of : Beginning → Option Fault → ℕ × ℕ
+numbers_of begins None = (0, 0)
+numbers_of begins (Some Header) = (1, beginning_number begins)
+numbers_of begins (Some (Section place)) = (2, place)
+numbers_of begins (Some (Rule rule)) = (3, rule_number rule)
+numbers_of begins (Some (Body index)) = (4, index)
 
 -- two numbers of 32 bits, the lowest byte first
-abbrev pub fault_bytes : Option Fault → List ℕ
-fault_bytes found = number_bytes (numbers_of found).0 ++ number_bytes (numbers_of found).1
+abbrev pub pair_bytes : ℕ × ℕ → List ℕ
+pair_bytes numbers = number_bytes numbers.0 ++ number_bytes numbers.1
+
+-- the two numbers of what was found
+abbrev pub FindsNumbers : Config → (bytes : List ℕ) → ℕ × ℕ → Type 0
+FindsNumbers c bytes numbers =
+    (found : Option Fault) × (begins : Beginning) × Finds c bytes found × BeginsAs bytes begins × (numbers ≡ numbers_of begins found)
 
 -- what was found, in eight bytes; too large exactly where its number passes 32 bits
 abbrev pub AnswersFault : Config → (bytes : List ℕ) → Result (Vec ℕ) Error → Type 0
-AnswersFault c bytes (Ok told) = (found : Option Fault) × Finds c bytes found × ((numbers_of found).1 < 2 ^ 32) × (told.items ≡ fault_bytes found)
+AnswersFault c bytes (Ok told) = (numbers : ℕ × ℕ) × FindsNumbers c bytes numbers × (numbers.1 < 2 ^ 32) × (told.items ≡ pair_bytes numbers)
 AnswersFault c bytes (Err (Memory e)) = ⊤
-AnswersFault c bytes (Err TooLarge) = (found : Option Fault) × Finds c bytes found × (2 ^ 32 ≤ (numbers_of found).1)
+AnswersFault c bytes (Err TooLarge) = (numbers : ℕ × ℕ) × FindsNumbers c bytes numbers × (2 ^ 32 ≤ numbers.1)
 AnswersFault c bytes (Err _) = ⊥
 
 -- ---- in words
@@ -72,8 +79,13 @@ rule_text rules.Start = codes "the start function has parameters or results"
 rule_text rules.Offsets = codes "the offset of a segment isn't of the type of addresses"
 rule_text rules.Locals = codes "a body declares more than 50,000 locals"
 
-abbrev pub fault_text : Fault → List ℕ
-fault_text Header = codes "the bytes don't begin as a WebAssembly module"
-fault_text (Section place) = codes "no well-formed section stands at byte " ++ decimal place
-fault_text (Rule rule) = rule_text rule
-fault_text (Body index) = codes "the body of function " ++ decimal index ++ codes " isn't made of allowed instructions, well nested, with declared indices"
+abbrev pub fault_text : Beginning → Fault → List ℕ
+fault_text begins Header = beginning_text begins
+fault_text begins (Section place) = codes "no well-formed section stands at byte " ++ decimal place
+fault_text begins (Rule rule) = rule_text rule
+fault_text begins (Body index) =
+    codes "the body of function " ++ decimal index ++ codes " isn't made of allowed instructions, well nested, with declared indices"
+
+-- the words for what is wrong with these bytes
+abbrev pub WordsFault : (bytes : List ℕ) → Fault → (text : List ℕ) → Type 0
+WordsFault bytes fault text = (begins : Beginning) × BeginsAs bytes begins × (text ≡ fault_text begins fault)

@@ -18,6 +18,7 @@ use Rattle.walrus_module.specs.Parsed.{IsParsed}
 use Rattle.walrus.specs.Why.{Explains}
 use Rattle.walrus_tools.specs.Edited.{AnswersEdited, RefusesEdit, with_customs}
 use Rattle.walrus_tools.specs.Ends.{Answers, IfNotFound}
+use Rattle.walrus_tools.specs.Found.{LacksCalled, meant}
 use Rattle.walrus_tools.specs.Measured.{IsMeasured, IsSame}
 
 -- ---- the text
@@ -93,7 +94,23 @@ pub record IsChain (c : Config) (bytes : List ℕ) (function : ℕ) (text : List
 abbrev pub AnswersChain : {X : Type 0} → Config → (bytes : List ℕ) → (function : ℕ) → (X → List ℕ) → Result X Error → Type 0
 AnswersChain c bytes function view result = Answers c bytes (λ text. IsChain c bytes function (view text)) ⊥ (RefusesEdit (LacksFunction function) c bytes) result
 
+-- The bytes are those of a module in which a function is meant by this name, to which this chain leads, or none; and the text says so.
+pub record IsChainCalled (c : Config) (bytes name text : List ℕ) : Type 0 where
+  pub function : ℕ
+  pub tells : IsChain c bytes function text
+  pub is : meant name tells.module_parsed ≡ Some function
+
+-- the text, or a refusal with its cause: the bytes aren't accepted, or no function is meant
+abbrev pub AnswersChainCalled : {X : Type 0} → Config → (bytes name : List ℕ) → (X → List ℕ) → Result X Error → Type 0
+AnswersChainCalled c bytes name view result = Answers c bytes (λ text. IsChainCalled c bytes name (view text)) ⊥ (RefusesEdit (LacksCalled name) c bytes) result
+
 -- ---- of what a module holds
+
+-- a chain leads to this item of the module, or none does; and the text says so
+pub record TellsChain (v : Abstract) (x : Item) (text : List ℕ) : Type 0 where
+  pub chain : Option (List Item)
+  pub explains : Explains v x chain
+  pub is : text ≡ chain_text x chain
 
 -- the function of this index, or that there is none
 abbrev pub FindsFunction : List (Option FunctionValue) → ℕ → Result (Id FunctionKey) Error → Type 0

@@ -1,8 +1,7 @@
 -- Which functions of a module stay, what each costs, and under which names, as bytes ("Structure > Modules > Indices", "Binary Format > Code
 -- Section").
-use Rattle.std.specs.Prelude.{ℕ, ◌-◌, ◌^◌, ◌≤◌, ◌⊎◌, List, [], ◌∷◌, ◌++◌, Contains, Option, Result, flat_map, length, ◌≡◌, ⊤}
+use Rattle.std.specs.Prelude.{ℕ, ◌-◌, ◌^◌, ◌≤◌, ◌⊎◌, List, ◌++◌, Contains, Option, Result, flat_map, ◌≡◌}
 use Rattle.std.specs.Global.{Vec}
-use Rattle.wasm_forms.specs.Spelling.{little_bytes}
 use Rattle.walrus_base.specs.Arena.{item_at}
 use Rattle.walrus_base.specs.Operators.{function_item}
 use Rattle.walrus_code.specs.Transform.{Transform}
@@ -11,34 +10,16 @@ use Rattle.walrus_model.specs.Config.{Config}
 use Rattle.walrus_contents.specs.View.{name_at}
 use Rattle.walrus_items.specs.Functions.{FunctionValue}
 use Rattle.walrus_items.specs.declared.error.Error.{Error}
-use Rattle.walrus_items.specs.declared.error.Error.TheVariants.{Memory, TooLarge}
 use Rattle.walrus_tools.specs.Edited.{EditsTo}
 use Rattle.walrus_tools.specs.Ends.{Answers, LeavesLarge}
+pub use Rattle.walrus_tools.specs.Numbers.{IsLongName, RefusesIf, name_bytes, no_name, number_bytes}
 use Rattle.walrus_tools.specs.Measured.{IsMeasured, IsSame}
 
 -- ---- the bytes
 
--- 2^32 - 1 stands for the length of no name
-abbrev pub no_name : ℕ
-no_name = 2 ^ 32 - 1
-
--- a number in four bytes, the lowest first
-abbrev pub number_bytes : ℕ → List ℕ
-number_bytes n = little_bytes 4 n
-
--- the length of the first of these names, and the name
-abbrev pub name_bytes : List Name → List ℕ
-name_bytes [] = number_bytes no_name
-name_bytes (name ∷ others) = number_bytes (length name) ++ name
-
 -- a function: its index, how many bytes its body has, and its name
 abbrev pub entry_bytes : (index size : ℕ) → List Name → List ℕ
 entry_bytes index size names = number_bytes index ++ number_bytes size ++ name_bytes names
-
--- the name is too long for its length to stand in four bytes and to be none that stands for no name
-abbrev pub IsLongName : List Name → Type 0
-IsLongName [] = ⊥
-IsLongName (name ∷ others) = no_name ≤ length name
 
 -- one of the numbers has more than 32 bits
 abbrev pub IsLongEntry : (index size : ℕ) → List Name → Type 0
@@ -50,12 +31,6 @@ entry_of names f = entry_bytes f.0 (f.1.1 - f.1.0) (names f.0)
 
 abbrev pub IsLong : (names : ℕ → List Name) → ℕ × (ℕ × ℕ) → Type 0
 IsLong names f = IsLongEntry f.0 (f.1.1 - f.1.0) (names f.0)
-
--- memory ran out, or this is so
-abbrev pub RefusesIf : Type 0 → Error → Type 0
-RefusesIf Cause (Memory e) = ⊤
-RefusesIf Cause TooLarge = Cause
-RefusesIf Cause _ = ⊥
 
 -- one of these entries is too long
 abbrev pub HasLong : (names : ℕ → List Name) → List (ℕ × (ℕ × ℕ)) → Type 0

@@ -1,9 +1,11 @@
-//! A function by its index.
+//! A function by its index, or by a name.
 
+ghost use Rattle.walrus_items.specs.Exports.{exports};
 ghost use Rattle.walrus_items.specs.Functions.{functions};
+ghost use Rattle.walrus_tools.specs.Found.{FindsCalled};
 ghost use Rattle.walrus_tools.specs.Reasons.{FindsFunction};
 
-use walrus::{Error, FunctionId, ModuleFunctions, Result};
+use walrus::{Error, FunctionId, ModuleExports, ModuleFunctions, Result};
 
 /// The function of this index. `NotFound` is the only error.
 pub(crate) fn function_at(all: &ModuleFunctions, function: u32) -> Result<FunctionId>
@@ -14,4 +16,18 @@ pub(crate) fn function_at(all: &ModuleFunctions, function: u32) -> Result<Functi
         return Err(Error::NotFound);
     }
     Ok(id)
+}
+
+/// The first function of this name, or else the first that is exported under it. `NotFound` is the only error.
+pub(crate) fn function_called(
+    all: &ModuleFunctions,
+    exported: &ModuleExports,
+    name: &str,
+) -> Result<FunctionId>
+    ensures { FindsCalled name.now (functions all.now) (exports exported.now) result }
+{
+    match all.by_name(name) {
+        Some(id) => Ok(id),
+        None => exported.get_func(name),
+    }
 }

@@ -7,19 +7,32 @@
 //! Main clause: `gc` in `src/tool/gc.rt`, with `RunsOn` (walrus): what a run makes of known bytes, or why it refuses them.
 #![tactic(auto)]
 
+mod beginnings;
+#[cfg(test)]
+mod beginnings_tests;
 mod calls;
+mod choice;
+#[cfg(test)]
+mod choice_samples;
 mod examples;
 mod finish;
+mod fits;
 mod functions;
 mod law;
 mod lines;
+mod numbers;
 #[cfg(test)]
 mod samples;
+#[cfg(test)]
+mod section_samples;
 mod tool;
 mod traps;
 mod wanted;
 
+pub use beginnings::{Beginning, beginning_of, has_one_beginning};
+pub use choice::{Choice, are_choices, goes, read_choices};
 pub use examples::count_calls::count_calls;
+pub use examples::find::find;
 pub use examples::keep_listed::keep_listed;
 pub use examples::moves::moves;
 pub use examples::rename_export::rename_export;
@@ -29,20 +42,22 @@ pub use examples::with_export::with_export;
 pub use examples::with_metadata::with_metadata;
 pub use examples::with_places::with_places;
 pub use law::moves_once;
+pub use numbers::NO_NAME;
 pub use tool::diagnose::{diagnose, fault, fault_words};
-pub use tool::find::find;
 pub use tool::gc::gc;
 pub use tool::gc_counted::{Kinds, Smaller, gc_counted};
-pub use tool::list::{NO_NAME, list};
+pub use tool::list::list;
 pub use tool::report::report;
+pub use tool::sections::{section_list, sections};
 pub use tool::snip::snip;
 pub use tool::strip::strip;
 pub use tool::stub::stub;
-pub use tool::why::why;
-pub use walrus::Error;
+pub use tool::why::{why, why_called};
 pub use walrus::tool::{
     DeviceFailed, FromWrite, ReadAllError, Sink, Source, ToolError, read_all, write_all,
 };
+pub use walrus::{Error, ErrorKind};
 pub use walrus_reading::Fault;
 pub use wanted::Wanted;
+pub use wasm_frames::{Pieced, RawPiece};
 pub use wasm_wire::BrokenRule;

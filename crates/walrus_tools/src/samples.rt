@@ -1,6 +1,7 @@
 //! Each caller on a small module, whose bytes were worked out by hand.
 
 use crate::examples::count_calls::count_calls;
+use crate::examples::find::find;
 use crate::examples::keep_listed::keep_listed;
 use crate::examples::moves::moves;
 use crate::examples::rename_export::rename_export;
@@ -10,14 +11,12 @@ use crate::examples::with_export::with_export;
 use crate::examples::with_metadata::with_metadata;
 use crate::examples::with_places::with_places;
 use crate::tool::diagnose::fault;
-use crate::tool::find::find;
 use crate::tool::gc::gc;
 use crate::tool::list::list;
 use crate::tool::report::report;
 use crate::tool::snip::snip;
-use crate::tool::strip::strip;
 use crate::tool::stub::stub;
-use crate::tool::why::why;
+use crate::tool::why::{why, why_called};
 use crate::wanted::Wanted;
 use std::alloc::Global;
 use std::test::Fail;
@@ -113,26 +112,6 @@ fn one_of_two_is_listed(rt: HostRuntime) -> std::result::Result<(), Fail> {
         rt.alloc(),
         list(rt.alloc(), &bytes, no_producers()),
         "01 00 00 00 02 00 00 00 FF FF FF FF",
-    )
-}
-
-// ---- strip
-
-// Three custom sections: `a`, `a` and `b`.
-const SECTIONS: &str = "00 61 73 6D 01 00 00 00 00 03 01 61 01 00 03 01 61 02 00 03 01 62 03";
-
-#[test]
-fn the_first_section_of_a_name_goes(rt: HostRuntime) -> std::result::Result<(), Fail> {
-    let bytes = bytes_of(rt.alloc(), SECTIONS)?;
-    demand_output(
-        rt.alloc(),
-        strip(rt.alloc(), &bytes, "a", no_producers()),
-        "00 61 73 6D 01 00 00 00 00 03 01 61 02 00 03 01 62 03",
-    )?;
-    let missing = strip(rt.alloc(), &bytes, "c", no_producers());
-    demand(
-        is_refused(missing, "not found"),
-        "a section that isn't there",
     )
 }
 
@@ -405,7 +384,7 @@ fn a_type_is_added(rt: HostRuntime) -> std::result::Result<(), Fail> {
     )
 }
 
-// ---- why_with_sizes, why
+// ---- why_with_sizes, why, why_called
 
 // Fails where the answer isn't this text.
 fn demand_text(answer: Result<String>, expected: &str) -> std::result::Result<(), Fail> {
@@ -436,6 +415,12 @@ fn a_chain_stands_alone(rt: HostRuntime) -> std::result::Result<(), Fail> {
     demand_text(why(rt.alloc(), &bytes, 0), "function 0 isn't reached\n")
 }
 
+#[test]
+fn a_chain_stands_under_a_name(rt: HostRuntime) -> std::result::Result<(), Fail> {
+    let bytes = bytes_of(rt.alloc(), TWO)?;
+    demand_text(why_called(rt.alloc(), &bytes, "f"), "function 1\n")
+}
+
 // ---- find
 
 #[test]
@@ -446,10 +431,11 @@ fn a_function_is_found_by_its_export(rt: HostRuntime) -> std::result::Result<(),
 
 // ---- diagnose
 
-// What is asked, and the two numbers of what is wrong with it: nothing; behind the types, at byte 14, an id that is no section's; in function 0 an
-// operator that isn't known.
-const FAULTS: [(&str, &str); 3] = [
+// What is asked, and the two numbers of what is wrong with it: nothing; no header, but the front of what gzip writes; behind the types, at byte 14,
+// an id that is no section's; in function 0 an operator that isn't known.
+const FAULTS: [(&str, &str); 4] = [
     (TWO, "00 00 00 00 00 00 00 00"),
+    ("1F 8B 08 00", "01 00 00 00 03 00 00 00"),
     (
         "00 61 73 6D 01 00 00 00 01 04 01 60 00 00 0E 00",
         "02 00 00 00 0E 00 00 00",

@@ -18,6 +18,8 @@ mod names;
 #[cfg(test)]
 mod names_written;
 #[cfg(test)]
+mod pieces;
+#[cfg(test)]
 mod places;
 #[cfg(test)]
 mod producers;

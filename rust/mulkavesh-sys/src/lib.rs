@@ -14,8 +14,8 @@
 //!
 //! What the caller of each call but [`mulkavesh_version`] owes:
 //!
-//! - `input`, `name`, `from` and `output` have as many bytes as is told, `output` may be written
-//!   (its bytes need no value before), and nothing else writes them during the call;
+//! - `input`, `name`, `choice`, `from` and `output` have as many bytes as is told, `output` may be
+//!   written (its bytes need no value before), and nothing else writes them during the call;
 //! - none of them is null, not even where the length is 0, and `length` isn't null and is aligned;
 //! - `output` and `*length` stand apart from each other and from all that is read;
 //! - `malloc`, `realloc` and `free` are of one allocator, and align as the C standard says;
@@ -26,7 +26,8 @@
 /// The answer stands in the first `*length` bytes of `output`.
 pub const MULKAVESH_DONE: u32 = 0;
 
-/// The input is no module that keeps the rules.
+/// The input is no module that keeps the rules; of [`mulkavesh_strip`] and [`mulkavesh_sections`],
+/// its framing alone is none.
 pub const MULKAVESH_INVALID: u32 = 1;
 
 /// What is to be written has a count or a size past 32 bits.
@@ -38,7 +39,7 @@ pub const MULKAVESH_NO_MEMORY: u32 = 3;
 /// The room is smaller than the answer, whose length is told.
 pub const MULKAVESH_NO_ROOM: u32 = 4;
 
-/// A flag isn't known.
+/// A flag isn't known, or the choice of [`mulkavesh_strip`] is no list of records.
 pub const MULKAVESH_UNKNOWN_FLAG: u32 = 5;
 
 /// There is nothing of this name or index that the call could work on.
@@ -59,7 +60,7 @@ pub const MULKAVESH_NO_NAME: u32 = u32::MAX;
 /// Nothing is wrong with the bytes: the first number that [`mulkavesh_diagnose`] tells.
 pub const MULKAVESH_FAULT_NONE: u32 = 0;
 
-/// The bytes don't begin as a WebAssembly module; the second number is 0.
+/// The bytes don't begin as a WebAssembly module; the second number says what they begin as.
 pub const MULKAVESH_FAULT_HEADER: u32 = 1;
 
 /// No well-formed section stands at the place, in bytes from the start, that is the second number.
@@ -71,6 +72,40 @@ pub const MULKAVESH_FAULT_RULE: u32 = 3;
 /// The body of the function whose index is the second number isn't made of allowed instructions,
 /// well nested, with declared indices.
 pub const MULKAVESH_FAULT_BODY: u32 = 4;
+
+/// The bytes don't begin as a WebAssembly module, and as none of these: what they begin as, which is
+/// the second number.
+pub const MULKAVESH_BEGINS_OTHER: u32 = 0;
+
+/// There are no bytes.
+pub const MULKAVESH_BEGINS_EMPTY: u32 = 1;
+
+/// The bytes end within the header.
+pub const MULKAVESH_BEGINS_CUT: u32 = 2;
+
+/// The bytes are compressed by gzip.
+pub const MULKAVESH_BEGINS_GZIP: u32 = 3;
+
+/// The bytes are a zip archive.
+pub const MULKAVESH_BEGINS_ZIP: u32 = 4;
+
+/// The bytes are compressed by zstd.
+pub const MULKAVESH_BEGINS_ZSTD: u32 = 5;
+
+/// The bytes are an ELF file.
+pub const MULKAVESH_BEGINS_ELF: u32 = 6;
+
+/// The bytes are LLVM bitcode.
+pub const MULKAVESH_BEGINS_BITCODE: u32 = 7;
+
+/// The bytes are WebAssembly text, not binary.
+pub const MULKAVESH_BEGINS_TEXT: u32 = 8;
+
+/// The bytes are a component, not a module.
+pub const MULKAVESH_BEGINS_COMPONENT: u32 = 9;
+
+/// The bytes have another version.
+pub const MULKAVESH_BEGINS_OTHER_VERSION: u32 = 10;
 
 /// The sections stand out of order, or one stands twice: a rule, which is the second number.
 pub const MULKAVESH_RULE_ORDER: u32 = 1;
@@ -155,16 +190,39 @@ extern "C" {
         length: *mut usize,
     ) -> u32;
 
-    /// The module without its first custom section of this name, or [`MULKAVESH_NOT_FOUND`]. What
-    /// nothing reaches stays, but all is written anew as by [`mulkavesh_gc`]: functions are ordered
-    /// by size, debug information is gone, and other custom sections are as they were, and so stale
-    /// where they hold indices. Names, producers and debug information aren't found by it.
+    /// What sections stand in the bytes, by their framing alone: an id, a size and so many bytes,
+    /// which in a custom section begin with its name in UTF-8. First a byte, which is 1 where
+    /// sections reach the end of the input and else 0, and the place where they end. Behind that for
+    /// each: its id, a byte; a byte that is 1 where a count of entries stands in front of its content
+    /// and else 0; the place of its id; how many bytes all of it has; the count of its entries, 0
+    /// where none stands; the length of the name of a custom section, or [`MULKAVESH_NO_NAME`] of
+    /// others; and the name. Places, counts and lengths are numbers of 32 bits, little-endian.
+    /// [`MULKAVESH_INVALID`] exactly where the magic number and the version don't stand in front,
+    /// and [`MULKAVESH_TOO_LARGE`] where a number passes 32 bits.
+    pub fn mulkavesh_sections(
+        input: *const u8,
+        input_length: usize,
+        output: *mut u8,
+        room: usize,
+        length: *mut usize,
+    ) -> u32;
+
+    /// The module without the custom sections that are chosen. All else is as it stands, byte for
+    /// byte: nothing is read but where sections begin and end and what custom ones are called, so
+    /// that the module may break other rules. Debug information, names and producers are custom
+    /// sections as any.
+    ///
+    /// `choice` is a list of records, each of a byte, the length of a NAME as a number of 32 bits,
+    /// little-endian, and the NAME. The byte is 0 where the custom sections whose name the NAME fits
+    /// go, and 1 where they stay after all. In a NAME `*` stands for any bytes, also for none, and
+    /// `\*` for a star. [`MULKAVESH_NOT_FOUND`] where a NAME behind 0 fits no custom section;
+    /// [`MULKAVESH_INVALID`] exactly where the bytes aren't a header and whole sections;
+    /// [`MULKAVESH_UNKNOWN_FLAG`] exactly where `choice` is no such list.
     pub fn mulkavesh_strip(
         input: *const u8,
         input_length: usize,
-        flags: u32,
-        name: *const u8,
-        name_length: usize,
+        choice: *const u8,
+        choice_length: usize,
         output: *mut u8,
         room: usize,
         length: *mut usize,

@@ -3,27 +3,18 @@
 use crate::{diagnose, Error, Flags};
 use mulkavesh_sys as library;
 
+type Plain = unsafe extern "C" fn(*const u8, usize, *mut u8, usize, *mut usize) -> u32;
+
 type Numbered = unsafe extern "C" fn(*const u8, usize, u32, *mut u8, usize, *mut usize) -> u32;
 
-type Named =
+type WithBytes =
     unsafe extern "C" fn(*const u8, usize, *const u8, usize, *mut u8, usize, *mut usize) -> u32;
-
-type NumberedAndNamed = unsafe extern "C" fn(
-    *const u8,
-    usize,
-    u32,
-    *const u8,
-    usize,
-    *mut u8,
-    usize,
-    *mut usize,
-) -> u32;
 
 /// A function of the library, and what it takes beside the input and the room.
 enum Form<'a> {
+    Plain(Plain),
     Numbered(Numbered, u32),
-    Named(Named, &'a str),
-    NumberedAndNamed(NumberedAndNamed, u32, &'a str),
+    WithBytes(WithBytes, &'a [u8]),
 }
 
 /// What the library is asked, but for the input. None is made outside this file, so that each
@@ -61,9 +52,13 @@ impl<'a> Call<'a> {
         Call::flagged(library::mulkavesh_list, flags)
     }
 
-    pub(crate) fn strip(flags: Flags, name: &'a str) -> Self {
-        let form = Form::NumberedAndNamed(library::mulkavesh_strip, flags.bits(), name);
-        Call { form, flags }
+    pub(crate) fn sections() -> Self {
+        Call::unflagged(Form::Plain(library::mulkavesh_sections))
+    }
+
+    /// The choice is a list of records, as `choice::records` makes it.
+    pub(crate) fn strip(choice: &'a [u8]) -> Self {
+        Call::unflagged(Form::WithBytes(library::mulkavesh_strip, choice))
     }
 
     pub(crate) fn why(function: u32) -> Self {
@@ -71,11 +66,13 @@ impl<'a> Call<'a> {
     }
 
     pub(crate) fn snip(name: &'a str) -> Self {
-        Call::unflagged(Form::Named(library::mulkavesh_snip, name))
+        let name = name.as_bytes();
+        Call::unflagged(Form::WithBytes(library::mulkavesh_snip, name))
     }
 
     pub(crate) fn stub(from: &'a str) -> Self {
-        Call::unflagged(Form::Named(library::mulkavesh_stub, from))
+        let from = from.as_bytes();
+        Call::unflagged(Form::WithBytes(library::mulkavesh_stub, from))
     }
 
     /// The answer for this input. One call serves where this much room, in bytes, is enough; where
@@ -116,19 +113,16 @@ impl<'a> Call<'a> {
         let (to, room) = (output.as_mut_ptr(), output.capacity());
         let mut length = 0;
         let told: *mut usize = &mut length;
-        // SAFETY: `start` and `size` are of one slice, as pointer and length of a name are, and
+        // SAFETY: `start` and `size` are of one slice, as pointer and length of the others are, and
         // `to` and `room` of one vector, which nothing else reaches meanwhile. None of the
         // pointers is null. The library reads no byte of the room that it hasn't written, and
         // keeps no pointer.
         let status = unsafe {
             match self.form {
+                Form::Plain(call) => call(start, size, to, room, told),
                 Form::Numbered(call, number) => call(start, size, number, to, room, told),
-                Form::Named(call, name) => {
-                    call(start, size, name.as_ptr(), name.len(), to, room, told)
-                }
-                Form::NumberedAndNamed(call, number, name) => {
-                    let (name, name_size) = (name.as_ptr(), name.len());
-                    call(start, size, number, name, name_size, to, room, told)
+                Form::WithBytes(call, bytes) => {
+                    call(start, size, bytes.as_ptr(), bytes.len(), to, room, told)
                 }
             }
         };
@@ -158,12 +152,17 @@ pub(crate) fn version() -> u32 {
 #[cfg(test)]
 mod tests {
     use super::*;
-    use crate::Fault;
+    use crate::{Beginning, Fault};
 
     // Three custom sections, each of a byte: `a`, `a` and `b`.
     const SECTIONS: &[u8] = b"\0asm\x01\0\0\0\0\x03\x01a\x01\0\x03\x01a\x02\0\x03\x01b\x03";
 
-    const LEFT: &[u8] = b"\0asm\x01\0\0\0\0\x03\x01a\x02\0\x03\x01b\x03";
+    const LEFT: &[u8] = b"\0asm\x01\0\0\0\0\x03\x01b\x03";
+
+    // The choice of those called `a`, and of those called `c`.
+    const A_GOES: &[u8] = b"\0\x01\0\0\0a";
+
+    const C_GOES: &[u8] = b"\0\x01\0\0\0c";
 
     const NO_PRODUCERS: Flags = Flags {
         no_names: false,
@@ -174,20 +173,27 @@ mod tests {
     #[test]
     fn every_guess_of_the_room_serves() {
         for guess in 0..LEFT.len() + 2 {
-            let answer = Call::strip(NO_PRODUCERS, "a").answer(SECTIONS, guess);
+            let answer = Call::strip(A_GOES).answer(SECTIONS, guess);
             assert_eq!(answer.as_deref(), Ok(LEFT), "with room for {guess} bytes");
+        }
+        let ample = Call::sections().answer(SECTIONS, 1024).expect("sections");
+        for guess in 0..ample.len() + 2 {
+            let answer = Call::sections().answer(SECTIONS, guess);
+            assert_eq!(answer.as_ref(), Ok(&ample), "with room for {guess} bytes");
         }
     }
 
     #[test]
     fn a_refusal_needs_no_room() {
-        let strip = Call::strip(NO_PRODUCERS, "c");
+        let strip = Call::strip(C_GOES);
         assert_eq!(strip.answer(SECTIONS, 0), Err(Error::NotFound));
         assert_eq!(Call::why(0).answer(SECTIONS, 0), Err(Error::NotFound));
-        let invalid = Err(Error::Invalid(Fault::Header));
+        let invalid = Err(Error::Invalid(Fault::Header(Beginning::Empty)));
         assert_eq!(Call::stub("a").answer(b"", 0), invalid);
+        assert_eq!(Call::strip(A_GOES).answer(b"", 0), invalid);
+        assert_eq!(Call::sections().answer(b"", 0), invalid);
         let told = Call::diagnose(NO_PRODUCERS).answer(b"", 0);
-        assert_eq!(told.as_deref(), Ok(&[1, 0, 0, 0, 0, 0, 0, 0][..]));
+        assert_eq!(told.as_deref(), Ok(&[1, 0, 0, 0, 1, 0, 0, 0][..]));
     }
 
     #[test]

@@ -6,17 +6,18 @@ use std::{error, fmt};
 /// Why a call has no answer. Nothing is left of a call that was refused.
 ///
 /// ```
-/// use mulkavesh::{gc, Error, Fault, Flags};
+/// use mulkavesh::{gc, Beginning, Error, Fault, Flags};
 ///
 /// let error = gc(b"no module", Flags::default()).unwrap_err();
-/// assert_eq!(error, Error::Invalid(Fault::Header));
+/// assert_eq!(error, Error::Invalid(Fault::Header(Beginning::Other)));
 /// let text = "the input WebAssembly is invalid: the bytes don't begin as a WebAssembly module";
 /// assert_eq!(error.to_string(), text);
 /// ```
 #[derive(Debug, Clone, Copy, PartialEq, Eq, Hash)]
 pub enum Error {
     /// The input is no module that keeps the rules of the format; this is wrong with it, as
-    /// [`diagnose`](crate::diagnose) tells it. Where there is no memory to find that out, the error
+    /// [`diagnose`](crate::diagnose) tells it. [`strip`](crate::strip) and
+    /// [`sections`](crate::sections) look at its framing alone. Where there is no memory to find that out, the error
     /// is [`Error::NoMemory`], and where a place in it passes 32 bits [`Error::TooLarge`].
     Invalid(Fault),
     /// What is to be written, or told, has a count, a size or a place past 32 bits.

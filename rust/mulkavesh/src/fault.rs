@@ -7,8 +7,11 @@ use std::fmt;
 /// What is wrong with bytes that are refused as invalid. Its text says it in plain words.
 ///
 /// ```
-/// use mulkavesh::{Fault, Rule};
+/// use mulkavesh::{Beginning, Fault, Rule};
 ///
+/// let text = Fault::Header(Beginning::Gzip).to_string();
+/// let wanted = "the bytes don't begin as a WebAssembly module: they are compressed by gzip";
+/// assert_eq!(text, wanted);
 /// let text = Fault::Section(1234).to_string();
 /// assert_eq!(text, "no well-formed section stands at byte 1234 (0x4D2)");
 /// let text = Fault::Rule(Rule::ExportNames).to_string();
@@ -16,8 +19,8 @@ use std::fmt;
 /// ```
 #[derive(Debug, Clone, Copy, PartialEq, Eq, Hash)]
 pub enum Fault {
-    /// The magic number and the version don't stand in front.
-    Header,
+    /// The magic number and the version don't stand in front; this is what does.
+    Header(Beginning),
     /// Whole sections stand up to this place, in bytes from the start; what stands there is none.
     Section(u32),
     /// The sections break this rule on the whole.
@@ -25,6 +28,80 @@ pub enum Fault {
     /// The body of the function of this index isn't made of allowed instructions, well nested, with
     /// declared indices; those of all functions before it are. Imported functions come first.
     Body(u32),
+}
+
+/// What bytes begin as that don't begin as a module. Its text says it.
+#[derive(Debug, Clone, Copy, PartialEq, Eq, Hash)]
+pub enum Beginning {
+    /// There are no bytes.
+    Empty,
+    /// Fewer than eight bytes, all of which begin a module's header.
+    Cut,
+    /// What gzip made.
+    Gzip,
+    /// A zip archive.
+    Zip,
+    /// What zstd made.
+    Zstd,
+    /// A program or a library for a processor (ELF).
+    Elf,
+    /// Code of LLVM (bitcode).
+    Bitcode,
+    /// WebAssembly in the text form.
+    Text,
+    /// A component.
+    Component,
+    /// The magic number, and another version.
+    OtherVersion,
+    /// None of these.
+    Other,
+}
+
+impl Beginning {
+    /// The beginning of a number of the library.
+    fn of(number: u32) -> Beginning {
+        match number {
+            library::MULKAVESH_BEGINS_OTHER => Beginning::Other,
+            library::MULKAVESH_BEGINS_EMPTY => Beginning::Empty,
+            library::MULKAVESH_BEGINS_CUT => Beginning::Cut,
+            library::MULKAVESH_BEGINS_GZIP => Beginning::Gzip,
+            library::MULKAVESH_BEGINS_ZIP => Beginning::Zip,
+            library::MULKAVESH_BEGINS_ZSTD => Beginning::Zstd,
+            library::MULKAVESH_BEGINS_ELF => Beginning::Elf,
+            library::MULKAVESH_BEGINS_BITCODE => Beginning::Bitcode,
+            library::MULKAVESH_BEGINS_TEXT => Beginning::Text,
+            library::MULKAVESH_BEGINS_COMPONENT => Beginning::Component,
+            library::MULKAVESH_BEGINS_OTHER_VERSION => Beginning::OtherVersion,
+            other => unreachable!("the library has no beginning {other}"),
+        }
+    }
+
+    /// What stands in the text behind that the bytes don't begin as a module.
+    fn text(self) -> &'static str {
+        match self {
+            Beginning::Empty => ": there are none",
+            Beginning::Cut => ": they end within the header",
+            Beginning::Gzip => ": they are compressed by gzip",
+            Beginning::Zip => ": they are a zip archive",
+            Beginning::Zstd => ": they are compressed by zstd",
+            Beginning::Elf => ": they are an ELF file",
+            Beginning::Bitcode => ": they are LLVM bitcode",
+            Beginning::Text => ": they are WebAssembly text, not binary",
+            Beginning::Component => ": they are a component, not a module",
+            Beginning::OtherVersion => ": they have another version",
+            Beginning::Other => "",
+        }
+    }
+}
+
+impl fmt::Display for Beginning {
+    fn fmt(&self, formatter: &mut fmt::Formatter<'_>) -> fmt::Result {
+        let more = self.text();
+        write!(
+            formatter,
+            "the bytes don't begin as a WebAssembly module{more}"
+        )
+    }
 }
 
 /// A rule on the sections of a module as a whole. Its text says that it is broken.
@@ -105,7 +182,7 @@ impl Fault {
         let (which, _) = number(rest);
         match kind {
             library::MULKAVESH_FAULT_NONE => None,
-            library::MULKAVESH_FAULT_HEADER => Some(Fault::Header),
+            library::MULKAVESH_FAULT_HEADER => Some(Fault::Header(Beginning::of(which))),
             library::MULKAVESH_FAULT_SECTION => Some(Fault::Section(which)),
             library::MULKAVESH_FAULT_RULE => Some(Fault::Rule(Rule::of(which))),
             library::MULKAVESH_FAULT_BODY => Some(Fault::Body(which)),
@@ -117,7 +194,7 @@ impl Fault {
 impl fmt::Display for Fault {
     fn fmt(&self, formatter: &mut fmt::Formatter<'_>) -> fmt::Result {
         match self {
-            Fault::Header => formatter.write_str("the bytes don't begin as a WebAssembly module"),
+            Fault::Header(beginning) => beginning.fmt(formatter),
             Fault::Section(place) => write!(
                 formatter,
                 "no well-formed section stands at byte {place} (0x{place:X})"
@@ -140,6 +217,9 @@ mod tests {
     fn the_lowest_byte_stands_first() {
         let section = b"\x02\0\0\0\x04\x03\x02\x01";
         assert_eq!(Fault::of(section), Some(Fault::Section(0x01020304)));
+        let header = b"\x01\0\0\0\x0A\0\0\0";
+        let version = Fault::Header(Beginning::OtherVersion);
+        assert_eq!(Fault::of(header), Some(version));
         let body = b"\x04\0\0\0\xFF\xFF\xFF\xFF";
         assert_eq!(Fault::of(body), Some(Fault::Body(u32::MAX)));
     }

@@ -31,15 +31,18 @@
 
 #[allow(unsafe_code)]
 mod call;
+mod choice;
 mod error;
 mod fault;
 mod flags;
 mod listed;
+mod sections;
 
 pub use crate::error::Error;
-pub use crate::fault::{Fault, Rule};
+pub use crate::fault::{Beginning, Fault, Rule};
 pub use crate::flags::Flags;
 pub use crate::listed::Listed;
+pub use crate::sections::{Section, Sections};
 
 use crate::call::Call;
 
@@ -51,6 +54,9 @@ const ROOM_OF_A_REPORT: usize = 512;
 
 /// Two numbers of 32 bits.
 const ROOM_OF_A_FAULT: usize = 8;
+
+/// Some forty sections, which few modules have.
+const ROOM_OF_SECTIONS: usize = 1024;
 
 /// Some two hundred lines of a chain, which are mostly enough.
 const ROOM_OF_A_CHAIN: usize = 4096;
@@ -71,7 +77,7 @@ fn text(bytes: Vec<u8>) -> String {
 /// [`Error::TooLarge`] where what stays has a count or a size past 32 bits, and [`Error::NoMemory`].
 ///
 /// ```
-/// use mulkavesh::{gc, Error, Fault, Flags};
+/// use mulkavesh::{gc, Beginning, Error, Fault, Flags};
 ///
 /// // Two functions, of which the second is exported as `f`.
 /// let module = [
@@ -87,7 +93,8 @@ fn text(bytes: Vec<u8>) -> String {
 /// ].concat();
 /// let flags = Flags { no_producers: true, ..Flags::default() };
 /// assert_eq!(gc(&module, flags), Ok(smaller));
-/// assert_eq!(gc(b"no module", flags), Err(Error::Invalid(Fault::Header)));
+/// let fault = Fault::Header(Beginning::Other);
+/// assert_eq!(gc(b"no module", flags), Err(Error::Invalid(fault)));
 /// ```
 pub fn gc(input: &[u8], flags: Flags) -> Result<Vec<u8>, Error> {
     Call::gc(flags).answer(input, input.len() + MORE)
@@ -135,11 +142,11 @@ pub fn report(input: &[u8], flags: Flags) -> Result<String, Error> {
 /// [`Error::Invalid`].
 ///
 /// ```
-/// use mulkavesh::{diagnose, Fault, Flags, Rule};
+/// use mulkavesh::{diagnose, Beginning, Fault, Flags, Rule};
 ///
 /// let wrong = |bytes: &[u8]| diagnose(bytes, Flags::default()).expect("enough memory");
 /// assert_eq!(wrong(b"\0asm\x01\0\0\0"), None);
-/// assert_eq!(wrong(b"no module"), Some(Fault::Header));
+/// assert_eq!(wrong(b"\x1F\x8B\x08"), Some(Fault::Header(Beginning::Gzip)));
 /// // No section has the id 14.
 /// assert_eq!(wrong(b"\0asm\x01\0\0\0\x0E\0"), Some(Fault::Section(8)));
 /// // A memory of at least two pages and at most one.
@@ -179,29 +186,61 @@ pub fn list(input: &[u8], flags: Flags) -> Result<Vec<Listed>, Error> {
     listed::entries(&list)
 }
 
-/// The module without its first custom section of this name.
-///
-/// What nothing reaches stays, but all is written anew as by [`gc`]: functions are ordered by size,
-/// debug information is gone, and other custom sections are as they were, and so stale where they
-/// hold indices. Names, producers and debug information aren't found by it; the flags say whether
-/// names and producers are written.
+/// What sections stand in the bytes, by their framing alone: what stands in them, and in which order
+/// they come, isn't looked at.
 ///
 /// # Errors
 ///
-/// [`Error::NotFound`] where there is no section of this name; the others as of [`gc`].
+/// [`Error::Invalid`] exactly where the magic number and the version don't stand in front,
+/// [`Error::TooLarge`] where a place, a size or a count passes 32 bits, and [`Error::NoMemory`].
 ///
 /// ```
-/// use mulkavesh::{strip, Error, Flags};
+/// use mulkavesh::{sections, Beginning, Error, Fault};
+///
+/// // Two functions, a custom section `a` of a byte, and the id and the size of one that is cut.
+/// let module = b"\0asm\x01\0\0\0\x03\x03\x02\0\0\0\x03\x01a\x01\x0A\x08";
+/// let found = sections(module)?;
+/// assert!(!found.is_whole);
+/// assert_eq!(found.end, 18);
+/// let functions = &found.sections[0];
+/// assert_eq!((functions.kind(), functions.entries), ("function", Some(2)));
+/// let custom = &found.sections[1];
+/// assert_eq!((custom.kind(), custom.name.as_deref()), ("custom", Some("a")));
+/// assert_eq!((custom.start, custom.size), (13, 5));
+/// let fault = Fault::Header(Beginning::Other);
+/// assert_eq!(sections(b"no module"), Err(Error::Invalid(fault)));
+/// # Ok::<(), Error>(())
+/// ```
+pub fn sections(input: &[u8]) -> Result<Sections, Error> {
+    let answer = Call::sections().answer(input, ROOM_OF_SECTIONS)?;
+    Sections::of(&answer)
+}
+
+/// The module without the custom sections whose names fit one of `goes` and none of `stays`. All else
+/// is as it stands, byte for byte.
+///
+/// In these `*` stands for any bytes, also for none, and `\*` for a star. Debug information (`.debug*`),
+/// names (`name`) and producers (`producers`) are custom sections as any. Nothing is read but where
+/// sections begin and end and what custom ones are called, so that the module may break other rules.
+///
+/// # Errors
+///
+/// [`Error::NotFound`] where one of `goes` fits no custom section; [`Error::Invalid`] exactly where
+/// the bytes aren't a header and whole sections; and [`Error::NoMemory`].
+///
+/// ```
+/// use mulkavesh::{strip, Error};
 ///
 /// // Three custom sections of a byte each: `a`, `a` and `b`.
 /// let module = b"\0asm\x01\0\0\0\0\x03\x01a\x01\0\x03\x01a\x02\0\x03\x01b\x03";
-/// let left = b"\0asm\x01\0\0\0\0\x03\x01a\x02\0\x03\x01b\x03";
-/// let flags = Flags { no_producers: true, ..Flags::default() };
-/// assert_eq!(strip(module, flags, "a"), Ok(left.to_vec()));
-/// assert_eq!(strip(module, flags, "c"), Err(Error::NotFound));
+/// let left = b"\0asm\x01\0\0\0\0\x03\x01b\x03";
+/// assert_eq!(strip(module, &["a"], &[]), Ok(left.to_vec()));
+/// assert_eq!(strip(module, &["*"], &["b"]), Ok(left.to_vec()));
+/// assert_eq!(strip(module, &["a", "c"], &[]), Err(Error::NotFound));
 /// ```
-pub fn strip(input: &[u8], flags: Flags, name: &str) -> Result<Vec<u8>, Error> {
-    Call::strip(flags, name).answer(input, input.len() + MORE)
+pub fn strip(input: &[u8], goes: &[&str], stays: &[&str]) -> Result<Vec<u8>, Error> {
+    let choice = choice::records(goes, stays)?;
+    Call::strip(&choice).answer(input, input.len())
 }
 
 /// Why [`gc`] keeps the function of this index: a line for each item of a chain of references that

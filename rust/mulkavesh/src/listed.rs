@@ -30,17 +30,21 @@ fn text(bytes: &[u8]) -> Result<String, Error> {
     Ok(String::from_utf8(copy).expect("a name in a module is UTF-8"))
 }
 
+/// The name of this length at the front of the bytes, where one is there, and the bytes behind it.
+pub(crate) fn named(length: u32, bytes: &[u8]) -> Result<(Option<String>, &[u8]), Error> {
+    if length == MULKAVESH_NO_NAME {
+        return Ok((None, bytes));
+    }
+    let (name, rest) = bytes.split_at(length as usize);
+    Ok((Some(text(name)?), rest))
+}
+
 /// The entry at the front of the bytes, and the bytes behind it.
 fn entry(bytes: &[u8]) -> Result<(Listed, &[u8]), Error> {
     let (index, rest) = number(bytes);
     let (size, rest) = number(rest);
     let (length, rest) = number(rest);
-    if length == MULKAVESH_NO_NAME {
-        let name = None;
-        return Ok((Listed { index, size, name }, rest));
-    }
-    let (name, rest) = rest.split_at(length as usize);
-    let name = Some(text(name)?);
+    let (name, rest) = named(length, rest)?;
     Ok((Listed { index, size, name }, rest))
 }
 

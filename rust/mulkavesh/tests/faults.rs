@@ -1,10 +1,28 @@
 //! What is wrong with bytes, as it was worked out by hand in the file tests/faults.txt of the
 //! repository, and the words for it.
 
-use mulkavesh::{diagnose, gc, list, report, snip, strip, stub, why, Error, Fault, Flags, Rule};
+use mulkavesh::{
+    diagnose, gc, list, report, sections, snip, strip, stub, why, Beginning, Error, Fault, Flags,
+    Rule,
+};
 
 /// The lines, of which those that begin with `#` say why.
 const LINES: &str = include_str!("../../../tests/faults.txt");
+
+/// What bytes begin as, by the numbers from 0 on.
+const BEGINNINGS: [Beginning; 11] = [
+    Beginning::Other,
+    Beginning::Empty,
+    Beginning::Cut,
+    Beginning::Gzip,
+    Beginning::Zip,
+    Beginning::Zstd,
+    Beginning::Elf,
+    Beginning::Bitcode,
+    Beginning::Text,
+    Beginning::Component,
+    Beginning::OtherVersion,
+];
 
 /// The rules, by their numbers from 1 on.
 const RULES: [Rule; 10] = [
@@ -32,7 +50,7 @@ struct Line {
 fn fault(kind: u32, number: u32) -> Option<Fault> {
     match (kind, number) {
         (0, 0) => None,
-        (1, 0) => Some(Fault::Header),
+        (1, begins) => Some(Fault::Header(BEGINNINGS[begins as usize])),
         (2, place) => Some(Fault::Section(place)),
         (3, rule) => Some(Fault::Rule(RULES[rule as usize - 1])),
         (4, index) => Some(Fault::Body(index)),
@@ -87,10 +105,29 @@ fn a_refusal_has_the_fault() {
             refusal(gc(&it.bytes, it.flags)),
             refusal(report(&it.bytes, it.flags)),
             refusal(list(&it.bytes, it.flags)),
-            refusal(strip(&it.bytes, it.flags, "a")),
         ];
-        assert_eq!(found, [wanted; 4], "of {:02X?}", it.bytes);
+        assert_eq!(found, [wanted; 3], "of {:02X?}", it.bytes);
     }
+}
+
+/// Where what is wrong stands inside sections, they are told, and custom ones go.
+#[test]
+fn a_refusal_of_the_framing_has_the_fault() {
+    let mut whole = 0;
+    for it in lines() {
+        let told = sections(&it.bytes);
+        let is_whole = told.as_ref().map_or(false, |told| told.is_whole);
+        let invalid = it.fault.map(Error::Invalid).filter(|_| !is_whole);
+        let stripped = refusal(strip(&it.bytes, &["*"], &[]));
+        assert_eq!(stripped, invalid, "of {:02X?}", it.bytes);
+        let header = invalid.filter(|_| matches!(it.fault, Some(Fault::Header(_))));
+        assert_eq!(told.err(), header, "of {:02X?}", it.bytes);
+        if !matches!(it.fault, Some(Fault::Header(_) | Fault::Section(_))) {
+            assert!(is_whole, "of {:02X?}", it.bytes);
+            whole += 1;
+        }
+    }
+    assert!(whole > 11, "one for each rule, and a body");
 }
 
 /// The calls without flags refuse as under none.
@@ -116,6 +153,13 @@ fn a_refusal_says_the_fault() {
         refused.map_err(|error| error.to_string()),
         Err(text.to_string())
     );
+}
+
+#[test]
+fn a_beginning_has_the_words_of_its_fault() {
+    for begins in BEGINNINGS {
+        assert_eq!(begins.to_string(), Fault::Header(begins).to_string());
+    }
 }
 
 #[test]

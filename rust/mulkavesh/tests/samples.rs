@@ -2,7 +2,7 @@
 
 mod support;
 
-use mulkavesh::{gc, list, report, stub, why, Error, Flags, Listed};
+use mulkavesh::{gc, list, report, sections, strip, stub, why, Error, Flags, Listed};
 use std::ops::Range;
 use std::thread;
 use support::Sample;
@@ -14,7 +14,12 @@ const THREADS: usize = 4;
 
 const TURNS: usize = 10;
 
+const SECTION_OF_ANY: u8 = 0;
+
 const SECTION_OF_CODE: u8 = 10;
+
+/// A custom section, the start function, and a data count.
+const WITHOUT_ENTRIES: [u8; 3] = [SECTION_OF_ANY, 8, 12];
 
 /// The number that begins at a place, and the place behind it.
 fn number(bytes: &[u8], place: usize) -> (usize, usize) {
@@ -29,23 +34,64 @@ fn number(bytes: &[u8], place: usize) -> (usize, usize) {
     }
 }
 
-/// The content of the section of code, where there is one.
-fn code(module: &[u8]) -> Option<Range<usize>> {
-    let mut at = 8;
+/// A section of a module.
+struct Framed<'a> {
+    id: u8,
+    /// Where its id stands, and where what is behind it does.
+    range: Range<usize>,
+    content: &'a [u8],
+}
+
+impl Framed<'_> {
+    /// The name of a custom section.
+    fn name(&self) -> Option<&str> {
+        if self.id != SECTION_OF_ANY {
+            return None;
+        }
+        let (length, start) = number(self.content, 0);
+        let name = &self.content[start..start + length];
+        Some(std::str::from_utf8(name).expect("a name"))
+    }
+
+    /// The count in front of the content, but of a custom section and of the index of a function.
+    fn entries(&self) -> Option<u32> {
+        let has_entries = !WITHOUT_ENTRIES.contains(&self.id);
+        has_entries.then(|| number(self.content, 0).0 as u32)
+    }
+}
+
+/// The sections of a module.
+fn framed(module: &[u8]) -> Vec<Framed<'_>> {
+    let (mut found, mut at) = (Vec::new(), 8);
     while at < module.len() {
         let (size, start) = number(module, at + 1);
-        if module[at] == SECTION_OF_CODE {
-            return Some(start..start + size);
-        }
+        found.push(Framed {
+            id: module[at],
+            range: at..start + size,
+            content: &module[start..start + size],
+        });
         at = start + size;
     }
-    None
+    found
+}
+
+/// The module without the custom sections that a test of their names takes, and how many these are.
+fn without(module: &[u8], goes: impl Fn(&str) -> bool) -> (Vec<u8>, usize) {
+    let (mut left, mut count) = (module[..8].to_vec(), 0);
+    for section in framed(module) {
+        match section.name() {
+            Some(name) if goes(name) => count += 1,
+            _ => left.extend_from_slice(&module[section.range]),
+        }
+    }
+    (left, count)
 }
 
 /// The sizes of the bodies in a module, from small to large.
 fn sizes_of_bodies(module: &[u8]) -> Vec<usize> {
-    let content = match code(module) {
-        Some(range) => &module[range],
+    let framed = framed(module);
+    let content = match framed.iter().find(|it| it.id == SECTION_OF_CODE) {
+        Some(section) => section.content,
         None => return Vec::new(),
     };
     let (count, mut at) = number(content, 0);
@@ -121,6 +167,63 @@ fn lists_agree_with_reports_and_chains() {
     }
     let count = samples.len();
     support::say(&format!("compared: the lists of {count} modules"));
+}
+
+/// A NAME, and a test of names that says the same.
+type Named = (&'static str, fn(&str) -> bool);
+
+const NOTHING: Named = (r"\*", |_| false);
+
+#[test]
+fn custom_sections_go_and_all_else_stays_as_it_is() {
+    let choices: [(Named, Named); 5] = [
+        ((".debug*", |name| name.starts_with(".debug")), NOTHING),
+        (("*", |_| true), NOTHING),
+        (("*", |_| true), ("name", |name| name == "name")),
+        (
+            ("*e*", |name| name.contains('e')),
+            ("*_*", |name| name.contains('_')),
+        ),
+        (("producers", |name| name == "producers"), NOTHING),
+    ];
+    let mut gone = 0;
+    for Sample { path, bytes } in support::samples() {
+        for (goes, stays) in choices {
+            let wanted = match without(&bytes, goes.1) {
+                (_, 0) => Err(Error::NotFound),
+                _ => Ok(without(&bytes, |name| goes.1(name) && !stays.1(name)).0),
+            };
+            gone += wanted.as_ref().map_or(0, |left| bytes.len() - left.len());
+            let found = strip(&bytes, &[goes.0], &[stays.0]);
+            assert!(found == wanted, "{} without {}", path.display(), goes.0);
+        }
+    }
+    support::say(&format!(
+        "compared: custom sections of {gone} bytes that go"
+    ));
+}
+
+#[test]
+fn sections_are_those_that_stand_there() {
+    let mut count = 0;
+    for Sample { path, bytes } in support::samples() {
+        println!("{}", path.display());
+        let found = sections(&bytes).expect("sections");
+        assert_eq!((found.end as usize, found.is_whole), (bytes.len(), true));
+        let framed = framed(&bytes);
+        assert_eq!(found.sections.len(), framed.len());
+        for (found, wanted) in found.sections.iter().zip(&framed) {
+            let (start, size) = (found.start as usize, found.size as usize);
+            assert_eq!(
+                (found.id, start..start + size),
+                (wanted.id, wanted.range.clone())
+            );
+            assert_eq!(found.name.as_deref(), wanted.name());
+            assert_eq!(found.entries, wanted.entries(), "of id {}", wanted.id);
+        }
+        count += framed.len();
+    }
+    support::say(&format!("compared: {count} sections of the modules"));
 }
 
 #[test]

@@ -1,6 +1,9 @@
 //! Each call on small modules, whose bytes were worked out by hand.
 
-use mulkavesh::{gc, list, report, snip, strip, stub, version, why, Error, Fault, Flags, Listed};
+use mulkavesh::{
+    diagnose, gc, list, report, sections, snip, strip, stub, version, why, Beginning, Error, Fault,
+    Flags, Listed, Rule, Section, Sections,
+};
 
 /// The bytes that the text says.
 fn bytes(text: &str) -> Vec<u8> {
@@ -103,30 +106,155 @@ fn flags_are_heard() {
     assert_eq!(gc(&module, new), Err(invalid));
     assert_eq!(report(&module, new), Err(invalid));
     assert_eq!(list(&module, new), Err(invalid));
-    assert_eq!(strip(&module, new, "a"), Err(invalid));
 }
 
-// ---- strip
+// ---- sections and strip
 
 /// Four custom sections, each of a byte: `a`, `a`, `b` and one without a name.
-const SECTIONS: &str =
+const CUSTOMS: &str =
     "00 61 73 6D 01 00 00 00 00 03 01 61 01 00 03 01 61 02 00 03 01 62 03 00 02 00 04";
 
+const A_GONE: &str = "00 61 73 6D 01 00 00 00 00 03 01 62 03 00 02 00 04";
+
+const B_LEFT: &str = "00 61 73 6D 01 00 00 00 00 03 01 62 03";
+
+/// `.debug_info` with its size in two bytes, the functions and bodies of `TWO` in the wrong order,
+/// `.debug_line`, `a*` and `name`, in which no names stand.
+const BROKEN: &str = "00 61 73 6D 01 00 00 00 00 8D 00 0B 2E 64 65 62 75 67 5F 69 6E 66 6F 01 0A 08 02 03 00 01 0B 02 00 0B 03 03 02 00 00 00 0D 0B 2E 64 65 62 75 67 5F 6C 69 6E 65 02 00 04 02 61 2A 03 00 06 04 6E 61 6D 65 FF";
+
+/// The same without debug information.
+const NO_DEBUG: &str = "00 61 73 6D 01 00 00 00 0A 08 02 03 00 01 0B 02 00 0B 03 03 02 00 00 00 04 02 61 2A 03 00 06 04 6E 61 6D 65 FF";
+
 #[test]
-fn the_first_section_of_a_name_goes() {
-    let module = bytes(SECTIONS);
-    let left = bytes("00 61 73 6D 01 00 00 00 00 03 01 61 02 00 03 01 62 03 00 02 00 04");
-    assert_eq!(strip(&module, NO_PRODUCERS, "a"), Ok(left));
+fn all_sections_of_a_name_go() {
+    let module = bytes(CUSTOMS);
+    assert_eq!(strip(&module, &["a"], &[]), Ok(bytes(A_GONE)));
     let left = bytes("00 61 73 6D 01 00 00 00 00 03 01 61 01 00 03 01 61 02 00 03 01 62 03");
-    assert_eq!(strip(&module, NO_PRODUCERS, ""), Ok(left));
-    assert_eq!(strip(&module, NO_PRODUCERS, "c"), Err(Error::NotFound));
+    assert_eq!(strip(&module, &[""], &[]), Ok(left));
+    assert_eq!(strip(&module, &["", "a"], &[]), Ok(bytes(B_LEFT)));
+    assert_eq!(strip(&module, &[], &[]), Ok(module));
+}
+
+#[test]
+fn stars_stand_for_any_bytes() {
+    let module = bytes(CUSTOMS);
+    let header = module[..8].to_vec();
+    for all in ["*", "**"] {
+        assert_eq!(strip(&module, &[all], &[]), Ok(header.clone()));
+    }
+    for a in ["a*", "*a", "*a*"] {
+        assert_eq!(strip(&module, &[a], &[]), Ok(bytes(A_GONE)));
+    }
+    for name in ["c*", "a*a", r"\*", r"a\*"] {
+        assert_eq!(strip(&module, &[name], &[]), Err(Error::NotFound));
+    }
+    let left = strip(&bytes(BROKEN), &[r"a\*"], &[]).expect("a module");
+    assert_eq!(left.len(), bytes(BROKEN).len() - 6);
+    assert_eq!(strip(&left, &["a*"], &[]), Err(Error::NotFound));
+}
+
+#[test]
+fn sections_stay_after_all() {
+    let module = bytes(CUSTOMS);
+    assert_eq!(strip(&module, &["*"], &["b"]), Ok(bytes(B_LEFT)));
+    assert_eq!(strip(&module, &["*"], &["b*", ""]), Ok(bytes(A_GONE)));
+    assert_eq!(strip(&module, &["a"], &["*"]), Ok(module.clone()));
+    assert_eq!(
+        strip(&module, &["b", ""], &["c"]).map(|it| it.len()),
+        Ok(18)
+    );
+}
+
+#[test]
+fn each_name_has_to_fit_a_section() {
+    let module = bytes(CUSTOMS);
+    assert_eq!(strip(&module, &["c"], &[]), Err(Error::NotFound));
+    assert_eq!(strip(&module, &["a", "c"], &[]), Err(Error::NotFound));
+    assert_eq!(strip(&module, &["*", "c"], &["c"]), Err(Error::NotFound));
+    assert_eq!(strip(&bytes(TWO), &["*"], &[]), Err(Error::NotFound));
 }
 
 #[test]
 fn what_nothing_reaches_stays_where_a_section_goes() {
     let section = bytes("00 03 01 61 01");
     let module = [bytes(TWO), section].concat();
-    assert_eq!(strip(&module, NO_PRODUCERS, "a"), Ok(bytes(TWO)));
+    assert_eq!(strip(&module, &["a"], &[]), Ok(bytes(TWO)));
+    let named = [bytes(TWO), bytes(NAMES)].concat();
+    assert_eq!(strip(&named, &["name"], &[]), Ok(bytes(TWO)));
+    let module = with_producers(ONE);
+    assert_eq!(strip(&module, &["producers"], &[]), Ok(bytes(ONE)));
+}
+
+#[test]
+fn sections_go_from_a_module_that_breaks_a_rule() {
+    let broken = bytes(BROKEN);
+    assert_eq!(diagnose(&broken, ALL), Ok(Some(Fault::Rule(Rule::Order))));
+    assert_eq!(strip(&broken, &[".debug*"], &[]), Ok(bytes(NO_DEBUG)));
+    let found = sections(&broken).expect("sections");
+    assert!(found.is_whole);
+    let kinds: Vec<_> = found.sections.iter().map(Section::kind).collect();
+    let wanted = ["custom", "code", "function", "custom", "custom", "custom"];
+    assert_eq!(kinds, wanted);
+}
+
+fn section_at(start: u32, id: u8, size: u32, name: Option<&str>, entries: Option<u32>) -> Section {
+    let name = name.map(String::from);
+    Section {
+        id,
+        name,
+        start,
+        size,
+        entries,
+    }
+}
+
+#[test]
+fn sections_are_told() {
+    let module = [bytes(TWO), bytes(NAMES)].concat();
+    let wanted = Sections {
+        sections: vec![
+            section_at(8, 1, 6, None, Some(1)),
+            section_at(14, 3, 5, None, Some(2)),
+            section_at(19, 7, 7, None, Some(1)),
+            section_at(26, 10, 10, None, Some(2)),
+            section_at(36, 0, 17, Some("name"), None),
+        ],
+        end: 53,
+        is_whole: true,
+    };
+    assert_eq!(sections(&module), Ok(wanted));
+    let wanted = Sections {
+        sections: Vec::new(),
+        end: 8,
+        is_whole: true,
+    };
+    assert_eq!(sections(&module[..8]), Ok(wanted));
+}
+
+#[test]
+fn each_custom_section_begins_with_a_name() {
+    // One whose name is longer than its content, and one whose name is no UTF-8.
+    for other in ["00 03 03 61 62", "00 03 02 C3 28"] {
+        let module = [bytes(CUSTOMS), bytes(other)].concat();
+        let found = sections(&module).expect("sections");
+        assert_eq!((found.end, found.is_whole), (27, false));
+        assert_eq!(found.sections.len(), 4);
+        let refused = strip(&module, &["a"], &[]);
+        assert_eq!(refused, Err(Error::Invalid(Fault::Section(27))));
+    }
+}
+
+#[test]
+fn sections_of_a_cut_module_are_told() {
+    let module = bytes(TWO);
+    for cut in 27..36 {
+        let found = sections(&module[..cut]).expect("sections");
+        assert_eq!((found.end, found.is_whole), (26, false));
+        let starts: Vec<_> = found.sections.iter().map(|it| it.start).collect();
+        assert_eq!(starts, [8, 14, 19]);
+        let refused = strip(&module[..cut], &["a"], &[]);
+        assert_eq!(refused, Err(Error::Invalid(Fault::Section(26))));
+    }
 }
 
 // ---- why and snip
@@ -201,7 +329,7 @@ fn refusals(input: &[u8]) -> [Option<Error>; 7] {
         gc(input, ALL).err(),
         report(input, ALL).err(),
         list(input, ALL).err(),
-        strip(input, ALL, "a").err(),
+        strip(input, &["a"], &[]).err(),
         why(input, 0).err(),
         snip(input, "a").err(),
         stub(input, "env").err(),
@@ -215,15 +343,17 @@ fn other_bytes_are_invalid() {
     let cut = &module[..module.len() - 1];
     let section = Fault::Section(module.len() as u32 - 10);
     let inputs: [(&[u8], Fault); 5] = [
-        (b"", Fault::Header),
-        (b"\0asm", Fault::Header),
-        (b"\0asm\x02\0\0\0", Fault::Header),
-        (b"no module at all", Fault::Header),
+        (b"", Fault::Header(Beginning::Empty)),
+        (b"\0asm", Fault::Header(Beginning::Cut)),
+        (b"\0asm\x02\0\0\0", Fault::Header(Beginning::OtherVersion)),
+        (b"no module at all", Fault::Header(Beginning::Other)),
         (cut, section),
     ];
     for (input, fault) in inputs {
         let invalid = Some(Error::Invalid(fault));
         assert_eq!(refusals(input), [invalid; 7], "for {input:?}");
+        let told = sections(input).err();
+        assert_eq!(told, invalid.filter(|_| matches!(fault, Fault::Header(_))));
     }
 }
 

@@ -1,12 +1,12 @@
-use Rattle.std.proofs.Common.{sym, ◌∙◌}
-use Rattle.walrus_tools.specs.Stripped.{AnswersStripped}
-use Rattle.mulkavesh_c.specs.Names.{UnderName}
-use Rattle.walrus_tools.specs.Wanted.{config_wanted}
-use Rattle.walrus_tools.specs.declared.wanted.Wanted.{Wanted}
-use Rattle.mulkavesh_c.specs.Answer.{Answer}
-use Rattle.mulkavesh_c.proofs.AnswerLemmas.{gives_wanted}
+use Rattle.std.proofs.Common.{refl}
+use Rattle.walrus_tools.specs.Choice.{IsList}
+use Rattle.mulkavesh_c.proofs.AnswerLemmas.{gives, gives_unknown}
+use Rattle.mulkavesh_c.proofs.ChoiceLemmas.{untrue}
 use Rattle.mulkavesh_c.proofs.mulkavesh_strip.Goals as goal
 
+pub returns-then-not-are_choices : goal.returns-then-not-are_choices
+returns-then-not-are_choices c =
+    gives_unknown _ (IsList c.args.choice.now) _ _ _ _ (λ list. untrue (c.if-not-are_choices.ensures.1 list)) c.refused.ensures.status refl c.refused.ensures.told
+
 pub returns : goal.returns
-returns c =
-    gives_wanted (λ (w : Wanted) (r : Answer). UnderName c.args.name.now (AnswersStripped (config_wanted w) c.args.input.now c.args.name.now) r) c.args.flags c.in-Some.wanted (sym c.in-Some.is ∙ c.wanted_by.ensures) c.stripped-made.result _ _ _ _ c.stripped-made.ensures c.put.ensures
+returns c = gives _ (IsList c.args.choice.now) _ _ _ _ (c.if-not-are_choices.ensures.0 refl) c.stripped-made.result c.stripped-made.ensures c.put.ensures

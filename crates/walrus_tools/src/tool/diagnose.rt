@@ -2,10 +2,19 @@
 
 ghost use Rattle.std.specs.Prelude.{◌≡◌, IfOk, string_bytes};
 ghost use Rattle.walrus_reading.specs.Faults.{FindsFault};
-ghost use Rattle.walrus_tools.specs.Diagnosed.{AnswersFault, Diagnoses, fault_text, numbers_of, rule_number, rule_text};
+ghost use Rattle.walrus_tools.specs.Diagnosed.{
+  AnswersFault,
+  Diagnoses,
+  WordsFault,
+  fault_text,
+  numbers_of,
+  rule_number,
+  rule_text,
+};
 ghost use Rattle.walrus_tools.specs.Wanted.{config_wanted};
 
-use crate::tool::list::{add_number, narrow};
+use crate::beginnings::{Beginning, beginning_number, beginning_words, begins_as};
+use crate::numbers::{add_number, narrow};
 use crate::wanted::Wanted;
 use std::alloc::{AllocError, Global};
 use std::result;
@@ -48,21 +57,22 @@ fn rule_number(rule: BrokenRule) -> u32
     }
 }
 
-// The kind of what was found, and its number.
-fn numbers_of(found: Option<Fault>) -> (u32, usize)
-    ensures { result ≡ numbers_of found }
+// The kind of what was found in bytes that begin so, and its number.
+fn numbers_of(begins: Beginning, found: Option<Fault>) -> (u32, usize)
+    ensures { result ≡ numbers_of begins found }
 {
     match found {
         None => (0, 0),
-        Some(Fault::Header) => (1, 0),
+        Some(Fault::Header) => (1, beginning_number(begins) as usize),
         Some(Fault::Section(place)) => (2, place),
         Some(Fault::Rule(rule)) => (3, rule_number(rule) as usize),
         Some(Fault::Body(index)) => (4, index),
     }
 }
 
-/// What is wrong with the bytes, as two numbers of 32 bits, the lowest byte first: 0 and 0 exactly where they are accepted; 1 and 0 for the
-/// header; 2 and the place behind the last whole section; 3 and the number of a rule; 4 and the index of a function whose body isn't read.
+/// What is wrong with the bytes, as two numbers of 32 bits, the lowest byte first: 0 and 0 exactly where they are accepted; 1 for the header,
+/// and the number of what they begin as (`beginning_number`); 2 and the place behind the last whole section; 3 and the number of a rule; 4 and the
+/// index of a function whose body isn't read.
 ///
 /// # Errors
 ///
@@ -70,7 +80,8 @@ fn numbers_of(found: Option<Fault>) -> (u32, usize)
 pub fn fault(alloc: Global, bytes: &[u8], wanted: Wanted) -> Result<Vec<u8>>
     ensures { AnswersFault (config_wanted wanted) bytes.now result }
 {
-    let (kind, number) = numbers_of(diagnose(alloc, bytes, wanted)?);
+    let found = diagnose(alloc, bytes, wanted)?;
+    let (kind, number) = numbers_of(begins_as(bytes), found);
     let narrowed = narrow(number)?;
     let mut told = Vec::new(alloc);
     add_number(&mut told, kind)?;
@@ -102,16 +113,12 @@ const TYPES_WORDS: &str =
 const COUNTS_WORDS: &str =
     "the number of bodies or of data segments isn't the one that is declared";
 
-/// What is wrong, in words, as docs/FORMATS.md has them.
-///
-/// # Errors
-///
-/// Where memory runs out, and never else.
-pub fn fault_words(alloc: Global, fault: Fault) -> result::Result<String, AllocError>
-    ensures { IfOk result (λ text. string_bytes text ≡ fault_text fault) }
+// What is wrong with bytes that begin so, in words.
+fn words_of(alloc: Global, begins: Beginning, fault: Fault) -> result::Result<String, AllocError>
+    ensures { IfOk result (λ text. string_bytes text ≡ fault_text begins fault) }
 {
     match fault {
-        Fault::Header => String::from_str(alloc, "the bytes don't begin as a WebAssembly module"),
+        Fault::Header => String::from_str(alloc, beginning_words(begins)),
         Fault::Section(place) => {
             format!(in alloc; "no well-formed section stands at byte {place}")
         }
@@ -122,4 +129,15 @@ pub fn fault_words(alloc: Global, fault: Fault) -> result::Result<String, AllocE
             )
         }
     }
+}
+
+/// What is wrong with the bytes, in words, as docs/FORMATS.md has them: of those that don't begin as a module also what they begin as.
+///
+/// # Errors
+///
+/// Where memory runs out, and never else.
+pub fn fault_words(alloc: Global, fault: Fault, bytes: &[u8]) -> result::Result<String, AllocError>
+    ensures { IfOk result (λ text. WordsFault bytes.now fault (string_bytes text)) }
+{
+    words_of(alloc, begins_as(bytes), fault)
 }

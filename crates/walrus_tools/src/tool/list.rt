@@ -1,58 +1,20 @@
 //! What a developer asks of a module that is too large: which functions stay, under which names, and what each costs.
 
-ghost use Rattle.std.specs.Prelude.{◌≡◌, ◌++◌, ◌-◌, ◌<◌, ◌^◌, ◌≤◌, IfErr, IfOk, OnOk, flat_map, length, map};
+ghost use Rattle.std.specs.Prelude.{◌≡◌, ◌++◌, IfErr, IfOk, OnOk, flat_map, map};
 ghost use Rattle.walrus_base.specs.Arena.{item_at};
 ghost use Rattle.walrus_base.specs.Id.{place};
 ghost use Rattle.walrus_contents.specs.View.{name_at};
 ghost use Rattle.walrus_items.specs.Functions.{functions};
 ghost use Rattle.walrus_items.specs.Transform.{range_of};
-ghost use Rattle.walrus_tools.specs.Sized.{AnswersListed, HasLong, IsLongEntry, IsLongName, NoneLong, RefusesIf, entry_bytes, entry_of, name_bytes, names_in, no_name, number_bytes};
+ghost use Rattle.walrus_tools.specs.Sized.{AnswersListed, HasLong, IsLongEntry, IsLongName, NoneLong, RefusesIf, entry_bytes, entry_of, name_bytes, names_in};
 ghost use Rattle.walrus_tools.specs.Wanted.{config_wanted};
 
+use crate::numbers::{NO_NAME, add_number, add_text, narrow};
 use crate::wanted::Wanted;
-use std::alloc::{AllocError, Global};
+use std::alloc::Global;
 use std::ops::Range;
-use std::result;
 use walrus::passes::gc;
-use walrus::{Error, FunctionId, ModuleConfig, ModuleFunctions, Result};
-
-/// What stands for the length of a name where a function has none.
-pub const NO_NAME: u32 = u32::MAX;
-
-// Puts a number behind the bytes, its lowest byte first.
-pub(crate) fn add_number(to: &mut Vec<u8>, number: u32) -> result::Result<(), AllocError>
-    ensures { OnOk result (to.new.items ≡ to.old.items ++ number_bytes number) }
-{
-    let four = number.to_le_bytes();
-    to.extend_from_slice(&four)
-}
-
-// A number of 32 bits.
-pub(crate) fn narrow(number: usize) -> Result<u32>
-    ensures value { IfOk result (λ n. n ≡ number) }
-    ensures fits { OnOk result (number < 2 ^ 32) }
-    ensures refused { IfErr result (RefusesIf (2 ^ 32 ≤ number)) }
-{
-    match u32::try_from(number) {
-        Ok(narrow) => Ok(narrow),
-        Err(_) => Err(Error::TooLarge),
-    }
-}
-
-// Puts the length of a name and the name behind the bytes.
-fn add_text(to: &mut Vec<u8>, text: &str) -> Result<()>
-    ensures value { OnOk result (to.new.items ≡ to.old.items
-        ++ (number_bytes (length text.now) ++ text.now)) }
-    ensures fits { OnOk result (length text.now < no_name) }
-    ensures refused { IfErr result (RefusesIf (no_name ≤ length text.now)) }
-{
-    let size = narrow(text.len())?;
-    if size == NO_NAME {
-        return Err(Error::TooLarge);
-    }
-    add_number(to, size)?;
-    Ok(to.extend_from_slice(text.as_bytes())?)
-}
+use walrus::{FunctionId, ModuleConfig, ModuleFunctions, Result};
 
 // Puts the length of the function's name and the name behind the bytes, or what says that it has none.
 fn add_name(to: &mut Vec<u8>, all: &ModuleFunctions, id: FunctionId) -> Result<()>

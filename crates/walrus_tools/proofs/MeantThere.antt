@@ -1,0 +1,48 @@
+-- What is meant by a name in a well-made module is there: what a name in the name section finds, and what an export of it leads to.
+use Rattle.std.proofs.Common.{◌≡◌, ℕ, List, Option, Some, None, IsSome, option_map, refl, subst, ap, ◌∙◌}
+use Rattle.std.specs.Prelude.{Contains}
+use Rattle.walrus_base.specs.Arena.{entries, item_at, items}
+use Rattle.walrus_base.specs.Id.{place}
+use Rattle.walrus_base.specs.Operators.{Item, function_item}
+use Rattle.walrus_base.specs.declared.id.Id.{Id}
+use Rattle.walrus_base.specs.declared.keys.FunctionKey.{FunctionKey}
+use Rattle.walrus_base.proofs.Lists.{Contains-map}
+use Rattle.walrus_base.proofs.SearchFound.{found-item}
+use Rattle.walrus_base.proofs.Standing.{was_some}
+use Rattle.walrus_model.specs.Config.{Config}
+use Rattle.walrus_model.specs.Live.{IsLive}
+use Rattle.walrus_model.proofs.Slots.{entry_in}
+use Rattle.walrus_contents.specs.View.{contents_view, export_of, function}
+use Rattle.walrus_contents.specs.declared.parts.Contents.{Contents}
+use Rattle.walrus_items.specs.Exports.{ExportValue, exports, function_named}
+use Rattle.walrus_items.specs.Functions.{FunctionValue, functions, is_called}
+use Rattle.walrus_items.specs.Kinds.{exported}
+use Rattle.walrus_items.specs.Searches.{first}
+use Rattle.walrus_theorem.specs.WellMade.{IsWellMade}
+use Rattle.walrus_theorem.proofs.EditKept.{none_isnt, some_is, some_there}
+use Rattle.walrus_tools.specs.Found.{meant, or_else}
+use Rattle.walrus_tools.proofs.SnipCall.{exports_named}
+
+module _ (c : Config) (m : Contents) (made : IsWellMade c (contents_view m)) (name : List ℕ) where
+  abbrev Stands : ℕ → Type 0
+  Stands i = IsSome (item_at (functions m.funcs) i)
+
+  exported_there : (id : Id FunctionKey) → function_named name (exports m.exports) ≡ Some id → Stands (place id)
+  exported_there id is =
+      let e = exports_named name (exports m.exports) id is in
+      let item : exported e.0.value.item ≡ function_item (place id) = ap exported e.0.is_function ∙ ap (λ (i : Id FunctionKey). function_item (place i)) e.1 in
+      let at : Contains (items (exports m.exports)) e.0.value = Contains-map (λ (x : ℕ × ExportValue). x.1) (e.0.at, e.0.value) (entries (exports m.exports)) (entry_in (exports m.exports) e.0.at e.0.value e.0.there) in
+      let live : IsLive (contents_view m) (exported e.0.value.item) = made.rules.indices.exports (export_of e.0.value) (Contains-map export_of e.0.value (items (exports m.exports)) at) in
+      was_some (function m.locals) (item_at (functions m.funcs) (place id)) (subst (λ (x : Item). IsLive (contents_view m) x) item live)
+
+  by_export : (o : Option (Id FunctionKey)) → function_named name (exports m.exports) ≡ o → (p : ℕ) → option_map place o ≡ Some p → Stands p
+  by_export None found p is = absurd (none_isnt is)
+  by_export (Some id) found p is = subst Stands (some_is is) (exported_there id found)
+
+  by_name : (o : Option (ℕ × FunctionValue)) → first (is_called name) (functions m.funcs) ≡ o → (p : ℕ)
+      → or_else (option_map (λ (e : ℕ × FunctionValue). e.0) o) (option_map place (function_named name (exports m.exports))) ≡ Some p → Stands p
+  by_name None found p is = by_export (function_named name (exports m.exports)) refl p is
+  by_name (Some e) found p is = subst Stands (some_is is) (some_there (item_at (functions m.funcs) e.0) (found-item (λ (d : ℕ × FunctionValue). is_called name d.1) (functions m.funcs) e found))
+
+  pub meant_there : (p : ℕ) → meant name m ≡ Some p → Stands p
+  meant_there p is = by_name (first (is_called name) (functions m.funcs)) refl p is

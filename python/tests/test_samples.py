@@ -1,0 +1,88 @@
+"""The calls `strip` and `sections` over the modules of tests/samples, and of ../shared/samples where that is there, beside what stands in them, read anew."""
+import pathlib
+import unittest
+from typing import Callable, Iterator, List, Optional, Tuple
+
+import mulkavesh
+from mulkavesh import NotFound, Section, Sections
+
+TOP = pathlib.Path(__file__).resolve().parent.parent.parent
+FOLDERS = (TOP / "tests" / "samples", TOP.parent / "shared" / "samples")
+CUSTOM, START, DATA_COUNT = 0, 8, 12
+# NAMEs that say which sections go and which stay, and a test of a name that says the same of both.
+CHOICES: List[Tuple[str, List[str], Callable[[str], bool], Callable[[str], bool]]] = [
+    (".debug*", [], lambda name: name.startswith(".debug"), lambda name: False),
+    ("*", [], lambda name: True, lambda name: False),
+    ("*", ["name", "*_*"], lambda name: True, lambda name: name == "name" or "_" in name),
+    ("*e*", ["*_*"], lambda name: "e" in name, lambda name: "_" in name),
+    ("producers", [], lambda name: name == "producers", lambda name: False),
+]
+
+
+def samples() -> Iterator[Tuple[str, bytes]]:
+    """The modules, by their names."""
+    return ((path.name, path.read_bytes()) for folder in FOLDERS for path in sorted(folder.glob("*.wasm")))
+
+
+def number(module: bytes, at: int) -> Tuple[int, int]:
+    """The number that stands at a place, and the place behind it."""
+    byte = module[at]
+    if byte < 128:
+        return byte, at + 1
+    value, behind = number(module, at + 1)
+    return byte - 128 + 128 * value, behind
+
+
+def section(module: bytes, start: int) -> Section:
+    """The section that stands at a place."""
+    kind, (size, content) = module[start], number(module, start + 1)
+    count, behind = number(module, content)
+    name = module[behind : behind + count].decode() if kind == CUSTOM else None
+    return Section(kind, name, start, content + size - start, None if kind in (CUSTOM, START, DATA_COUNT) else count)
+
+
+def sections(module: bytes) -> Iterator[Section]:
+    """All that stand in a module."""
+    at = 8
+    while at < len(module):
+        found = section(module, at)
+        yield found
+        at += found.size
+
+
+def without(module: bytes, goes: Callable[[str], bool]) -> bytes:
+    """The module without the custom sections that a test of their names takes."""
+    stay = (it for it in sections(module) if it.name is None or not goes(it.name))
+    return module[:8] + b"".join(module[it.start : it.start + it.size] for it in stay)
+
+
+def stripped(module: bytes, name: str, keep: List[str]) -> Optional[bytes]:
+    """What the library answers, or None where it finds no such section."""
+    try:
+        return mulkavesh.strip(module, name, keep=keep)
+    except NotFound:
+        return None
+
+
+class Samples(unittest.TestCase):
+    """Modules of other tools."""
+
+    def test_sections(self) -> None:
+        for name, module in samples():
+            with self.subTest(name):
+                self.assertEqual(mulkavesh.sections(module), Sections([*sections(module)], len(module), True))
+
+    def test_strip(self) -> None:
+        gone = 0
+        for name, module in samples():
+            for goes, stay, is_chosen, stays in CHOICES:
+                with self.subTest(name, goes=goes, keep=stay):
+                    is_there = any(it.name is not None and is_chosen(it.name) for it in sections(module))
+                    wanted = without(module, lambda it: is_chosen(it) and not stays(it)) if is_there else None
+                    self.assertTrue(stripped(module, goes, stay) == wanted)
+                    gone += len(module) - len(wanted or module)
+        self.assertGreater(gone, 100)
+
+
+if __name__ == "__main__":
+    unittest.main()
