@@ -800,6 +800,13 @@ def completed(*words):
 
 def try_completions(words, flags):
     same("bash -n of the completions", subprocess.run(["bash", "-n", TOP / "completions" / "mulkavesh.bash"], check=False).returncode, 0)
+    for shell in ("zsh", "fish"):
+        path = TOP / "completions" / f"mulkavesh.{shell}"
+        if shutil.which(shell):
+            same(f"{shell} -n of the completions", subprocess.run([shell, "-n", path], check=False).returncode, 0)
+        text = path.read_text()
+        for word in [*words, *(flag[2:] for flag in set().union(*flags.values())), "output", "version"]:
+            same(f"the completions of {shell} name {word}", word in text, True)
     same("the first word", completed("mulkavesh", ""), {*words, "help", "--help", "--version"})
     same("a word that is begun", completed("mulkavesh", "s"), {"sections", "strip", "snip", "stub"})
     same("a word behind help", completed("mulkavesh", "help", "st"), {"strip", "stub"})

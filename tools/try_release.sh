@@ -130,6 +130,16 @@ JS
 
 try_shell() {
   try "the completions" bash -c '. "$0" && complete -p mulkavesh' "$dir/share/bash-completion/completions/mulkavesh"
+  if command -v zsh > /dev/null; then
+    try "the completions for zsh" says "" zsh -n "$dir/share/zsh/site-functions/_mulkavesh"
+  else
+    untried "the completions for zsh, since there is no zsh"
+  fi
+  if command -v fish > /dev/null; then
+    try "the completions for fish" says "" fish -n "$dir/share/fish/vendor_completions.d/mulkavesh.fish"
+  else
+    untried "the completions for fish, since there is no fish"
+  fi
   if command -v groff > /dev/null; then
     try "the manual page" says "" bash -c 'groff -man -Tascii -ww "$0" 2>&1 > /dev/null' "$dir/share/man/man1/mulkavesh.1"
   else
