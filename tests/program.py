@@ -763,7 +763,7 @@ def try_forms_of_help(work):
     for words in ("-h", "help", "help --help", "--help gc", "-V -h", "nothing --help", "-q -o out --help"):
         same(f"the arguments {words!r}", run(*words.split()), whole)
     same("-V", run("-V"), run("--version"))
-    for name in ("gc", "report", "list", "check", "strip", "snip", "stub", "why"):
+    for name in ("gc", "report", "list", "check", "sections", "strip", "snip", "stub", "why"):
         for words in ("{} --help", "{} -h", "help {}", "{} -o out in -h in in", "{} -x --json=1 --help", "{} -o -o --help", "{} --help -- in"):
             same(f"the arguments {words.format(name)!r}", run(*words.format(name).split()), run(name, "--help"))
 

@@ -36,7 +36,7 @@ nothing_said (Run o) (order _ says) = let none : ◌≡◌ {A = List Word} [] (w
 -- the word is that of a subcommand
 is_work : Word → Bool
 is_work word =
-    bytes_eq word (codes "gc") || bytes_eq word (codes "report") || bytes_eq word (codes "list") || bytes_eq word (codes "check")
+    bytes_eq word (codes "gc") || bytes_eq word (codes "report") || bytes_eq word (codes "list") || bytes_eq word (codes "check") || bytes_eq word (codes "sections")
     || bytes_eq word (codes "strip") || bytes_eq word (codes "snip") || bytes_eq word (codes "stub") || bytes_eq word (codes "why")
 
 work_is : (w : Work) → is_work (work_word w) ≡ true
@@ -45,6 +45,7 @@ work_is work.Gc = refl
 work_is work.Report = refl
 work_is work.List = refl
 work_is work.Check = refl
+work_is work.Sections = refl
 work_is work.Strip = refl
 work_is work.Snip = refl
 work_is work.Stub = refl

@@ -37,7 +37,7 @@ fn distance(one: &[u8], other: &[u8]) -> usize {
 }
 
 /// Of these words the first that differs least, where little differs.
-pub(crate) fn nearest<'a>(word: &str, words: &[&'a str]) -> Option<&'a str> {
+pub(crate) fn nearest(word: &str, words: &[&'static str]) -> Option<&'static str> {
     let mut found = None;
     let mut least = 3.min(word.len() / 2 + 1);
     'words: for it in words {

@@ -25,17 +25,6 @@ const FIRST: &[&str] = &[
     "--version",
 ];
 
-// What is said behind the argument that is wrong, or in front of it.
-const NOT_TAKEN: &str = " is no option of this subcommand";
-
-const VALUED: &str = " has a value, but this option takes none";
-
-const NO_FILE: &str = "FILE is missing behind ";
-
-const SECOND_OUTPUT: &str = "' is a second output; there can be one -o";
-
-const SECOND_INPUT: &str = "' is a second input; the output goes behind -o";
-
 // The option without a value, where the subcommand has it; and else one that each has.
 fn option_of(work: Work, flag: Flag) -> &'static str {
     if !takes(work, flag) {
@@ -64,85 +53,74 @@ fn meant(work: Work, word: &str) -> Option<&'static str> {
     nearest(word, &options)
 }
 
-// Writes the texts, as people see them, and a line end.
-fn write_texts<E: Sink>(errors: &mut E, texts: &[&str]) -> Result<(), DeviceFailed> {
-    'texts: for text in texts {
-        write_shown(errors, text.as_bytes())?;
-    }
-    write_all(errors, b"\n")
+// Writes the beginning of a line that is about a subcommand.
+fn begin<E: Sink>(errors: &mut E, work: Work) -> Result<(), DeviceFailed> {
+    write_all(errors, b"mulkavesh: ")?;
+    write_all(errors, name_of(work).as_bytes())?;
+    write_all(errors, b": ")
 }
 
-// Tells of an option that there isn't.
-fn tell_option<E: Sink>(errors: &mut E, work: Work, word: &str) -> Result<(), DeviceFailed> {
-    let name = name_of(work);
-    match meant(work, word) {
-        Some(option) => write_texts(
-            errors,
-            &[
-                "mulkavesh: ",
-                name,
-                ": unknown option ",
-                word,
-                "; did you mean ",
-                option,
-                "?",
-            ],
-        ),
-        None => write_texts(
-            errors,
-            &[
-                "mulkavesh: ",
-                name,
-                ": unknown option ",
-                word,
-                "; mulkavesh ",
-                name,
-                " --help tells more",
-            ],
-        ),
-    }
+// Ends a line with what was meant.
+fn end_with_meant<E: Sink>(errors: &mut E, meant: &str) -> Result<(), DeviceFailed> {
+    write_all(errors, b"; did you mean ")?;
+    write_all(errors, meant.as_bytes())?;
+    write_all(errors, b"?\n")
+}
+
+// Ends a line with the help of the subcommand.
+fn end_with_help<E: Sink>(errors: &mut E, work: Work) -> Result<(), DeviceFailed> {
+    write_all(errors, b"; mulkavesh ")?;
+    write_all(errors, name_of(work).as_bytes())?;
+    write_all(errors, b" --help tells more\n")
 }
 
 // Tells of a first argument that is no subcommand.
 fn tell_first<E: Sink>(errors: &mut E, word: &str) -> Result<(), DeviceFailed> {
-    let kind = if word.starts_with("-") {
-        "mulkavesh: no subcommand stands in front of '"
+    if word.starts_with("-") {
+        write_all(errors, b"mulkavesh: no subcommand stands in front of '")?;
     } else {
-        "mulkavesh: unknown subcommand '"
-    };
+        write_all(errors, b"mulkavesh: unknown subcommand '")?;
+    }
+    write_shown(errors, word.as_bytes())?;
+    write_all(errors, b"'")?;
     match nearest(word, FIRST) {
-        Some(first) => write_texts(errors, &[kind, word, "'; did you mean ", first, "?"]),
-        None => write_texts(errors, &[kind, word, "'; mulkavesh --help tells more"]),
+        Some(first) => end_with_meant(errors, first),
+        None => write_all(errors, b"; mulkavesh --help tells more\n"),
     }
 }
 
-// How the option is spelled that says which file is written.
-fn naming_text(naming: Naming) -> &'static str {
-    match naming {
-        Naming::Short => "-o",
-        Naming::Long => "--output",
+// Tells of an argument behind which, or in front of which, nothing can stand.
+fn tell_extra<E: Sink>(errors: &mut E, word: &str) -> Result<(), DeviceFailed> {
+    write_all(errors, b"mulkavesh: '")?;
+    write_shown(errors, word.as_bytes())?;
+    write_all(
+        errors,
+        b"' is one argument too many; mulkavesh --help tells more\n",
+    )
+}
+
+// Tells of an option that there isn't.
+fn tell_option<E: Sink>(errors: &mut E, work: Work, word: &str) -> Result<(), DeviceFailed> {
+    begin(errors, work)?;
+    write_all(errors, b"unknown option ")?;
+    write_shown(errors, word.as_bytes())?;
+    match meant(work, word) {
+        Some(option) => end_with_meant(errors, option),
+        None => end_with_help(errors, work),
     }
 }
 
-// Tells what is wrong with an argument behind a subcommand, or what is missing, and that its help tells more.
+// Tells what is wrong with an option.
 fn tell_about<E: Sink>(
     errors: &mut E,
     work: Work,
-    about: &str,
-    text: &str,
+    word: &str,
+    wrong: &str,
 ) -> Result<(), DeviceFailed> {
-    let name = name_of(work);
-    let texts = [
-        "mulkavesh: ",
-        name,
-        ": ",
-        about,
-        text,
-        "; mulkavesh ",
-        name,
-        " --help tells more",
-    ];
-    write_texts(errors, &texts)
+    begin(errors, work)?;
+    write_shown(errors, word.as_bytes())?;
+    write_all(errors, wrong.as_bytes())?;
+    end_with_help(errors, work)
 }
 
 // Tells of a second file, and what helps.
@@ -150,10 +128,22 @@ fn tell_second<E: Sink>(
     errors: &mut E,
     work: Work,
     file: &str,
-    text: &str,
+    wrong: &str,
 ) -> Result<(), DeviceFailed> {
-    write_texts(errors, &["mulkavesh: ", name_of(work), ": '", file, text])
+    begin(errors, work)?;
+    write_all(errors, b"'")?;
+    write_shown(errors, file.as_bytes())?;
+    write_all(errors, wrong.as_bytes())
 }
+
+// What is said behind an argument.
+const NOT_TAKEN: &str = " is no option of this subcommand";
+
+const VALUED: &str = " has a value, but this option takes none";
+
+const SECOND_OUTPUT: &str = "' is a second output; there can be one -o\n";
+
+const SECOND_INPUT: &str = "' is a second input; the output goes behind -o\n";
 
 // Tells what is wrong behind a subcommand.
 fn tell_wrong<E: Sink>(errors: &mut E, work: Work, wrong: &Wrong) -> Result<(), DeviceFailed> {
@@ -161,10 +151,18 @@ fn tell_wrong<E: Sink>(errors: &mut E, work: Work, wrong: &Wrong) -> Result<(), 
         Wrong::UnknownOption(word) => tell_option(errors, work, word.as_str()),
         Wrong::NotTaken(word) => tell_about(errors, work, word.as_str(), NOT_TAKEN),
         Wrong::TakesNoValue(word) => tell_about(errors, work, word.as_str(), VALUED),
-        Wrong::NoValue(naming) => tell_about(errors, work, NO_FILE, naming_text(*naming)),
+        Wrong::NoValue(naming) => tell_about(errors, work, missing_behind(*naming), ""),
         Wrong::SecondOutput(value) => tell_second(errors, work, value.text(), SECOND_OUTPUT),
         Wrong::SecondInput(word) => tell_second(errors, work, word.as_str(), SECOND_INPUT),
         Wrong::OperandMissing => tell_about(errors, work, operand_of(work), " is missing"),
+    }
+}
+
+// What is told of an option that has no value behind it.
+fn missing_behind(naming: Naming) -> &'static str {
+    match naming {
+        Naming::Short => "FILE is missing behind -o",
+        Naming::Long => "FILE is missing behind --output",
     }
 }
 
@@ -175,14 +173,7 @@ pub(crate) fn tell_mistake<E: Sink>(errors: &mut E, mistake: &Mistake) -> u8
     let _told = match mistake {
         Mistake::NoArguments => write_all(errors, USAGE.as_bytes()),
         Mistake::UnknownSubcommand(word) => tell_first(errors, word.as_str()),
-        Mistake::Extra(word) => write_texts(
-            errors,
-            &[
-                "mulkavesh: '",
-                word.as_str(),
-                "' is one argument too many; mulkavesh --help tells more",
-            ],
-        ),
+        Mistake::Extra(word) => tell_extra(errors, word.as_str()),
         Mistake::Behind(work, wrong) => tell_wrong(errors, *work, wrong),
     };
     2
