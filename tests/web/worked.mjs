@@ -254,7 +254,7 @@ const TRIES = {
   }),
   'a refusal says the fault': () => {
     const { name, code, message } = errorOf(() => why(hex('00 61'), 0));
-    const wanted = "the input is no module that keeps the rules: the bytes don't begin as a WebAssembly module";
+    const wanted = "the input is no module that keeps the rules: the bytes don't begin as a WebAssembly module: they end within the header";
     assert.deepEqual({ name, code, message }, { name: 'InvalidModule', code: 'INVALID', message: wanted });
   },
   'a fault that is not found out': async () => {

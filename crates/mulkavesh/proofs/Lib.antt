@@ -1,4 +1,5 @@
 mod Answered
+mod CauseLemmas
 mod Complete
 mod Help
 mod Itself

@@ -28,8 +28,8 @@ pub returns-in-Err-Read-clause-runs : goal.returns-in-Err-Read-clause-runs
 returns-in-Err-Read-clause-runs g c =
     let from : Device = device_of g.R.Source.left g.R.Source.read_failures g.R.Explains.name g.R.Explains.trouble g.R.Explains.is_left c.args.input.now c.carry.new.input in
     let to : Device = device_of g.W.Sink.held g.W.Sink.write_failures g.W.Explains.name g.W.Explains.trouble g.W.Explains.is_left c.args.output.now c.carry.new.output in
-    let errors : Stream = stream_of g.E.Sink.held g.E.Sink.write_failures c.args.errors.now c.refuse-in-Err-Read.new.errors in
-    let named = subst (λ (name : List ℕ). Tells errors (line name c.trouble.result.now)) c.name-in-Err-Read.ensures c.refuse-in-Err-Read.ensures.told in
+    let errors : Stream = stream_of g.E.Sink.held g.E.Sink.write_failures c.args.errors.now c.refuse.new.errors in
+    let named = subst (λ (name : List ℕ). Tells errors (line name c.trouble.result.now)) c.name-in-Err-Read.ensures c.refuse.ensures.told in
     let told = subst (λ (text : List ℕ). Tells errors (line from.name text)) c.trouble.ensures named in
     record {
       answer = Err (error_of c.in-Err-Read.field-0);
@@ -37,7 +37,7 @@ returns-in-Err-Read-clause-runs g c =
       reads = c.in-Err-Read.ensures.reads;
       writes = c.in-Err-Read.ensures.writes;
       flushed = c.in-Err-Read.ensures.flushed;
-      told = tells_read (AnswersOrder c.args.order.now) c.args.order.now.work (config_read c.args.order.now) from to errors c.refuse-in-Err-Read.result c.in-Err-Read.field-0 c.in-Err-Read.field-0-is (c.refuse-in-Err-Read.ensures.status, told);
+      told = tells_read (AnswersOrder c.args.order.now) c.args.order.now.work (config_read c.args.order.now) from to errors c.refuse.result c.in-Err-Read.field-0 c.in-Err-Read.field-0-is (c.refuse.ensures.status, told);
     }
 
 pub returns-in-Err-Refused-clause-runs : goal.returns-in-Err-Refused-clause-runs
