@@ -416,14 +416,15 @@ def try_page(work):
 
 def try_faults(work):
     """Each subcommand that refuses bytes as invalid says in its line what `check` writes, under the same choice of legacy exceptions."""
-    choosing = (["gc"], ["report"], ["report", "--json"], ["list"], ["strip", "a"], ["strip", "a", "--no-names"])
+    choosing = (["gc"], ["report"], ["report", "--json"], ["list"])
+    framed = (["strip", "a"], ["sections"], ["sections", "--json"])
     others = (["snip", "a"], ["stub", "env"], ["why", "0"], ["why", "a"], ["why", "--json", "0"])
     for legacy, kind, _, data, words in faults():
         flags = [] if legacy else ["--no-legacy"]
         if kind:
             said = run("check", *flags, data=data)[1].decode()
             same(f"check of {data.hex()}", said, f"{words}\n")
-            for order in (*([*it, *flags] for it in choosing), *(others if legacy else ())):
+            for order in (*([*it, *flags] for it in choosing), *(others if legacy else ()), *(() if data[:8] == TWO[:8] else framed)):
                 line = f"mulkavesh: standard input: the input WebAssembly is invalid: {said}"
                 same(f"{order} of {data.hex()}", run(*order, data=data), (1, b"", line))
 
