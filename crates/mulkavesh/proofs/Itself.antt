@@ -23,14 +23,6 @@ no_front [] asking rest is = cc
 no_front (pair n w ∷ front) asking rest is = cc
 no_front (single w ∷ front) asking rest is = cc
 
-pub nothing_said : (asked : Asked) → Says [] asked → ⊥
-nothing_said Help (help h never) = no_front h.front h.asking h.rest h.are
-nothing_said Help (help_alone is) = cc
-nothing_said (HelpOf w) (help_of _ begins h) = no_front h.front h.asking h.rest h.are
-nothing_said (HelpOf w) (help_named _ is) = cc
-nothing_said Version (version is) = ⊎_elim (λ e. absurd (cc)) (λ e. absurd (cc)) is
-nothing_said (Run o) (order _ says) = let none : ◌≡◌ {A = List Word} [] (work_word o.work ∷ _) = says.are in cc
-
 -- ---- behind a subcommand
 
 -- the word is that of a subcommand
@@ -104,14 +96,6 @@ unasked first words never none alone named no_version (HelpOf w) (help_of _ begi
 unasked first words never none alone named no_version (HelpOf w) (help_named _ is) = named w is
 unasked first words never none alone named no_version Version (version is) = no_version is
 unasked first words never none alone named no_version (Run o) (order _ says) = begins_not first words never o.work (_, says.are)
-
-pub told_first : (a : String Global) (words : List Word) → IsNoWork (string_bytes a) → (string_bytes a ≡ codes "help" → ⊥) → (string_bytes a ≡ codes "-V" → ⊥) → (string_bytes a ≡ codes "--version" → ⊥)
-    → IsUnhelped (string_bytes a ∷ words) → IsTold (string_bytes a ∷ words) (Err (mistake.UnknownSubcommand a))
-told_first a words never no_help no_short no_long none = (
-  inl (words, refl, record { no_work = never; no_help = no_help; no_version = no_short; no_long_version = no_long }),
-  unasked (string_bytes a) words never none (λ is. no_help (sym (first_is (string_bytes a) (codes "help") words [] is))) (λ w is. no_help (sym (first_is (string_bytes a) (codes "help") words (work_word w ∷ []) is)))
-      (λ is. ⊎_elim (λ e. no_short (sym (first_is (string_bytes a) (codes "-V") words [] e))) (λ e. no_long (sym (first_is (string_bytes a) (codes "--version") words [] e))) is),
-)
 
 no_version_work : (first : Word) → (first ≡ codes "-V") ⊎ (first ≡ codes "--version") → IsNoWork first
 no_version_work first is w same = version_is_none w (⊎_elim (λ e. inl (sym e ∙ same)) (λ e. inr (sym e ∙ same)) is)

@@ -1,5 +1,5 @@
 -- The lines of sections, section by section.
-use Rattle.std.proofs.Common.{◌≡◌, ◌<◌, ◌≤◌, ◌+◌, ℕ, List, [], ◌∷◌, ◌++◌, append_assoc, codes, decimal, flat_map, get_or, length, map, take, sym, ap, ◌∙◌}
+use Rattle.std.proofs.Common.{◌≡◌, ◌<◌, ◌≤◌, ◌+◌, ℕ, List, [], ◌++◌, append_assoc, codes, decimal, flat_map, get_or, length, map, take, sym, ap, ◌∙◌}
 use Rattle.std.proofs.lemmas.List.{flat_map_more, map_more, take_all}
 use Rattle.walrus_tools.specs.Sections.{Piece, RawPiece, piece_record}
 use Rattle.mulkavesh.specs.Sections.{count_text, section_line, what_text}

@@ -67,8 +67,3 @@ pub gives_wanted : (Answers : Wanted → Answer → Type 0) (flags : ℕ) (w : W
 gives_wanted Answers flags w is answer old new told status answers puts =
     let known = asks (is_known flags) (wanted flags) w is in
     gives (Answers (wanted flags)) (is_known flags ≡ true) old new told status known.0 answer (subst (λ (v : Wanted). Answers v answer) known.1 answers) puts
-
--- flags that ask for nothing aren't known
-pub asks_none : (known : Bool) (v : Wanted) → ◌≡◌ {A = Option Wanted} None (if known then Some v else None) → known ≡ true → ⊥
-asks_none true v h is = none-some v h
-asks_none false v h is = let no_such : false ≡ true = is in cc

@@ -1,5 +1,5 @@
 -- Whether bytes are a list of choices, choice by choice.
-use Rattle.std.proofs.Common.{◌≡◌, ◌↔◌, ℕ, true, false, List, [], ◌∷◌, refl, sym, subst}
+use Rattle.std.proofs.Common.{◌≡◌, ◌↔◌, ℕ, true, false, List, [], ◌∷◌, refl, subst}
 use Rattle.walrus_tools.specs.Choice.{AreChoices, Choice, IsChoice, IsList}
 use Rattle.walrus_tools.proofs.Records.{no_front, one_choice}
 

@@ -4,7 +4,7 @@ use Rattle.std.proofs.Common.{eqb, refl, sym, ap, ◌∙◌, subst, arith, ⊎_e
 use Rattle.std.specs.Bool.{Decides}
 use Rattle.std.specs.Prelude.{All, ◌==◌}
 use Rattle.std.specs.Cmp.Lexicographic.{pointwise}
-use Rattle.std.proofs.Math.Seq.{take-append_seam, drop-length}
+use Rattle.std.proofs.Math.Seq.{take-append_seam}
 use Rattle.std.proofs.lemmas.Bool.{false≢true as untrue}
 use Rattle.std.proofs.lemmas.Bool.Decides.{Decides-eqb}
 use Rattle.std.proofs.lemmas.List.{at_drop_more, length-append, take-append-drop}
@@ -45,11 +45,6 @@ four (a ∷ []) h = absurd (omega (arith, h))
 four (a ∷ b ∷ []) h = absurd (omega (arith, h))
 four (a ∷ b ∷ c ∷ []) h = absurd (omega (arith, h))
 four (a ∷ b ∷ c ∷ d ∷ tail) h = (a, b, c, d, (tail, refl))
-
-pub version_long : (bytes : List ℕ) → HasVersion bytes → 8 ≤ length bytes
-version_long bytes (a, b, c, d, (rest, e)) =
-    let long : length bytes ≡ 8 + length rest = ap length e ∙ length-append (0x00 ∷ 0x61 ∷ 0x73 ∷ 0x6D ∷ a ∷ b ∷ c ∷ d ∷ []) rest in
-    omega (arith, long)
 
 pub version_decided : (r : Bool) (bytes : List ℕ) → 8 ≤ length bytes → Decides r (Begins bytes magic) → Decides r (HasVersion bytes)
 version_decided r bytes long d = (λ t. to (d.0 t), λ h. d.1 (back h))
@@ -124,9 +119,6 @@ text_here at bytes in' black same r d =
     let opens : IsText (drop at bytes) → OpensText (drop at bytes) = λ t.
     subst OpensText (sym here) (text_at_once (get_or bytes at 0) (drop (at + 1) bytes) black (subst IsText here t)) in
     (λ t. same.0 (opened_text (drop at bytes) (d.0 t)), λ t. d.1 (opens (same.1 t)))
-
-pub text_end : (bytes : List ℕ) → TextFrom (length bytes) bytes → IsText bytes → ⊥
-text_end bytes same t = no_text (subst IsText (drop-length bytes) (same.1 t))
 
 -- ---- none of the beginnings
 

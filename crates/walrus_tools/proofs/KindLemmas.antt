@@ -1,5 +1,5 @@
 -- Items that are counted in memory are those of the module that was read.
-use Rattle.std.proofs.Common.{◌≡◌, ℕ, List, Option, Some, None, Result, Ok, Err, length, inl, inr, refl, sym, ap, ◌∙◌, subst}
+use Rattle.std.proofs.Common.{◌≡◌, ℕ, List, Option, Some, None, Result, Ok, Err, length, inl, inr, refl, sym, ◌∙◌, subst}
 use Rattle.std.specs.Prelude.{IfOk, IsSome, MatchResult, is_some}
 use Rattle.std.specs.Global.{Vec}
 use Rattle.walrus_base.specs.Arena.{item_at}
@@ -29,7 +29,6 @@ use Rattle.walrus_theorem.specs.Report.{Counts}
 use Rattle.walrus_theorem.proofs.StepRead.{read_is_plain}
 use Rattle.walrus.specs.Collected.{Collects, KeepsOnly}
 use Rattle.walrus.specs.Headline.{RunsOn}
-use Rattle.walrus.specs.Marked.{ReachesSound}
 use Rattle.walrus.proofs.Marking.{below}
 use Rattle.walrus.proofs.ReportLemmas.{counted_below}
 use Rattle.walrus.proofs.ReportedLemmas.{kept_read, live_read}

@@ -1,5 +1,5 @@
 -- A list of choices as bytes: what stands at its front, and that it can be read in one way only.
-use Rattle.std.proofs.Common.{◌≡◌, ◌≤◌, ◌<◌, ◌+◌, ◌-◌, ◌*◌, ℕ, zero, suc, Bool, true, false, List, [], ◌∷◌, ◌++◌, length, take, drop, refl, sym, ap, ◌∙◌, subst, append_assoc, append-nil, nat_eq, slice_index_or, arith}
+use Rattle.std.proofs.Common.{◌≡◌, ◌≤◌, ◌<◌, ◌+◌, ◌-◌, ℕ, zero, suc, Bool, true, false, List, [], ◌∷◌, ◌++◌, length, take, drop, refl, sym, ap, ◌∙◌, subst, append_assoc, append-nil, nat_eq, slice_index_or, arith}
 use Rattle.std.specs.Prelude.{if◌then◌else◌, ◌==◌}
 use Rattle.std.specs.List.{IsSplitAt}
 use Rattle.std.proofs.Math.Seq.{take-append_seam, drop-append_seam}
@@ -69,9 +69,6 @@ one_list (choice ∷ choices) (other ∷ others) bytes h k =
 pub record SoFar (bytes : List ℕ) (done : List Choice) (left : List ℕ) : Type 0 where
   pub here : (more : List Choice) → AreChoices left more → AreChoices bytes (done ++ more)
   pub all : (choices : List Choice) → AreChoices bytes choices → (more : List Choice) × (choices ≡ done ++ more) × AreChoices left more
-
-pub so_far_start : (bytes : List ℕ) → SoFar bytes [] bytes
-so_far_start bytes = record { here = λ more h. h; all = λ choices h. (choices, refl, h) }
 
 pub so_far_turn : (bytes : List ℕ) (done : List Choice) (left rest : List ℕ) (choice : Choice) → SoFar bytes done left → IsChoice left choice rest → SoFar bytes (done ++ choice ∷ []) rest
 so_far_turn bytes done left rest choice so is = record {

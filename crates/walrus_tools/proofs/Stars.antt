@@ -1,5 +1,5 @@
 -- A NAME and a text, compared part by part, and what a star lets forget.
-use Rattle.std.proofs.Common.{◌≡◌, ◌≤◌, ◌<◌, ◌+◌, ◌↔◌, ◌⊎◌, ℕ, List, [], ◌∷◌, ◌++◌, length, refl, sym, ap, ◌∙◌, subst, append_assoc, inl, inr, arith}
+use Rattle.std.proofs.Common.{◌≡◌, ◌≤◌, ◌+◌, ◌↔◌, ◌⊎◌, ℕ, List, [], ◌∷◌, ◌++◌, length, refl, sym, ap, ◌∙◌, subst, append_assoc, inl, inr, arith}
 use Rattle.std.specs.List.{IsFirstAndRest}
 use Rattle.walrus_tools.specs.Fits.{Part, any, byte, parts, FitParts, Fits, FitsBehind}
 use Rattle.walrus_tools.specs.Comparing.{part_seen, BeginsWith, AtStar, Lessens}
@@ -71,9 +71,6 @@ pub record Along (name text behind left : List ℕ) : Type 0 where
   pub starred : FitsBehind name text → FitsBehind behind left
   pub no_longer : length behind ≤ length name
   pub no_more : length left ≤ length text
-
-pub along_start : (name text : List ℕ) → Along name text name text
-along_start name text = record { same = (λ h. h, λ h. h); starred = λ h. h; no_longer = omega arith; no_more = omega arith }
 
 carry : {ps qs : List Part} {t u : List ℕ} → ps ≡ qs → t ≡ u → FitParts ps t → FitParts qs u
 carry {ps = ps} {qs = qs} {t = t} {u = u} parts_are texts_are h = subst (FitParts qs) texts_are (subst (λ (q : List Part). FitParts q t) parts_are h)

@@ -1,5 +1,5 @@
 -- What the steps of stripping answer.
-use Rattle.std.specs.Prelude.{◌≡◌, ◌⊎◌, List, [], ℕ, Bool, false, Result, Ok, Err, map, ⊤}
+use Rattle.std.specs.Prelude.{◌≡◌, ◌⊎◌, List, [], ℕ, false, Result, Ok, Err, map, ⊤}
 use Rattle.std.specs.Global.{Vec}
 use Rattle.wasm_frames.specs.Pieces.{Piece, HasPieces, piece_record}
 use Rattle.wasm_frames.specs.declared.pieces.RawPiece.{RawPiece}

@@ -1,5 +1,5 @@
 -- A module's bytes without the custom sections whose names are chosen ("Binary Format > Custom Section").
-use Rattle.std.specs.Prelude.{◌≡◌, ◌⊎◌, List, [], ◌∷◌, ◌++◌, ℕ, Bool, false, Contains, Option, Some, None, Result, Ok, Err, flat_map, ⊤}
+use Rattle.std.specs.Prelude.{◌≡◌, ◌⊎◌, List, [], ◌∷◌, ◌++◌, ℕ, false, Contains, Option, Some, None, Result, Ok, Err, flat_map, ⊤}
 use Rattle.std.specs.Global.{Vec}
 use Rattle.wasm_frames.specs.Frames.{header}
 use Rattle.wasm_frames.specs.Pieces.{Piece, HasPieces}

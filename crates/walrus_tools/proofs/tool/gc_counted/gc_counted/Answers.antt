@@ -1,4 +1,4 @@
-use Rattle.std.proofs.Common.{ℕ, subst}
+use Rattle.std.proofs.Common.{subst}
 use Rattle.std.specs.Prelude.{IfOk}
 use Rattle.walrus_module.specs.Flags.{Flags, config_of}
 use Rattle.walrus.specs.Headline.{RunsOn}

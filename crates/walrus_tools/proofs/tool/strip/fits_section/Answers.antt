@@ -1,7 +1,4 @@
-use Rattle.std.proofs.Common.{get_or, refl}
-use Rattle.wasm_frames.specs.Pieces.{piece_record}
-use Rattle.walrus_tools.specs.Choice.{choice_seen}
-use Rattle.walrus_tools.specs.Stripped.{FitsName}
+use Rattle.std.proofs.Common.{refl}
 use Rattle.walrus_tools.proofs.StripLemmas.{is_not, none_at_all, none_more, one_fits}
 use Rattle.walrus_tools.proofs.tool.strip.fits_section.Goals as goal
 
