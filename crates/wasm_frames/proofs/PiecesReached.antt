@@ -5,7 +5,7 @@ use Rattle.std.specs.Prelude.{Some, None}
 use Rattle.wasm_forms.proofs.Bind.{some_not_none}
 use Rattle.wasm_frames.specs.declared.pieces.RawPiece.{RawPiece}
 use Rattle.wasm_frames.specs.Frames.{header}
-use Rattle.wasm_frames.specs.Pieces.{Piece, IsPiece, ArePieces, HasPieces, PiecesUntil, piece_record}
+use Rattle.wasm_frames.specs.Pieces.{Piece, IsPiece, ArePieces, PiecesUntil, piece_record}
 use Rattle.wasm_frames.specs.PieceSteps.{piece_at}
 use Rattle.wasm_frames.proofs.PieceText.{piece_exact}
 
@@ -67,12 +67,3 @@ pieces_stop bytes rest so_far h none some = record {
       let place : ℕ = length bytes - length rest in
       some_not_none (p, back) (sym (ap (piece_at place) e ∙ (piece_exact place).again front back p t) ∙ none);
 }
-
--- at the end
-pub pieces_end : (bytes rest : List ℕ) (so_far : List Piece) → PiecesReached bytes rest so_far → length rest ≡ 0 → HasPieces bytes so_far
-pieces_end bytes [] so_far h none = record {
-  rest = h.whole;
-  headed = h.headed ∙ ap (λ l. header ++ l) (append-nil h.whole);
-  framed = h.framed;
-}
-pieces_end bytes (b ∷ rest) so_far h none = absurd (omega arith)
