@@ -30,7 +30,6 @@ use Rattle.walrus_model.specs.WellMade.{ImportsMatch}
 use Rattle.walrus_items.specs.Transform as parts
 use Rattle.walrus_items.specs.Transform.{location_of, transform_of}
 use Rattle.walrus_items.specs.declared.error.Error.{Error}
-use Rattle.walrus_items.specs.declared.error.Error.TheVariants.{Memory, NotWritable, TooLarge}
 use Rattle.walrus_items.specs.declared.transform.CodeTransform.{CodeTransform}
 use Rattle.walrus_plan.specs.Reads.{ReadsInOrder}
 use Rattle.walrus_theorem.specs.Refused as causes

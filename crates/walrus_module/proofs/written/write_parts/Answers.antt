@@ -31,10 +31,10 @@ returns-in_err-prepared g c =
     (plan_refused_of (Vec ℕ × CodeTransform) (config_of flags) c.args.parts v refl e c.in_err-prepared.ensures.refused))
     (unfollowed G flags.preserve_code_transform _ _ c.args.customs.now _) (λ are. refl))
 
-pub returns-then-not : goal.returns-then-not
-returns-then-not g c =
+pub returns-then-not-switches : goal.returns-then-not-switches
+returns-then-not-switches g c =
     let G = λ (i : g.dyn-1.0.I). (g.dyn-1.0.entry i).1 in
-    parts_unfollowed G (flags_of c.args.switches) c.args.parts (index_of c.in_ok-prepared.prepared.indices) c.args.tells c.args.customs.now c.written.result c.if-not.true c.written.ensures
+    parts_unfollowed G (flags_of c.args.switches) c.args.parts (index_of c.in_ok-prepared.prepared.indices) c.args.tells c.args.customs.now c.written.result c.if-not-switches.true c.written.ensures
 
 pub returns-in_err-transform : goal.returns-in_err-transform
 returns-in_err-transform g c =
@@ -47,7 +47,7 @@ returns-in_err-transform g c =
     let p = err_from_is_err_and c.from_residual-in_err-transform.result c.from_residual-in_err-transform.ensures.1 in
     rw (p.1, p.2) (parts_refused G flags c.args.parts c.args.tells old new e
     (refused_then (OneAskedMayRefuse (meant G old)) (OneMayRefuseThen G old new) (λ a. inl a) (config_of flags) (with_sections (parts_view c.args.parts) (meant G new)) (Unit {0}) (Vec ℕ × CodeTransform) (refusal_of e) followed.refused)
-    (left_so G flags.preserve_code_transform true _ _ old old new _ (sym c.if-not.false) refl (left_err G true _ _ _ old new e followed.customs)) followed.raw)
+    (left_so G flags.preserve_code_transform true _ _ old old new _ (sym c.if-not-switches.false) refl (left_err G true _ _ _ old new e followed.customs)) followed.raw)
 
 pub returns-in_err-bytes : goal.returns-in_err-bytes
 returns-in_err-bytes g c =
@@ -61,7 +61,7 @@ returns-in_err-bytes g c =
     let p = err_from_is_err_and c.from_residual-in_err-bytes.result c.from_residual-in_err-bytes.ensures.1 in
     rw (p.1, p.2) (parts_refused G flags c.args.parts c.args.tells old new e
     (refused_then (OneAskedMayRefuse (meant G new)) (OneMayRefuseThen G old new) (λ a. inr a) (config_of flags) (with_sections (parts_view c.args.parts) (meant G new)) (Vec ℕ × CodeTransform) (Vec ℕ × CodeTransform) (refusal_of e) c.in_err-bytes.ensures.refused)
-    (left_so G flags.preserve_code_transform true _ _ old old new _ (sym c.if-not.false) refl
+    (left_so G flags.preserve_code_transform true _ _ old old new _ (sym c.if-not-switches.false) refl
     (left_anyway G _ _ _ old new transform e
     (λ x is. subst (IsToldOf (config_of flags) (lent c.args.parts) (asked_first (meant G old))) (sym is) (told_so c.args.parts (config_of flags) c.in_ok-prepared.prepared _ transform c.in_ok-prepared.ensures.prepared followed.told))
     followed.customs)) followed.raw)
@@ -80,7 +80,7 @@ returns g c =
     let transform = c.in_ok-transform.transform in
     let followed = c.in_ok-transform.ensures in
     let wrote = c.in_ok-bytes.ensures in
-    let on = sym c.if-not.false in
+    let on = sym c.if-not-switches.false in
     record {
       emitted = wrote.emitted;
       refused = wrote.refused;
