@@ -148,19 +148,14 @@ module _ {V : Type 0} {O : V → Type 0} (G : (v : V) → Ghosts (O v)) where
   followed_or_not x (Some s) (Some t) h = (h.0, inl h.1)
 
   -- where what comes behind it is refused
-  pub left_anyway : {X Y E : Type 0} (Tells : X → Transform → Type 0) (Other : Y → Transform → Type 0) (Told : Transform → Type 0) (old new : ModuleCustomSections (SectionEntry V O)) (r : X) (e : E)
-      → ((x : Transform) → Tells r x → Told x) → LeavesCustoms G {E = E} true Tells Told old new (Ok r) → LeavesCustoms G true Other Told old new (Err e)
-  left_anyway Tells Other Told old new r e through (x, (is, all)) = inr (x, (through x is, record { places = all.places; comes = λ i. followed_or_not x _ _ (all.comes i) }))
+  pub left_anyway : {X : Type 0} (E : Type 0) (Tells : X → Transform → Type 0) (Told : Transform → Type 0) (old new : ModuleCustomSections (SectionEntry V O)) (r : X) (e : E)
+      → ((x : Transform) → Tells r x → Told x) → LeavesCustoms G {E = E} true Tells Told old new (Ok r) → LeavesCustoms G {E = E} true Tells Told old new (Err e)
+  left_anyway E Tells Told old new r e through (x, (is, all)) = inr (x, (through x is, record { places = all.places; comes = λ i. followed_or_not x _ _ (all.comes i) }))
 
   pub left_err : {X Y E : Type 0} (hands : Bool) (Tells : X → Transform → Type 0) (Other : Y → Transform → Type 0) (Told : Transform → Type 0) (old new : ModuleCustomSections (SectionEntry V O)) (e : E)
       → LeavesCustoms G hands Tells Told old new (Err e) → LeavesCustoms G hands Other Told old new (Err e)
   left_err false Tells Other Told old new e h = h
   left_err true Tells Other Told old new e h = h
-
-  pub left_ok : {X Y : Type 0} (E : Type 0) (hands : Bool) (Tells : X → Transform → Type 0) (Other : Y → Transform → Type 0) (Told : Transform → Type 0) (old new : ModuleCustomSections (SectionEntry V O)) (r : X) (s : Y)
-      → ((x : Transform) → Tells r x → Other s x) → LeavesCustoms G {E = E} hands Tells Told old new (Ok r) → LeavesCustoms G {E = E} hands Other Told old new (Ok s)
-  left_ok E false Tells Other Told old new r s through h = h
-  left_ok E true Tells Other Told old new r s through (x, (is, all)) = (x, (through x is, all))
 
   pub left_told : {X Y : Type 0} (E : Type 0) (hands : Bool) (Tells : X → Transform → Type 0) (Other : Y → Transform → Type 0) (Told : Transform → Type 0) (old new : ModuleCustomSections (SectionEntry V O)) (r : X) (s : Y)
       → (hands ≡ true → (x : Transform) → Tells r x → Other s x) → LeavesCustoms G {E = E} hands Tells Told old new (Ok r) → LeavesCustoms G {E = E} hands Other Told old new (Ok s)

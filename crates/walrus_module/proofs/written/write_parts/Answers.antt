@@ -1,9 +1,11 @@
-use Rattle.std.proofs.Common.{ℕ, ◌∙◌, Bool, true, Err, inl, inr, refl, subst, sym}
+use Rattle.std.proofs.Common.{◌≡◌, ℕ, ◌∙◌, Bool, true, Err, inl, inr, refl, subst, sym}
 use Rattle.std.specs.Global.{Vec}
 use Rattle.std.proofs.lemmas.Result.{err_from_is_err_and}
+use Rattle.walrus_base.proofs.DistinctLemmas.{not_false, not_true}
 use Rattle.walrus_code.specs.Indices.{index_of}
 use Rattle.walrus_contents.specs.View.{lent, parts_view}
 use Rattle.walrus_items.specs.Transform.{transform_of}
+use Rattle.walrus_items.specs.declared.error.Error.{Error}
 use Rattle.walrus_items.specs.declared.transform.CodeTransform.{CodeTransform}
 use Rattle.walrus_theorem.specs.Refused.{IsSayable}
 use Rattle.walrus_writing.specs.Emitted.{refusal_of, told}
@@ -16,7 +18,7 @@ use Rattle.walrus_module.specs.View.{meant, with_sections}
 use Rattle.walrus_module.proofs.OwnSections.{refused_anyway}
 use Rattle.walrus_module.proofs.WellWritten.{written_with}
 use Rattle.walrus_module.proofs.WrittenForms.{parts_refused, parts_unfollowed}
-use Rattle.walrus_module.proofs.WrittenSections.{asks, dylinks_stay, group_asked, left_anyway, left_err, left_ok, left_so, refused_then, told_so, unfollowed}
+use Rattle.walrus_module.proofs.WrittenSections.{asks, dylinks_stay, group_asked, left_anyway, left_so, refused_then, told_so, unfollowed}
 use Rattle.walrus_module.proofs.written.write_parts.Goals as goal
 
 pub returns-in_err-prepared : goal.returns-in_err-prepared
@@ -34,7 +36,7 @@ returns-in_err-prepared g c =
 pub returns-then-not-switches : goal.returns-then-not-switches
 returns-then-not-switches g c =
     let G = λ (i : g.dyn-1.0.I). (g.dyn-1.0.entry i).1 in
-    parts_unfollowed G (flags_of c.args.switches) c.args.parts (index_of c.in_ok-prepared.prepared.indices) c.args.tells c.args.customs.now c.written.result c.if-not-switches.true c.written.ensures
+    parts_unfollowed G (flags_of c.args.switches) c.args.parts (index_of c.in_ok-prepared.prepared.indices) c.args.tells c.args.customs.now c.written.result (not_true _ c.args.switches.preserve_code_transform refl c.if-not-switches.true) c.written.ensures
 
 pub returns-in_err-transform : goal.returns-in_err-transform
 returns-in_err-transform g c =
@@ -47,7 +49,7 @@ returns-in_err-transform g c =
     let p = err_from_is_err_and c.from_residual-in_err-transform.result c.from_residual-in_err-transform.ensures.1 in
     rw (p.1, p.2) (parts_refused G flags c.args.parts c.args.tells old new e
     (refused_then (OneAskedMayRefuse (meant G old)) (OneMayRefuseThen G old new) (λ a. inl a) (config_of flags) (with_sections (parts_view c.args.parts) (meant G new)) (Unit {0}) (Vec ℕ × CodeTransform) (refusal_of e) followed.refused)
-    (left_so G flags.preserve_code_transform true _ _ old old new _ (sym c.if-not-switches.false) refl (left_err G true _ _ _ old new e followed.customs)) followed.raw)
+    (left_so G flags.preserve_code_transform true _ _ old old new _ (sym (not_false _ flags.preserve_code_transform refl c.if-not-switches.false)) refl followed.customs) followed.raw)
 
 pub returns-in_err-bytes : goal.returns-in_err-bytes
 returns-in_err-bytes g c =
@@ -61,8 +63,8 @@ returns-in_err-bytes g c =
     let p = err_from_is_err_and c.from_residual-in_err-bytes.result c.from_residual-in_err-bytes.ensures.1 in
     rw (p.1, p.2) (parts_refused G flags c.args.parts c.args.tells old new e
     (refused_then (OneAskedMayRefuse (meant G new)) (OneMayRefuseThen G old new) (λ a. inr a) (config_of flags) (with_sections (parts_view c.args.parts) (meant G new)) (Vec ℕ × CodeTransform) (Vec ℕ × CodeTransform) (refusal_of e) c.in_err-bytes.ensures.refused)
-    (left_so G flags.preserve_code_transform true _ _ old old new _ (sym c.if-not-switches.false) refl
-    (left_anyway G _ _ _ old new transform e
+    (left_so G flags.preserve_code_transform true _ _ old old new _ (sym (not_false _ flags.preserve_code_transform refl c.if-not-switches.false)) refl
+    (left_anyway G Error (λ (t : CodeTransform) x. x ≡ transform_of t) (IsToldOf (config_of flags) (lent c.args.parts) (asked_first (meant G old))) old new transform e
     (λ x is. subst (IsToldOf (config_of flags) (lent c.args.parts) (asked_first (meant G old))) (sym is) (told_so c.args.parts (config_of flags) c.in_ok-prepared.prepared _ transform c.in_ok-prepared.ensures.prepared followed.told))
     followed.customs)) followed.raw)
 
@@ -80,13 +82,13 @@ returns g c =
     let transform = c.in_ok-transform.transform in
     let followed = c.in_ok-transform.ensures in
     let wrote = c.in_ok-bytes.ensures in
-    let on = sym c.if-not-switches.false in
+    let on = sym (not_false _ flags.preserve_code_transform refl c.if-not-switches.false) in
     record {
       emitted = wrote.emitted;
       refused = wrote.refused;
-      customs = left_so G flags.preserve_code_transform true _ _ old old new _ on refl (left_ok G _ true _ _ _ old new transform _ (λ x is. is) followed.customs);
+      customs = left_so G flags.preserve_code_transform true _ _ old old new _ on refl followed.customs;
       transform = λ asked. subst (λ (b : Bool). IsSayable v → IsTransformOf config b (locations_at c.args.parts) v bytes.items (transform_of transform)) on
           (λ sayable. followed.told config v (all_asked names ms) bytes.items (written_with config (choices_of config) refl) (asks c.args.parts names ms (all_asked names ms) refl wrote.texts) sayable
-          (group_asked names ms ∙ dylinks_stay G _ true _ _ old new transform followed.customs) wrote.spells);
+          (group_asked names ms ∙ dylinks_stay G Error true (λ (t : CodeTransform) x. x ≡ transform_of t) (IsToldOf config (lent c.args.parts) (asked_first (meant G old))) old new transform followed.customs) wrote.spells);
       raw = followed.raw;
     }
