@@ -36,8 +36,6 @@ pub fn counts(alloc: Global, bytes: &[u8], wanted: Wanted) -> Result<Counted>
     let mut module = config.parse(alloc, bytes)?;
     let before = kinds_of(&module);
     gc::run(alloc, &mut module)?;
-    Ok(Counted {
-        before,
-        after: kinds_of(&module),
-    })
+    let after = kinds_of(&module);
+    Ok(Counted { before, after })
 }
