@@ -53,7 +53,8 @@ fn listed(
     all: &ModuleFunctions,
     body: &(FunctionId, Range<usize>),
 ) -> result::Result<Listed, AllocError>
-    ensures { IfOk result (λ f. listed_seen f ≡ listed_of (names_in (functions all.now)) (range_of body.now)) }
+    ensures { IfOk result (λ f. listed_seen f
+        ≡ listed_of (names_in (functions all.now)) (range_of body.now)) }
 {
     let name = name_of(alloc, all, body.0)?;
     Ok(Listed {
