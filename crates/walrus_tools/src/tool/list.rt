@@ -48,7 +48,7 @@ fn name_of(
 }
 
 // A function with this body.
-fn listed(
+fn listed_of(
     alloc: Global,
     all: &ModuleFunctions,
     body: &(FunctionId, Range<usize>),
@@ -75,7 +75,7 @@ fn all_listed(
 {
     let mut list = Vec::new(alloc);
     for body in bodies {
-        let function = listed(alloc, all, body)?;
+        let function = listed_of(alloc, all, body)?;
         list.push(function)?;
     }
     Ok(list)
