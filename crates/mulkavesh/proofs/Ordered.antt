@@ -231,13 +231,13 @@ unmissed w ws o says same p =
 
 unsaid : (w : Work) (ws : List (String Global)) → ((n : Said) (p : Place) → put_words (new_said w) Anywhere ws ≡ Ok (n, p) → lacking n p ≡ None → ⊥) → (o : Said) → SaysOrder (work_word w ∷ map string_bytes ws) o → ⊥
 unsaid w ws never o says = by (complete says.behind says.pieces ws (new_said w) are (record {
-    well = new_well w;
-    plain_words = says.plain_words;
-    known = subst (λ (work : Work). All (λ (f : Flag). has_flag work f ≡ true) (flat_map flag_in says.pieces)) (sym same) says.known;
-    known_values = subst (λ (work : Work). All (λ (k : Naming). has_naming work k ≡ true) (flat_map naming_in says.pieces)) (sym same) says.known_values;
-    outs = omega (arith, outs);
-    small = omega (arith, small);
-  }))
+  well = new_well w;
+  plain_words = says.plain_words;
+  known = subst (λ (work : Work). All (λ (f : Flag). has_flag work f ≡ true) (flat_map flag_in says.pieces)) (sym same) says.known;
+  known_values = subst (λ (work : Work). All (λ (k : Naming). has_naming work k ≡ true) (flat_map naming_in says.pieces)) (sym same) says.known_values;
+  outs = omega (arith, outs);
+  small = omega (arith, small);
+}))
   where
     same : w ≡ o.work
     same = same_work w o.work (let head : work_word w ≡ work_word o.work = let are = says.are in cc in head)

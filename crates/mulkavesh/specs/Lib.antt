@@ -1,4 +1,5 @@
 pub mod Cause
+pub mod Choices
 pub mod Command
 pub mod Entries
 pub mod Message

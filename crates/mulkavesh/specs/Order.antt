@@ -128,6 +128,14 @@ has_all work.Strip = true
 has_all work.Sections = true
 has_all _ = false
 
+-- what it writes is a module
+abbrev pub makes_module : Work → Bool
+makes_module work.Gc = true
+makes_module work.Strip = true
+makes_module work.Snip = true
+makes_module work.Stub = true
+makes_module _ = false
+
 -- the subcommand has the option
 abbrev pub has_flag : Work → Flag → Bool
 has_flag w Quiet = is_gc w

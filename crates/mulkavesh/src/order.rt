@@ -1,7 +1,7 @@
 //! What can be asked for on the command line.
 
 ghost use Rattle.std.specs.Prelude.{◌≡◌};
-ghost use Rattle.mulkavesh.specs.Order.{IsWorkOf, asks_gone, flag_named, has_flag, has_naming, has_operand, joined_front, naming_named, new_said, new_wanted, said, value_bytes};
+ghost use Rattle.mulkavesh.specs.Order.{IsWorkOf, asks_gone, flag_named, has_flag, has_naming, has_operand, joined_front, makes_module, naming_named, new_said, new_wanted, said, value_bytes};
 
 use std::alloc::Global;
 use walrus_tools::Wanted;
@@ -239,4 +239,11 @@ pub(crate) fn takes_value(work: Work, naming: Naming) -> bool
         Naming::Section => work == Work::Strip,
         _ => true,
     }
+}
+
+/// Whether what the subcommand writes is a module.
+pub(crate) fn writes_module(work: Work) -> bool
+    ensures { result ≡ makes_module work }
+{
+    matches!(work, Work::Gc | Work::Strip | Work::Snip | Work::Stub)
 }
