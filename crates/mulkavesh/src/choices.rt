@@ -1,10 +1,10 @@
 //! Which custom sections `strip` takes away.
 
 ghost use Rattle.std.specs.Prelude.{◌≡◌, ◌∷◌, ◌++◌, [], IfOk};
-ghost use Rattle.mulkavesh.specs.Choices.{all_choices, choices_of, going, staying, where_said};
+ghost use Rattle.mulkavesh.specs.Choices.{all_choices, choices_of, going, section_choices, staying, where_said};
 ghost use Rattle.walrus_tools.specs.Choice.{choice_seen, choices_seen};
 
-use crate::order::Order;
+use crate::order::{Order, Value};
 use std::alloc::{AllocError, Global};
 use walrus_tools::Choice;
 
@@ -28,14 +28,22 @@ fn staying(name: &str) -> Choice<'_>
     }
 }
 
+// The sections of each of these NAMEs go.
+fn named<'a>(alloc: Global, values: &'a [Value]) -> Result<Vec<Choice<'a>>, AllocError>
+    ensures { IfOk result (λ v. choices_seen v.items ≡ section_choices values.now) }
+{
+    let mut choices = Vec::new(alloc);
+    'values: for value in values {
+        choices.push(going(value.text()))?;
+    }
+    Ok(choices)
+}
+
 /// What the order says of the names of custom sections.
 pub(crate) fn choices_of<'a>(alloc: Global, order: &'a Order) -> Result<Vec<Choice<'a>>, AllocError>
     ensures { IfOk result (λ v. choices_seen v.items ≡ choices_of order.now) }
 {
-    let mut choices = Vec::new(alloc);
-    'sections: for value in &order.sections {
-        choices.push(going(value.text()))?;
-    }
+    let mut choices = named(alloc, &order.sections)?;
     add_where(&mut choices, order.gone.names, "name")?;
     add_where(&mut choices, order.gone.producers, "producers")?;
     add_where(&mut choices, order.gone.debug, ".debug*")?;
