@@ -1,21 +1,12 @@
 -- What subcommands answer, by what the library answered.
-use Rattle.std.proofs.Common.{◌≡◌, ℕ, Bool, true, false, List, sym, subst}
+use Rattle.std.proofs.Common.{◌≡◌, ℕ, false, List, sym, subst}
 use Rattle.std.specs.Prelude.{Result, Ok}
 use Rattle.walrus_tools.specs.Handed.{Error}
 use Rattle.std.specs.Global.{Vec}
 use Rattle.mulkavesh.specs.declared.subcommands.Made.{Made}
 use Rattle.mulkavesh.specs.declared.order.Order.{Order}
 use Rattle.mulkavesh.specs.declared.order.Work.{Work}
-use Rattle.mulkavesh.specs.Subcommands.{Answer, AnswersOrder, AnswersWork, ForPeople, NotesNothing, WritesAlone}
-
--- what is so is so for people
-pub for_people : (is_json : Bool) (P : Type 0) → P → ForPeople is_json P
-for_people true P p = tt
-for_people false P p = p
-
-pub for_programs : (is_json : Bool) (P : Type 0) → is_json ≡ true → ForPeople is_json P
-for_programs true P is = tt
-for_programs false P is = absurd (cc)
+use Rattle.mulkavesh.specs.Subcommands.{Answer, AnswersOrder, AnswersWork, NotesNothing, WritesAlone}
 
 -- by the subcommand of an order
 pub by_work : (o : Order) (bytes : List ℕ) (w : Work) (r : Result Made Error) → o.work ≡ w → AnswersWork w o bytes r → AnswersOrder o bytes r

@@ -2,8 +2,10 @@ mod Answered
 mod CauseLemmas
 mod Choosing
 mod Complete
+mod Escaping
 mod Help
 mod Itself
+mod JsonLists
 mod Lines
 mod Ordered
 mod Pieces
