@@ -656,10 +656,10 @@ def stub_env(size):
 alike(
     "sections_small", "custom sections of a name of one byte: 250,000 and 2,500,000 (mulkavesh sections)", custom(b"a"), sections, subcommand=("sections",))
 alike(
-    "strip_small", "the same sections, all taken away (mulkavesh strip a)", custom(b"a"), sections, subcommand=("strip", "a"))
+    "strip_small", "the same sections, all taken away (mulkavesh strip --section a)", custom(b"a"), sections, subcommand=("strip", "--section", "a"))
 alike(
     "strip_star", "custom sections with names of 40 bytes, which a NAME with many stars does not fit (mulkavesh strip)", custom(b"a" * 40), sections,
-    ending=(1, b"mulkavesh: standard input: there is no custom section of this name\n", False), subcommand=("strip", "*a*a*a*a*b"))
+    ending=(1, b"mulkavesh: standard input: one of the options fits no custom section\n", False), subcommand=("strip", "--section", "*a*a*a*a*b"))
 
 
 # What is refused late.

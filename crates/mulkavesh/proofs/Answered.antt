@@ -3,15 +3,14 @@ use Rattle.std.proofs.Common.{◌≡◌, ℕ, false, List, sym, subst}
 use Rattle.std.specs.Prelude.{Result, Ok}
 use Rattle.walrus_tools.specs.Handed.{Error}
 use Rattle.std.specs.Global.{Vec}
-use Rattle.walrus_tools.specs.Wanted.{config_wanted}
 use Rattle.mulkavesh.specs.declared.subcommands.Made.{Made}
 use Rattle.mulkavesh.specs.declared.order.Order.{Order}
 use Rattle.mulkavesh.specs.declared.order.Work.{Work}
-use Rattle.mulkavesh.specs.Subcommands.{Answer, AnswersOrder, AnswersWork, NotesNothing, WritesAlone, operand_bytes}
+use Rattle.mulkavesh.specs.Subcommands.{Answer, AnswersOrder, AnswersWork, NotesNothing, WritesAlone}
 
 -- by the subcommand of an order
-pub by_work : (o : Order) (bytes : List ℕ) (w : Work) (r : Result Made Error) → o.work ≡ w → AnswersWork w (config_wanted o.wanted) o.is_quiet o.is_json (operand_bytes o.operand) bytes r → AnswersOrder o bytes r
-by_work o bytes w r is answers = subst (λ (v : Work). AnswersWork v (config_wanted o.wanted) o.is_quiet o.is_json (operand_bytes o.operand) bytes r) (sym is) answers
+pub by_work : (o : Order) (bytes : List ℕ) (w : Work) (r : Result Made Error) → o.work ≡ w → AnswersWork w o bytes r → AnswersOrder o bytes r
+by_work o bytes w r is answers = subst (λ (v : Work). AnswersWork v o bytes r) (sym is) answers
 
 -- what a call answered is written, and nothing is noted
 pub written : (Answers : Answer → Type 0) (output : Vec ℕ) (m : Made) → m.output ≡ output → m.is_refused ≡ false → NotesNothing m → Answers (Ok output) → WritesAlone Answers (Ok m)

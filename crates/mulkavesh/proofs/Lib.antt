@@ -1,5 +1,6 @@
 mod Answered
 mod CauseLemmas
+mod Choosing
 mod Complete
 mod Escaping
 mod Help

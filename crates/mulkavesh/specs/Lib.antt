@@ -1,5 +1,6 @@
 pub mod Cause
 pub mod Chains
+pub mod Choices
 pub mod Command
 pub mod Entries
 pub mod Json

@@ -2,22 +2,23 @@
 
 ghost use Rattle.std.specs.Prelude.{◌≡◌, ◌∷◌, [], false};
 ghost use Rattle.mulkavesh.specs.Chains.{chain_told};
+ghost use Rattle.mulkavesh.specs.Choices.{choices_of};
 ghost use Rattle.mulkavesh.specs.Entries.{listed_told};
 ghost use Rattle.mulkavesh.specs.Reports.{counted_json};
-ghost use Rattle.mulkavesh.specs.Subcommands.{AnswersOrder, AnswersWhy, NotesNothing, Reports, Told, Writes, WritesQuietly, named, operand_bytes, vec_bytes};
+ghost use Rattle.mulkavesh.specs.Subcommands.{AnswersOrder, AnswersWhy, NotesNothing, Reports, Told, Writes, WritesQuietly, operand_bytes, vec_bytes};
 ghost use Rattle.walrus_tools.specs.Handed.{RunsOn, config_of, defaults};
 ghost use Rattle.walrus_tools.specs.Kinds.{AnswersCounted};
 ghost use Rattle.walrus_tools.specs.Sized.{AnswersListed};
 ghost use Rattle.walrus_tools.specs.Stripped.{AnswersStripped};
 ghost use Rattle.walrus_tools.specs.Wanted.{config_wanted};
 
+use crate::choices::choices_of;
 use crate::notes::note_of;
 use crate::order::{Order, Work};
 use crate::{chains, entries, reports, sections, verdicts};
 use std::alloc::Global;
 use walrus_tools::{
-    Chain, Choice, Error, Wanted, counts, gc, gc_counted, list, report, snip, strip, stub, why,
-    why_called,
+    Chain, Error, Wanted, counts, gc, gc_counted, list, report, snip, strip, stub, why, why_called,
 };
 
 /// What a subcommand makes.
@@ -65,7 +66,7 @@ pub(crate) fn make(alloc: Global, order: &Order, bytes: &[u8]) -> Result<Made, E
         Work::List => Ok(only(alloc, listed(alloc, order, bytes)?)),
         Work::Check => verdicts::checked(alloc, order, bytes),
         Work::Sections => sections::told(alloc, order, bytes),
-        Work::Strip => Ok(only(alloc, stripped(alloc, bytes, operand)?)),
+        Work::Strip => Ok(only(alloc, stripped(alloc, bytes, order)?)),
         Work::Snip => Ok(only(alloc, snip(alloc, bytes, operand)?)),
         Work::Stub => Ok(only(alloc, stub(alloc, bytes, operand)?)),
         Work::Why => Ok(only(alloc, reasoned(alloc, order, bytes, operand)?)),
@@ -123,15 +124,12 @@ fn listed(alloc: Global, order: &Order, bytes: &[u8]) -> Result<Vec<u8>, Error>
     Ok(entries::told(alloc, order.is_json, &functions)?)
 }
 
-// What is left without the custom sections of this name.
-fn stripped(alloc: Global, bytes: &[u8], operand: &str) -> Result<Vec<u8>, Error>
-    ensures { AnswersStripped bytes.now (named operand.now ∷ []) result }
+// What is left without the custom sections that go.
+fn stripped(alloc: Global, bytes: &[u8], order: &Order) -> Result<Vec<u8>, Error>
+    ensures { AnswersStripped bytes.now (choices_of order.now) result }
 {
-    let choice = Choice {
-        is_kept: false,
-        name: operand.as_bytes(),
-    };
-    strip(alloc, bytes, &[choice])
+    let choices = choices_of(alloc, order)?;
+    strip(alloc, bytes, &choices)
 }
 
 // Why a function stays.
