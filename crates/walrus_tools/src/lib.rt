@@ -21,6 +21,7 @@ mod functions;
 mod law;
 mod lines;
 mod numbers;
+mod parts;
 #[cfg(test)]
 mod samples;
 #[cfg(test)]
@@ -43,11 +44,13 @@ pub use examples::with_metadata::with_metadata;
 pub use examples::with_places::with_places;
 pub use law::moves_once;
 pub use numbers::NO_NAME;
+pub use parts::{Item, Part, one_part_list};
 pub use tool::diagnose::{diagnose, fault, fault_words};
 pub use tool::gc::gc;
 pub use tool::gc_counted::{Kinds, Smaller, gc_counted};
 pub use tool::list::list;
 pub use tool::report::report;
+pub use tool::section_parts::{part_list, section_parts};
 pub use tool::sections::{section_list, sections};
 pub use tool::snip::snip;
 pub use tool::strip::strip;
