@@ -19,8 +19,8 @@ for_programs true P is = tt
 for_programs false P is = absurd (cc)
 
 -- by the subcommand of an order
-pub by_work : (o : Order) (bytes : List ℕ) (w : Work) (r : Result Made Error) → o.work ≡ w → AnswersWork w (config_wanted o.wanted) o.is_quiet o.is_json (operand_bytes o.operand) bytes r → AnswersOrder o bytes r
-by_work o bytes w r is answers = subst (λ (v : Work). AnswersWork v (config_wanted o.wanted) o.is_quiet o.is_json (operand_bytes o.operand) bytes r) (sym is) answers
+pub by_work : (o : Order) (bytes : List ℕ) (w : Work) (r : Result Made Error) → o.work ≡ w → AnswersWork w (config_wanted o.wanted) o.is_quiet o.is_all o.is_json (operand_bytes o.operand) bytes r → AnswersOrder o bytes r
+by_work o bytes w r is answers = subst (λ (v : Work). AnswersWork v (config_wanted o.wanted) o.is_quiet o.is_all o.is_json (operand_bytes o.operand) bytes r) (sym is) answers
 
 -- what a call answered is written, and nothing is noted
 pub written : (Answers : Answer → Type 0) (output : Vec ℕ) (m : Made) → m.output ≡ output → m.is_refused ≡ false → NotesNothing m → Answers (Ok output) → WritesAlone Answers (Ok m)

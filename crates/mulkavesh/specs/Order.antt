@@ -113,6 +113,7 @@ new_order w = record {
   wanted = record { names = true; producers = true; legacy = true };
   is_quiet = false;
   is_json = false;
+  is_all = false;
   operand = None;
   input = None;
   output = None;

@@ -8,6 +8,7 @@ use Rattle.walrus_tools.specs.Diagnosed.{Finds, WordsFault}
 use Rattle.walrus_tools.specs.Found.{AnswersFound, IsFound}
 use Rattle.walrus_tools.specs.Handed.{Config, Error, Fault, InvalidWasm, Memory, ReportsOn, RunsOn, config_of, defaults, item_of}
 use Rattle.walrus_tools.specs.Kinds.{AnswersCounted}
+use Rattle.walrus_tools.specs.PartList.{HasParts, IsNone, Part}
 use Rattle.walrus_tools.specs.Reasons.{AnswersChain, HoldsChain, chain_seen, chain_text}
 use Rattle.walrus_tools.specs.Choice.{Choice}
 use Rattle.walrus_tools.specs.Sections.{LacksHeader, Piece, StandUpTo}
@@ -23,7 +24,7 @@ use Rattle.mulkavesh.specs.declared.order.Order.{Order}
 use Rattle.mulkavesh.specs.declared.order.Work.{Work}
 use Rattle.mulkavesh.specs.declared.order.Work.TheVariants as work
 use Rattle.mulkavesh.specs.Entries.{listed_text}
-use Rattle.mulkavesh.specs.Sections.{section_line, stop_text}
+use Rattle.mulkavesh.specs.Sections.{part_line, section_line, stop_text}
 
 -- what a call of the library answers: bytes, or why not
 abbrev pub Answer : Type 0
@@ -116,6 +117,26 @@ TellsSections bytes is_json (Err (InvalidWasm kind)) = LacksHeader bytes
 TellsSections bytes is_json (Err (Memory e)) = ⊤
 TellsSections bytes is_json (Err _) = ⊥
 
+-- a line for each part of the module that the bytes are, and nothing is noted
+pub record SaysParts (bytes : List ℕ) (is_json : Bool) (m : Made) : Type 0 where
+  pub parts : List Part
+  pub has : HasParts bytes parts
+  pub lines : ForPeople is_json (m.output.items ≡ flat_map part_line parts)
+  pub alone : NotesNothing m
+  pub accepted : m.is_refused ≡ false
+
+-- that, or the bytes are no module, or memory ran out
+abbrev pub TellsParts : (bytes : List ℕ) → (is_json : Bool) → Result Made Error → Type 0
+TellsParts bytes is_json (Ok m) = SaysParts bytes is_json m
+TellsParts bytes is_json (Err (InvalidWasm kind)) = IsNone bytes
+TellsParts bytes is_json (Err (Memory e)) = ⊤
+TellsParts bytes is_json (Err _) = ⊥
+
+-- sections as they stand, or all that a module has
+abbrev pub TellsAll : (bytes : List ℕ) → (is_all is_json : Bool) → Result Made Error → Type 0
+TellsAll bytes false is_json = TellsSections bytes is_json
+TellsAll bytes true is_json = TellsParts bytes is_json
+
 -- ---- why
 
 -- the word says an index of 32 bits
@@ -151,17 +172,17 @@ operand_bytes (Some word) = string_bytes word
 abbrev pub named : (operand : List ℕ) → Choice
 named operand = record { is_kept = false; name = operand }
 
-abbrev pub AnswersWork : Work → Config → (is_quiet is_json : Bool) → (operand bytes : List ℕ) → Result Made Error → Type 0
-AnswersWork work.Gc c is_quiet is_json operand bytes = WritesQuietly is_quiet (RunsOn c bytes vec_bytes)
-AnswersWork work.Report c is_quiet is_json operand bytes = WritesAlone (Reports is_json c bytes)
-AnswersWork work.List c is_quiet is_json operand bytes = WritesAlone (Told is_json listed_text (AnswersListed c bytes))
-AnswersWork work.Check c is_quiet is_json operand bytes = Checks c bytes is_json
-AnswersWork work.Sections c is_quiet is_json operand bytes = TellsSections bytes is_json
-AnswersWork work.Strip c is_quiet is_json operand bytes = WritesAlone (AnswersStripped bytes (named operand ∷ []))
-AnswersWork work.Snip c is_quiet is_json operand bytes = Writes (AnswersSnipped (config_of defaults) bytes operand)
-AnswersWork work.Stub c is_quiet is_json operand bytes = Writes (AnswersStubbed (config_of defaults) bytes operand)
-AnswersWork work.Why c is_quiet is_json operand bytes = WritesAlone (Told is_json chain_told (AnswersWhy (config_of defaults) bytes operand))
+abbrev pub AnswersWork : Work → Config → (is_quiet is_all is_json : Bool) → (operand bytes : List ℕ) → Result Made Error → Type 0
+AnswersWork work.Gc c is_quiet is_all is_json operand bytes = WritesQuietly is_quiet (RunsOn c bytes vec_bytes)
+AnswersWork work.Report c is_quiet is_all is_json operand bytes = WritesAlone (Reports is_json c bytes)
+AnswersWork work.List c is_quiet is_all is_json operand bytes = WritesAlone (Told is_json listed_text (AnswersListed c bytes))
+AnswersWork work.Check c is_quiet is_all is_json operand bytes = Checks c bytes is_json
+AnswersWork work.Sections c is_quiet is_all is_json operand bytes = TellsAll bytes is_all is_json
+AnswersWork work.Strip c is_quiet is_all is_json operand bytes = WritesAlone (AnswersStripped bytes (named operand ∷ []))
+AnswersWork work.Snip c is_quiet is_all is_json operand bytes = Writes (AnswersSnipped (config_of defaults) bytes operand)
+AnswersWork work.Stub c is_quiet is_all is_json operand bytes = Writes (AnswersStubbed (config_of defaults) bytes operand)
+AnswersWork work.Why c is_quiet is_all is_json operand bytes = WritesAlone (Told is_json chain_told (AnswersWhy (config_of defaults) bytes operand))
 
 -- what an order makes of the bytes
 abbrev pub AnswersOrder : Order → (bytes : List ℕ) → Result Made Error → Type 0
-AnswersOrder o bytes = AnswersWork o.work (config_wanted o.wanted) o.is_quiet o.is_json (operand_bytes o.operand) bytes
+AnswersOrder o bytes = AnswersWork o.work (config_wanted o.wanted) o.is_quiet o.is_all o.is_json (operand_bytes o.operand) bytes

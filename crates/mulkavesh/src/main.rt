@@ -22,6 +22,7 @@ mod notes;
 mod numbers;
 mod order;
 mod output;
+mod parts;
 mod reports;
 mod sections;
 mod subcommands;

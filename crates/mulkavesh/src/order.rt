@@ -79,6 +79,8 @@ pub(crate) struct Order {
     pub(crate) is_quiet: bool,
     /// Whether the answer is for programs.
     pub(crate) is_json: bool,
+    /// Whether all is meant: of the sections also what they hold.
+    pub(crate) is_all: bool,
     /// The section, the export, the module or the function that it is about.
     pub(crate) operand: Option<String>,
     /// The file that is read; none for standard input.
@@ -111,6 +113,7 @@ impl Order {
             wanted,
             is_quiet: false,
             is_json: false,
+            is_all: false,
             operand: None,
             input: None,
             output: None,
