@@ -296,7 +296,9 @@ _ENTRY, _NO_NAME = struct.Struct("<III"), 2**32 - 1
 # What stands in front of all sections, and in front of the name of each.
 _FRAMING, _SECTION = struct.Struct("<?I"), struct.Struct("<B?IIII")
 # What is told in place of the number of a section that isn't one.
-_ITEMS = {138: "function", 139: "data"}
+_FUNCTION = 138
+_SEGMENT = 139
+_ITEMS = {_FUNCTION: "function", _SEGMENT: "data"}
 # What stands in front of each name in a choice of sections: whether those that it fits stay after all, and its length.
 _CHOSEN = struct.Struct("<?I")
 _INVALID = "the input is no module that keeps the rules"
