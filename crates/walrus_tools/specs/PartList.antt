@@ -6,6 +6,7 @@ use Rattle.walrus_items.specs.declared.error.Error.TheVariants.{InvalidWasm, Mem
 pub use Rattle.walrus_tools.specs.declared.parts.Item.{Item}
 pub use Rattle.walrus_tools.specs.declared.parts.Part.{Part as RawPart}
 pub use Rattle.walrus_tools.specs.Parts.{Part, SectionPart, FunctionPart, SegmentPart, HasParts, Module, Frames, part_record}
+use Rattle.walrus_tools.specs.declared.tool.section_parts.TheConstants.{FUNCTION, SEGMENT}
 use Rattle.walrus_tools.specs.Numbers.{no_name, number_bytes}
 use Rattle.walrus_tools.specs.Sections.{IsLongSection, section_bytes}
 
@@ -27,11 +28,11 @@ AnswersParts bytes (Err _) = ⊥
 abbrev pub item_bytes : (id : ℕ) → Item → List ℕ
 item_bytes id i = id ∷ 1 ∷ (number_bytes i.start ++ number_bytes i.size ++ number_bytes i.index ++ number_bytes no_name)
 
--- a section, a function (128 more than a code section) or a data segment (128 more than a data section)
+-- a section, a function or a data segment, the latter two by a number that no section has
 abbrev pub part_bytes : Part → List ℕ
 part_bytes (SectionPart p) = section_bytes p
-part_bytes (FunctionPart i) = item_bytes 138 i
-part_bytes (SegmentPart i) = item_bytes 139 i
+part_bytes (FunctionPart i) = item_bytes FUNCTION i
+part_bytes (SegmentPart i) = item_bytes SEGMENT i
 
 -- that sections reach the end of the input, which is this place, and each part
 abbrev pub parts_bytes : (place : ℕ) → List Part → List ℕ

@@ -10,6 +10,11 @@ use crate::tool::sections::add_section;
 use std::alloc::Global;
 use walrus_items::Result;
 
+/// What a function is told as, in place of the id of a section: 128 more than a section of code.
+const FUNCTION: u8 = 138;
+/// What a data segment is told as: 128 more than a section of data.
+const SEGMENT: u8 = 139;
+
 /// The parts of a module: its sections as they stand, and behind a section of code the functions in it, behind one of data the data
 /// segments. A function is told by its body, with the index that it has among all functions.
 ///
@@ -47,8 +52,8 @@ fn add_part(to: &mut Vec<u8>, part: Part<'_>) -> Result<()>
 {
     match part {
         Part::Section(piece) => add_section(to, piece),
-        Part::Function(function) => add_item(to, 138, function),
-        Part::Segment(segment) => add_item(to, 139, segment),
+        Part::Function(function) => add_item(to, FUNCTION, function),
+        Part::Segment(segment) => add_item(to, SEGMENT, segment),
     }
 }
 
