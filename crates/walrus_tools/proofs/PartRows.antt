@@ -1,7 +1,7 @@
 -- The parts of whole modules: each module has one list of them, and its sections are read one after another.
-use Rattle.std.proofs.Common.{◌≡◌, ℕ, suc, ◌+◌, ◌<◌, ◌≤◌, ◌^◌, Bool, true, false, List, [], ◌∷◌, ◌++◌, length, map, filter, drop, get_or, refl, sym, ap, subst, ◌∙◌, arith, inl, inr, Vec, Global, append_assoc, append-nil, length-append, drop-cons, drop_of_length-le}
+use Rattle.std.proofs.Common.{◌≡◌, ℕ, suc, ◌+◌, ◌<◌, ◌≤◌, ◌^◌, Bool, true, false, List, [], ◌∷◌, ◌++◌, length, map, filter, drop, get_or, refl, sym, ap, subst, ◌∙◌, arith, Vec, Global, append_assoc, append-nil, length-append, drop-cons, drop_of_length-le}
 use Rattle.std.proofs.lemmas.List.{append_cancel_right}
-use Rattle.std.specs.Prelude.{Option, Some, None, Result, Err, ◌⊎◌, if◌then◌else◌}
+use Rattle.std.specs.Prelude.{Option, Some, None, Result, Err, if◌then◌else◌}
 use Rattle.wasm_forms.specs.declared.error.WireError.{WireError}
 use Rattle.wasm_forms.specs.declared.error.WireError.TheVariants.{Malformed, Memory, TooLarge}
 use Rattle.wasm_forms.specs.Reading.{Refuses}
@@ -287,12 +287,6 @@ reached_end bytes functions segments pieces i so_far past h =
 
 -- ---- refusals
 
--- sections don't reach the end
-abbrev IsCut : Pieced → Type 0
-IsCut (found.Whole ps) = ⊥
-IsCut found.NoHeader = Unit {0}
-IsCut (found.Until ps place) = Unit {0}
-
 pub frames_nothing : {X : Type 0} (bytes : List ℕ) (e : WireError) → ((m : Module) → Frames bytes m → Refuses e (Some m)) → (◌≡◌ {A = Result X WireError} (Err e) (Err TooLarge) → ⊥) → FramesNothing bytes e
 frames_nothing bytes Malformed h large = λ m f. some_not_none m (h m f)
 frames_nothing bytes (Memory e) h large = tt
@@ -304,17 +298,12 @@ reads_all bytes (Memory e) o some h = tt
 reads_all bytes TooLarge o some h = h
 
 -- a module's sections reach its end
-framed_whole : (bytes : List ℕ) (m : Module) (p : Pieced) → Frames bytes m → IsPieced bytes p → IsCut p → ⊥
-framed_whole bytes m (found.Whole ps) f h cut = cut
-framed_whole bytes m found.NoHeader f h cut = h f.rest f.headed
-framed_whole bytes m (found.Until ps place) f h cut =
-    let pieces = module_has_pieces bytes m f in
+pub never_cut : (bytes : List ℕ) (imported : ℕ) (p : Pieced) → IsImported bytes imported → IsPieced bytes p → ((ps : Vec RawPiece Global) → p ≡ found.Whole ps → ⊥) → ⊥
+never_cut bytes imported (found.Whole ps) n h other = other ps refl
+never_cut bytes imported found.NoHeader n h other = h n.1.0.rest n.1.0.headed
+never_cut bytes imported (found.Until ps place) n h other =
+    let pieces = module_has_pieces bytes n.0 n.1.0 in
     cut_short bytes (map piece_record ps.items) pieces.0 place h pieces.1
-
-pub never_cut : (bytes : List ℕ) (imported : ℕ) (p : Pieced) → IsImported bytes imported → IsPieced bytes p
-    → (p ≡ found.NoHeader) ⊎ ((ps : Vec RawPiece Global) × (place : ℕ) × (p ≡ found.Until ps place)) → ⊥
-never_cut bytes imported p n h (inl is) = framed_whole bytes n.0 p n.1.0 h (subst IsCut (sym is) tt)
-never_cut bytes imported p n h (inr is) = framed_whole bytes n.0 p n.1.0 h (subst IsCut (sym is.2) tt)
 
 pub filter_seen : {X Y : Type 0} (t : Y → Bool) (view : X → Y) (xs : List X) → length (filter (λ x. t (view x)) xs) ≡ length (filter t (map view xs))
 filter_seen t view [] = refl

@@ -3,7 +3,7 @@
 ghost use Rattle.std.specs.Prelude.{◌≡◌, ◌+◌, ◌≤◌, ◌<◌, ◌^◌, IfErr, IfOk, filter, length, map};
 ghost use Rattle.wasm_forms.specs.Reading.{Gives};
 ghost use Rattle.wasm_entries.specs.Record.{import_entry};
-ghost use Rattle.wasm_frames.specs.Pieces.{HasPieces, piece_record};
+ghost use Rattle.wasm_frames.specs.Pieces.{piece_record};
 ghost use Rattle.walrus_tools.specs.Parts.{FramesNothing, HasOnePartList, HasParts, IsImported, ModuleHasParts, OnlyModulesHaveParts, brings_function, part_record};
 ghost use Rattle.walrus_tools.specs.PartSteps.{item_at, items_from, items_in, part_from};
 
@@ -155,31 +155,6 @@ fn add_part<'a>(
     }
 }
 
-// The parts of a module that imports so many functions and has these sections.
-fn parts_of<'a>(
-    alloc: Global,
-    bytes: &'a [u8],
-    imported: usize,
-    pieces: &[RawPiece<'a>],
-) -> Result<Vec<Part<'a>>, WireError>
-    requires framed { IsImported bytes.now imported }
-    requires pieced { HasPieces bytes.now (map piece_record pieces.now) }
-    ensures value { IfOk result (λ parts. HasParts bytes.now (map part_record parts.items)) }
-    ensures refused { IfErr result (λ e. FramesNothing bytes.now e) }
-{
-    let mut parts = Vec::new(alloc);
-    let mut functions = imported;
-    let mut segments = 0;
-    'sections: for piece in pieces {
-        let (next_function, next_segment) = add_part(
-            alloc, &mut parts, functions, segments, *piece,
-        )?;
-        functions = next_function;
-        segments = next_segment;
-    }
-    Ok(parts)
-}
-
 /// The parts of a module: each section as it stands, and behind a code section its functions, behind a data section its segments.
 ///
 /// # Errors
@@ -189,12 +164,21 @@ pub(crate) fn read_parts(alloc: Global, bytes: &[u8]) -> Result<Vec<Part<'_>>, W
     ensures value { IfOk result (λ parts. HasParts bytes.now (map part_record parts.items)) }
     ensures refused { IfErr result (λ e. FramesNothing bytes.now e) }
 {
-    let imported = imported_functions(alloc, bytes)?;
-    match pieces_until(alloc, bytes)? {
-        Pieced::Whole(pieces) => parts_of(alloc, bytes, imported, &pieces),
+    let mut functions = imported_functions(alloc, bytes)?;
+    let Pieced::Whole(pieces) = pieces_until(alloc, bytes)? else {
         // a module is sections up to its end
-        Pieced::NoHeader | Pieced::Until(..) => Err(WireError::Malformed),
+        return Err(WireError::Malformed);
+    };
+    let mut parts = Vec::new(alloc);
+    let mut segments = 0;
+    'sections: for piece in &pieces {
+        let (next_function, next_segment) = add_part(
+            alloc, &mut parts, functions, segments, *piece,
+        )?;
+        functions = next_function;
+        segments = next_segment;
     }
+    Ok(parts)
 }
 
 /// No bytes have two lists of parts. Each module has one, and no other bytes have any.

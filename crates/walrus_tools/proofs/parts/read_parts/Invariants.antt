@@ -2,8 +2,8 @@
 use Rattle.std.proofs.Common.{drop, map}
 use Rattle.walrus_tools.specs.Parts.{part_record, piece_record}
 use Rattle.walrus_tools.proofs.PartRows.{PartsReached}
-use Rattle.walrus_tools.proofs.parts.parts_of.Given as goal
+use Rattle.walrus_tools.proofs.parts.read_parts.Given as goal
 
 abbrev pub invariant-sections : goal.invariant-sections
 invariant-sections l =
-    PartsReached l.bytes l.functions l.segments (map piece_record (drop l.piece-index l.pieces)) (map part_record l.parts.items)
+    PartsReached l.bytes l.functions l.segments (map piece_record (drop l.piece-index l.piece-items)) (map part_record l.parts.items)
