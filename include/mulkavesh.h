@@ -30,7 +30,7 @@ extern "C" {
 /* The statuses. */
 enum {
   MULKAVESH_DONE = 0,
-  /* The input is no module that keeps the rules; of mulkavesh_strip and mulkavesh_sections, its framing alone is none. */
+  /* The input is no module that keeps the rules; of mulkavesh_strip, mulkavesh_sections and mulkavesh_parts, its framing alone is none. */
   MULKAVESH_INVALID = 1,
   /* What is to be written has a count or a size past 32 bits. */
   MULKAVESH_TOO_LARGE = 2,
@@ -56,6 +56,14 @@ enum {
 
 /* What stands in a list for the length of a name that isn't there. */
 #define MULKAVESH_NO_NAME UINT32_MAX
+
+/* What mulkavesh_parts tells in place of the number of a section. */
+enum {
+  /* A function with a body. */
+  MULKAVESH_FUNCTION = 138,
+  /* A data segment. */
+  MULKAVESH_SEGMENT = 139
+};
 
 /* What is wrong with bytes: the first number that mulkavesh_diagnose tells. */
 enum {
@@ -150,6 +158,13 @@ uint32_t mulkavesh_list(const uint8_t *input, size_t input_length, uint32_t flag
  * custom section, or MULKAVESH_NO_NAME of others; and the name. Places, counts and lengths are numbers of 32 bits, little-endian, and places are in bytes from the
  * start. MULKAVESH_INVALID exactly where the magic number and the version don't stand in front; MULKAVESH_TOO_LARGE where a number passes 32 bits. */
 uint32_t mulkavesh_sections(const uint8_t *input, size_t input_length, uint8_t *output, size_t room, size_t *length);
+
+/* What stands in a module, as mulkavesh_sections tells it: each section, and behind one of code each function in it, as a section with the number
+ * MULKAVESH_FUNCTION, behind one of data each data segment, as one with the number MULKAVESH_SEGMENT. Their place is that of the first byte of a function's
+ * body, behind its size, and of a segment's first byte; the count is their index, where imported functions have the first ones; and they have no name. The
+ * first byte is 1. MULKAVESH_INVALID exactly where the bytes aren't the sections of a module, read to their ends; MULKAVESH_TOO_LARGE where a number passes
+ * 32 bits. */
+uint32_t mulkavesh_parts(const uint8_t *input, size_t input_length, uint8_t *output, size_t room, size_t *length);
 
 /* The module without the custom sections that are chosen. All else is as it stands, byte for byte: nothing is read but where sections begin and end and what
  * custom ones are called, so that the module may break other rules. Debug information (`.debug_info`), names (`name`) and producers are custom sections as any.

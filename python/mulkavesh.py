@@ -13,7 +13,7 @@ a process with threads no call may be made (`multiprocessing` with the start met
 
 Each call with a module raises `InvalidModule` where the bytes are no module that keeps the rules, with what is wrong as its `fault`;
 `TooLarge` where what is to be written has a count or a size past 32 bits; and `MemoryError`. `strip`, `why`, `snip` and `stub` also raise
-`NotFound`. `diagnose` never raises `InvalidModule`: it answers the fault; and `strip` and `sections` look at the framing alone.
+`NotFound`. `diagnose` never raises `InvalidModule`: it answers the fault; and `strip`, `sections` and `parts` look at the framing alone.
 """
 import ctypes
 import ctypes.util
@@ -26,8 +26,8 @@ from dataclasses import dataclass
 from typing import Any, Dict, Iterable, Iterator, List, Optional, Tuple, Type, Union
 
 __all__ = [
-    "Beginning", "Fault", "FaultKind", "Function", "InvalidModule", "MulkaveshError", "NotFound", "Rule", "Section", "Sections", "TooLarge",
-    "diagnose", "gc", "list_functions", "report", "sections", "snip", "strip", "stub", "version", "why",
+    "Beginning", "Fault", "FaultKind", "Function", "InvalidModule", "Item", "MulkaveshError", "NotFound", "Rule", "Section", "Sections", "TooLarge",
+    "diagnose", "gc", "list_functions", "parts", "report", "sections", "snip", "strip", "stub", "version", "why",
 ]
 
 Bytes = Union[bytes, bytearray, memoryview]
@@ -101,6 +101,18 @@ class Section:
     def kind(self) -> str:
         """What the standard calls a section of this id, as in `data count`, or `unknown`."""
         return _KINDS[self.id] if self.id < len(_KINDS) else "unknown"
+
+
+@dataclass(frozen=True)
+class Item:
+    """A function with a body, or a data segment, as `kind` says by `function` or `data`: its index, where imported functions have the first ones;
+    where it begins, in bytes from the start, a function behind the number that says the size of its body; and how many bytes it has.
+    """
+
+    kind: str
+    index: int
+    start: int
+    size: int
 
 
 @dataclass(frozen=True)
@@ -219,6 +231,7 @@ _BETWEEN: Dict[str, Tuple[Any, ...]] = {
     "diagnose": (ctypes.c_uint32,),
     "list": (ctypes.c_uint32,),
     "sections": (),
+    "parts": (),
     "strip": _READ,
     "why": (ctypes.c_uint32,),
     "snip": _READ,
@@ -282,6 +295,10 @@ _NO_NAMES, _NO_PRODUCERS, _NO_LEGACY = 1, 2, 4
 _ENTRY, _NO_NAME = struct.Struct("<III"), 2**32 - 1
 # What stands in front of all sections, and in front of the name of each.
 _FRAMING, _SECTION = struct.Struct("<?I"), struct.Struct("<B?IIII")
+# What is told in place of the number of a section that isn't one.
+_FUNCTION = 138
+_SEGMENT = 139
+_ITEMS = {_FUNCTION: "function", _SEGMENT: "data"}
 # What stands in front of each name in a choice of sections: whether those that it fits stay after all, and its length.
 _CHOSEN = struct.Struct("<?I")
 _INVALID = "the input is no module that keeps the rules"
@@ -369,6 +386,12 @@ def _sections(told: bytes) -> Sections:
     return Sections([Section(kind, name, start, size, count if counted else None) for kind, counted, start, size, count, name in entries], end, whole)
 
 
+def _part(told: Section) -> Union[Section, Item]:
+    """What the library tells as this section."""
+    kind = _ITEMS.get(told.id)
+    return told if kind is None or told.entries is None else Item(kind, told.entries, told.start, told.size)
+
+
 def _chosen(name: Name, stays: bool) -> bytes:
     """The part of a choice that says that the sections which this name fits go, or that they stay after all."""
     word = _bytes_of(name)
@@ -419,6 +442,15 @@ def sections(module: Bytes) -> Sections:
     32 bits.
     """
     return _sections(_answer("sections", module, room=_ROOM_OF_SECTIONS))
+
+
+def parts(module: Bytes) -> List[Union[Section, Item]]:
+    """What stands in a module: its sections, and behind one of code the functions in it, behind one of data the data segments.
+
+    `InvalidModule` exactly where the bytes aren't the sections of a module, read to their ends; `TooLarge` where a place, a size or a count
+    passes 32 bits.
+    """
+    return [_part(it) for it in _sections(_answer("parts", module, room=len(module) // 4 + _ROOM_OF_SECTIONS)).sections]
 
 
 def strip(module: Bytes, *names: Name, keep: Union[Name, Iterable[Name]] = ()) -> bytes:

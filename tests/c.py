@@ -308,6 +308,49 @@ def counted(kind, content):
         return None
 
 
+def in_the_parts(caller, data):
+    """Where other sections are told than by `sections`, other functions than stand in sections of code, or data segments that don't fill theirs."""
+    status, told = call(caller, "parts", data)
+    if status:
+        if status != INVALID:
+            yield f"parts: status {status}"
+        return
+    known, imported = call(caller, "sections", data)[1], sum(kind == 0 for _, kind in imports(data))
+    wanted, found, after = [], known[:5], {138: imported, 139: 0}
+    for number_of, content, place in placed(data):
+        count, at = number(content, 0) if number_of in (10, 11) else (0, 0)
+        for item in bodies(content) or [] if number_of == 10 else []:
+            at = number(content, at)[1]
+            wanted.append((place + at, len(item)))
+            at += len(item)
+        if number_of == 11 and count:
+            wanted.append((place + at, len(content) - at))
+    items, at = [], 5
+    while at < len(told):
+        kind, is_counted, start, size, index, length = struct.unpack_from("<BBIIII", told, at)
+        more = 18 + (length if length != NO_NAME else 0)
+        if kind not in after:
+            found += told[at : at + more]
+        else:
+            if (is_counted, index, length) != (1, after[kind], NO_NAME):
+                yield f"parts: {kind} with {is_counted}, {index} and {length}"
+            joined = kind == 139 and items and items[-1][2] and sum(items[-1][:2]) == start
+            items[-1:] = [(items[-1][0], items[-1][1] + size, True)] if joined else [*items[-1:], (start, size, kind == 139)]
+            after[kind] += 1
+        at += more
+    if [(start, size) for start, size, _ in items] != wanted or found != known:
+        yield f"parts: {items}, and not {wanted}"
+
+
+def placed(data):
+    """The number, the content and the place of the content of each section."""
+    at = 8
+    while at < len(data):
+        size, begin = number(data, at + 1)
+        yield data[at], data[begin : begin + size], begin
+        at = begin + size
+
+
 def in_the_sections(caller, data):
     """Where other sections are told than stand there, or another status."""
     status, told = call(caller, "sections", data)
@@ -468,6 +511,7 @@ def main():
     others = (lambda it: (it.name, in_the_chains, static, data[it]), lambda it: (it.name, snipped_and_stubbed, program, static, data[it]))
     tries.all("chains, exports and imports", (one(path) for path in small if len(data[path]) < 12_000 for one in others))
     tries.all("sections", ((path.name, in_the_sections, caller, data[path]) for path in [*modules, *rows] for caller in callers))
+    tries.all("parts", ((path.name, in_the_parts, caller, data[path]) for path in [*modules, *rows] for caller in callers))
     tries.all("sections that go", ((path.name, stripped, callers, data[path]) for path in [*modules, *rows]))
     tries.all("choices that are none", ((path.name, no_choice, callers, data[path]) for path in small[:3]))
     bases = [data[path] for path in small]
@@ -475,9 +519,10 @@ def main():
     tries.all("mutants", ((f"mutant {i}", beside_the_program, program, [callers[i % 2]], mutant, ways[i % 16]) for i, mutant in enumerate(mutants)))
     tries.all("diagnoses of mutants", ((f"mutant {i}", diagnosed, program, [callers[i % 2]], mutant, i % 4 // 2 * 4) for i, mutant in enumerate(mutants)))
     tries.all("sections of mutants", ((f"mutant {i}", in_the_sections, callers[i % 2], mutant) for i, mutant in enumerate(mutants)))
+    tries.all("parts of mutants", ((f"mutant {i}", in_the_parts, callers[i % 2], mutant) for i, mutant in enumerate(mutants)))
     tries.all("sections of mutants that go", ((f"mutant {i}", stripped, callers, mutant, i) for i, mutant in enumerate(mutants)))
     calls = [(10, *it) for it in (("gc", 0), ("report", 0), ("list", 0), ("why", 0), ("snip", 0, b"fill"), ("stub", 0, b"env"))]
-    calls += [(1, "diagnose", 0), (2, "sections"), (3, "strip", 0, choice([b"*"], [b"name"]))]
+    calls += [(1, "diagnose", 0), (2, "sections"), (2, "parts"), (3, "strip", 0, choice([b"*"], [b"name"]))]
     tiny = [path for path in small if len(data[path]) < MOST_BYTES_REFUSED]
     inputs = [(path.name, data[path], *one) for path in tiny for one in calls]
     inputs += [(why, given, 0, "diagnose", flags) for why, flags, _, given in faults()]

@@ -298,6 +298,86 @@ def try_sections(work):
         same(f"sections --json of {title}", (listed[0], listed[2], json.loads(listed[1])), (status, said, [section_object(*it) for it in rows]))
 
 
+def behind_types(content, at, kind):
+    """The place behind the types of an import of this kind."""
+    if kind in (1, 3):
+        at += 1
+        if content[at - 1] in (0x63, 0x64):
+            at = read_number(content, at)[1]
+    if kind == 3:
+        return at + 1
+    if kind in (1, 2):
+        flags, at = content[at], at + 1
+        for _ in range(1 + flags % 2):
+            at = read_number(content, at)[1]
+        return at
+    return read_number(content, at + (kind == 4))[1]
+
+
+def imported_functions(data):
+    """How many functions are imported."""
+    found = 0
+    for code, content, _ in sections(data):
+        count, at = read_number(content, 0) if code == 2 else (0, 0)
+        for _ in range(count):
+            at = read_name(content, read_name(content, at)[1])[1]
+            found += content[at] == 0
+            at = behind_types(content, at + 1, content[at])
+    return found
+
+
+# how many numbers stand behind an operator of a constant expression
+NUMBERS = {0x41: 1, 0x42: 1, 0x23: 1, 0xD0: 1, 0xD2: 1, 0x6A: 0, 0x6B: 0, 0x6C: 0, 0x7C: 0, 0x7D: 0, 0x7E: 0}
+
+
+def behind_segment(content, at):
+    """The place behind a data segment, whose offset is of numbers."""
+    flags, at = read_number(content, at)
+    at = read_number(content, at)[1] if flags == 2 else at
+    while flags != 1 and content[at] != 0x0B:
+        operator, at = content[at], at + 1
+        for _ in range(NUMBERS[operator]):
+            at = read_number(content, at)[1]
+    size, begin = read_number(content, at + (flags != 1))
+    return begin + size
+
+
+def items(data, code, content, place, before):
+    """The functions or the data segments of a section: what each is, its index, its place and its length; `before` says how many stand before."""
+    count, at = read_number(content, 0) if code in (10, 11) else (0, 0)
+    for _ in range(count):
+        begin = at
+        if code == 10:
+            size, begin = read_number(content, at)
+            at = begin + size
+        else:
+            at = behind_segment(content, at)
+        yield WORDS[3] if code == 10 else WORDS[11], before[code], place + begin, at - begin
+        before[code] += 1
+
+
+def parts(data):
+    """The line and the object of each part of a module."""
+    before, rows = {10: imported_functions(data), 11: 0}, section_rows(data)[0]
+    for row, (code, content, length) in zip(rows, sections(data)):
+        yield section_text(*row), section_object(*row)
+        for word, index, start, size in items(data, code, content, row[2] + length - len(content), before):
+            yield f"  {start} {size} {word} {index}\n", {"kind": word, "index": index, "start": start, "size": size}
+
+
+def try_parts(work):
+    twice = module_of(section(10, row([b"\0", b"\1a"])), section(11, row([b"\1\0", b"\0\x41\x80\0\x0b\2ab"])), section(10, row([b"\0"])))
+    late = module_of(section(10, row([b"\0"])), section(2, row([name("a") + name("b") + b"\0\0"])))
+    for title, data in [*samples(), ("twice", twice), ("late", late), ("header", TWO[:8]), ("cut", TWO[:-1]), ("odd", module_of(section(77, b"")))]:
+        found, listed = run("sections", "--all", data=data), run("sections", "--all", "--json", data=data)
+        if title in ("broken", "empty", "cut", "odd"):
+            same(f"sections --all of {title}", (found[:2], listed), ((1, b""), found))
+            continue
+        lines, objects = zip(*parts(data)) if len(data) > 8 else ((), ())
+        same(f"sections --all of {title}", found, (0, "".join(lines).encode(), ""))
+        same(f"sections --all --json of {title}", (listed[0], listed[2], json.loads(listed[1])), (0, "", list(objects)))
+
+
 def try_snip_and_stub(work):
     for title, data in samples():
         names = [text.decode() for text, _ in exported(data)] if title not in ("broken", "empty") else []
@@ -522,7 +602,8 @@ def try_faults(work):
         if kind:
             said = run("check", *flags, data=data)[1].decode()
             same(f"check of {data.hex()}", said, f"{words}\n")
-            for order in (*([*it, *flags] for it in choosing), *(others if legacy else ()), *(() if data[:8] == TWO[:8] else framed)):
+            unread = [["sections", "--all"]] if kind in ("header", "section") else []
+            for order in (*([*it, *flags] for it in choosing), *(others if legacy else ()), *(() if data[:8] == TWO[:8] else framed), *unread):
                 line = f"mulkavesh: standard input: the input WebAssembly is invalid: {said}"
                 same(f"{order} of {data.hex()}", run(*order, data=data), (1, b"", line))
 

@@ -655,6 +655,13 @@ def stub_env(size):
 
 alike(
     "sections_small", "custom sections of a name of one byte: 250,000 and 2,500,000 (mulkavesh sections)", custom(b"a"), sections, subcommand=("sections",))
+
+
+@shape("functions without operators, 250,000 and 2,500,000 (mulkavesh sections --all)", subcommand=("sections", "--all"))
+def sections_all(size):
+    return functions_empty(size)
+
+
 alike(
     "strip_small", "the same sections, all taken away (mulkavesh strip --section a)", custom(b"a"), sections, subcommand=("strip", "--section", "a"))
 alike(

@@ -70,9 +70,10 @@ def faults_of_sources():
 
 
 def constants_of_sources():
-    """The statuses, flags, the version, and what is wrong with bytes, by the names that the header gives them."""
+    """The statuses, flags, the version, what parts are told as, and what is wrong with bytes, by the names that the header gives them."""
     text = "".join(path.read_text(encoding="utf-8") for path in sorted((CRATES / CRATE / "src").glob("*.rt")))
-    return {**{name: int(number) for name, number in re.findall(r"const (\w+): u32 = (\d+);", text)}, **dict(faults_of_sources())}
+    text += read("crates", "walrus_tools", "src", "tool", "section_parts.rt")
+    return {**{name: int(number) for name, number in re.findall(r"const (\w+): u(?:8|32) = (\d+);", text)}, **dict(faults_of_sources())}
 
 
 def constants_of_header(text):
@@ -81,11 +82,11 @@ def constants_of_header(text):
 
 
 def constants_of_rust(text):
-    return {name: int(number) for name, number in re.findall(r"pub const MULKAVESH_(\w+): u32 = (\d+);", text)}
+    return {name: int(number) for name, number in re.findall(r"pub const MULKAVESH_(\w+): u(?:8|32) = (\d+);", text)}
 
 
 def constants_of_python(text):
-    found = {}
+    found = {name: int(number) for name, number in re.findall(r"^_(FUNCTION|SEGMENT) = (\d+)$", text, re.M)}
     for of_python, front in (("Status", ""), ("FaultKind", "FAULT_"), ("Beginning", "BEGINS_"), ("Rule", "RULE_")):
         numbers = re.search(rf"class {of_python}\(.*?(?=\n\n\n)", text, re.S)
         found.update((front + name, int(number)) for name, number in re.findall(r"^    ([A-Z_]+) = (\d+)", numbers[0], re.M))

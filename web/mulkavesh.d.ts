@@ -49,6 +49,17 @@ export interface Sections {
   whole: boolean;
 }
 
+/**
+ * A function with a body, or a data segment: its index, where imported functions have the first ones; where it begins, in bytes from the start, a function behind
+ * the number that says the size of its body; and how many bytes it has.
+ */
+export interface Item {
+  kind: 'function' | 'data';
+  index: number;
+  start: number;
+  size: number;
+}
+
 /** NAMEs of custom sections, in which `*` stands for any bytes, also for none, and `\*` for a star. */
 export type Names = string | Bytes | readonly (string | Bytes)[];
 
@@ -85,6 +96,11 @@ export interface Mulkavesh {
    */
   sections(input: Bytes): Sections;
   /**
+   * What stands in a module: its sections, and behind one of code the functions in it, behind one of data the data segments. InvalidModule exactly where the bytes
+   * aren't the sections of a module, read to their ends.
+   */
+  parts(input: Bytes): (Section | Item)[];
+  /**
    * The module without the custom sections whose names fit one of `names` and none of `keep`; NotFound where one of `names` fits none. All else is as it stands,
    * byte for byte. Debug information (`.debug*`), names (`name`) and producers (`producers`) are custom sections as any. Nothing is read but where sections begin
    * and end and what custom ones are called, so that the module may break other rules: InvalidModule exactly where the bytes aren't a header and whole sections.
@@ -115,7 +131,7 @@ export type Code = 'INVALID' | 'TOO_LARGE' | 'NO_MEMORY' | 'NOT_FOUND' | 'TRAPPE
 export class MulkaveshError extends Error {
   readonly code: Code;
 }
-/** The input is no module that keeps the rules; of `strip` and `sections`, its framing is none. */
+/** The input is no module that keeps the rules; of `strip`, `sections` and `parts`, its framing is none. */
 export class InvalidModule extends MulkaveshError {
   /** What `diagnose` tells of it under the same choice of `legacy`; the message says it. Null where memory ran out while it was looked for. */
   readonly fault: Fault | null;

@@ -14,7 +14,7 @@ export class MulkaveshError extends Error {
     this.code = code;
   }
 }
-/** The input is no module that keeps the rules (of `strip` and `sections`: its framing is none); `fault` is what is wrong with it, as `diagnose` tells it, or null where that could not be found out. */
+/** The input is no module that keeps the rules (of `strip`, `sections` and `parts`: its framing is none); `fault` is what is wrong with it, as `diagnose` tells it, or null where that could not be found out. */
 export class InvalidModule extends MulkaveshError {
   constructor(code, message, fault = null) {
     super(code, fault === null ? message : `${message}: ${fault.text}`);
@@ -206,6 +206,11 @@ function sectionsOf(bytes) {
   return { sections, end: view.getUint32(1, true), whole: bytes[0] === 1 };
 }
 
+// What is told in place of the number of a section that isn't one.
+const ITEMS = new Map([[138, 'function'], [139, 'data']]);
+
+const partOf = (told) => (ITEMS.has(told.id) ? { kind: ITEMS.get(told.id), index: told.entries, start: told.start, size: told.size } : told);
+
 // The rules on the whole, by their numbers from 1 on, and what is said where one is broken.
 const RULES = [
   ['Order', 'the sections stand out of order, or one stands twice'],
@@ -282,6 +287,10 @@ function callsOver(module) {
     diagnose: (input, options) => faultOf(call('diagnose', bytesOf(input), flagsOf(options), [], ROOM_OF_A_FAULT)),
     list: (input, options) => listOf(whole('list', bytesOf(input), flagsOf(options))),
     sections: (input) => sectionsOf(call('sections', bytesOf(input), null, [], ROOM_OF_SECTIONS)),
+    parts: (input) => {
+      const bytes = bytesOf(input);
+      return sectionsOf(call('parts', bytes, null, [], (bytes.length >>> 2) + ROOM_OF_SECTIONS)).sections.map(partOf);
+    },
     strip: (input, names, options) => whole('strip', bytesOf(input), null, choiceOf(names, options)),
     why: (input, index) => decoder.decode(call('why', bytesOf(input), null, [indexOf(index)], ROOM_OF_A_CHAIN)),
     snip: (input, name) => whole('snip', bytesOf(input), null, nameOf(name)),

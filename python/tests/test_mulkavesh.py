@@ -22,7 +22,7 @@ from unittest import mock
 
 import mulkavesh
 import packing
-from mulkavesh import Beginning, Fault, FaultKind, Function, InvalidModule, MulkaveshError, NotFound, Rule, Section, Sections, TooLarge
+from mulkavesh import Beginning, Fault, FaultKind, Function, InvalidModule, Item, MulkaveshError, NotFound, Rule, Section, Sections, TooLarge
 from tests import worked
 
 HERE = pathlib.Path(__file__).resolve().parent.parent
@@ -34,6 +34,7 @@ CALLS: Dict[str, Callable[[Any], Any]] = {
     "diagnose": mulkavesh.diagnose,
     "list": mulkavesh.list_functions,
     "sections": mulkavesh.sections,
+    "parts": mulkavesh.parts,
     "strip": lambda module: mulkavesh.strip(module, "a"),
     "why": lambda module: mulkavesh.why(module, 0),
     "snip": lambda module: mulkavesh.snip(module, "a"),
@@ -120,6 +121,15 @@ class Answers(unittest.TestCase):
         whole = mulkavesh.sections(worked.TWO)
         for cut in range(27, 36):
             self.assertEqual(mulkavesh.sections(worked.TWO[:cut]), Sections(whole.sections[:3], 26, False))
+
+    def test_parts(self) -> None:
+        wanted = [*mulkavesh.sections(worked.TWO).sections, Item("function", 0, 30, 3), Item("function", 1, 34, 2)]
+        self.assertEqual(mulkavesh.parts(worked.TWO), wanted)
+        functions = [it for it in mulkavesh.parts(worked.IMPORTS) if isinstance(it, Item)]
+        self.assertEqual(functions, [Item("function", 3, len(worked.IMPORTS) - 8, 8)])
+        data = worked.module("05 03 01 00 01", "0B 0B 02 00 41 00 0B 02 07 07 01 01 09")
+        self.assertEqual(mulkavesh.parts(data)[2:], [Item("data", 0, 16, 7), Item("data", 1, 23, 3)])
+        self.assertEqual(mulkavesh.parts(worked.HEADER), [])
 
     def test_kinds_of_sections(self) -> None:
         found = mulkavesh.sections(worked.BROKEN)
@@ -450,7 +460,7 @@ class Declared(unittest.TestCase):
         declared = {}
         for name, parameters in re.findall(r"^uint32_t (\w+)\((.*)\);", HEADER.read_text(encoding="utf-8"), re.M):
             declared[name] = [self.IN_C[kind] for kind in re.findall(r"(const uint8_t \*|uint8_t \*|uint32_t |size_t \*|size_t )\w", parameters)]
-        self.assertEqual(len(declared), 10)
+        self.assertEqual(len(declared), 11)
         for name, kinds in declared.items():
             call = getattr(getattr(mulkavesh, "_library"), name)
             self.assertEqual((name, list(call.argtypes), call.restype), (name, kinds, ctypes.c_uint32))
@@ -461,7 +471,7 @@ class Declared(unittest.TestCase):
         wanted = {name: getattr(mulkavesh, f"_{name}") for name in ("NO_NAMES", "NO_PRODUCERS", "NO_LEGACY")}
         for of_python, front in ((mulkavesh.Status, ""), (FaultKind, "FAULT_"), (Beginning, "BEGINS_"), (Rule, "RULE_")):
             wanted.update((front + name, member.value) for name, member in of_python.__members__.items())
-        self.assertEqual(numbers, {**wanted, "FAULT_NONE": 0})
+        self.assertEqual(numbers, {**wanted, "FAULT_NONE": 0, "FUNCTION": getattr(mulkavesh, "_FUNCTION"), "SEGMENT": getattr(mulkavesh, "_SEGMENT")})
 
     def test_all_is_typed_and_told(self) -> None:
         for name, function in inspect.getmembers(mulkavesh, inspect.isfunction):

@@ -1,14 +1,14 @@
-"""The calls `strip` and `sections` over the modules of tests/samples, and of ../shared/samples where that is there, beside what stands in them, read anew."""
+"""The calls `strip`, `sections` and `parts` over the modules of tests/samples, and of ../shared/samples where that is there, beside what stands in them, read anew."""
 import pathlib
 import unittest
 from typing import Callable, Iterator, List, Optional, Tuple
 
 import mulkavesh
-from mulkavesh import NotFound, Section, Sections
+from mulkavesh import Item, NotFound, Section, Sections
 
 TOP = pathlib.Path(__file__).resolve().parent.parent.parent
 FOLDERS = (TOP / "tests" / "samples", TOP.parent / "shared" / "samples")
-CUSTOM, START, DATA_COUNT = 0, 8, 12
+CUSTOM, START, CODE, DATA_COUNT = 0, 8, 10, 12
 # NAMEs that say which sections go and which stay, and a test of a name that says the same of both.
 CHOICES: List[Tuple[str, List[str], Callable[[str], bool], Callable[[str], bool]]] = [
     (".debug*", [], lambda name: name.startswith(".debug"), lambda name: False),
@@ -50,6 +50,16 @@ def sections(module: bytes) -> Iterator[Section]:
         at += found.size
 
 
+def bodies(module: bytes) -> Iterator[Tuple[int, int]]:
+    """The place and the size of the body of each function."""
+    for found in sections(module):
+        count, at = number(module, number(module, found.start + 1)[1]) if found.id == CODE else (0, 0)
+        for _ in range(count):
+            size, at = number(module, at)
+            yield at, size
+            at += size
+
+
 def without(module: bytes, goes: Callable[[str], bool]) -> bytes:
     """The module without the custom sections that a test of their names takes."""
     stay = (it for it in sections(module) if it.name is None or not goes(it.name))
@@ -71,6 +81,20 @@ class Samples(unittest.TestCase):
         for name, module in samples():
             with self.subTest(name):
                 self.assertEqual(mulkavesh.sections(module), Sections([*sections(module)], len(module), True))
+
+    def test_parts(self) -> None:
+        for name, module in samples():
+            with self.subTest(name):
+                parts = mulkavesh.parts(module)
+                self.assertEqual([it for it in parts if isinstance(it, Section)], [*sections(module)])
+                functions = [it for it in parts if isinstance(it, Item) and it.kind == "function"]
+                self.assertEqual([(it.start, it.size) for it in functions], [*bodies(module)])
+                indices = [it.index for it in functions]
+                self.assertEqual(indices, [*range(indices[0] if indices else 0, len(indices) + (indices[0] if indices else 0))])
+                segments = [it for it in parts if isinstance(it, Item) and it.kind == "data"]
+                self.assertEqual([it.index for it in segments], [*range(len(segments))])
+                for first, second in zip(segments, segments[1:]):
+                    self.assertEqual(first.start + first.size, second.start)
 
     def test_strip(self) -> None:
         gone = 0

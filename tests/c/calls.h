@@ -24,6 +24,7 @@ static uint32_t answer(const struct asked *it, const uint8_t *input, size_t size
   if (!strcmp(it->call, "list")) return mulkavesh_list(input, size, it->number, output, room, length);
   if (!strcmp(it->call, "why")) return mulkavesh_why(input, size, it->number, output, room, length);
   if (!strcmp(it->call, "sections")) return mulkavesh_sections(input, size, output, room, length);
+  if (!strcmp(it->call, "parts")) return mulkavesh_parts(input, size, output, room, length);
   if (!strcmp(it->call, "strip")) return mulkavesh_strip(input, size, it->bytes, it->count, output, room, length);
   if (!strcmp(it->call, "snip")) return mulkavesh_snip(input, size, it->bytes, it->count, output, room, length);
   if (!strcmp(it->call, "stub")) return mulkavesh_stub(input, size, it->bytes, it->count, output, room, length);

@@ -79,7 +79,8 @@ static void in_room(const char *path, const struct asked *asked, const uint8_t *
 
 // A call in rooms of every length, beside what it answers in ample room.
 static void in_rooms(const char *path, const struct asked *asked, const uint8_t *input, size_t size) {
-  size_t ample = 4 * size + 4096, length = 0;
+  // a function of a byte is told in eighteen
+  size_t ample = 18 * size + 4096, length = 0;
   uint8_t *output = take(ample);
   uint32_t status = answer(asked, input, size, output, ample, &length);
   if (status == MULKAVESH_NO_ROOM) find(path, asked, ample, "ample room is none");
@@ -91,7 +92,7 @@ int main(int count, char **paths) {
   static const struct asked all[] = {
       {"gc", 0, NULL, 0}, {"gc", 7, NULL, 0}, {"gc", 8, NULL, 0}, {"gc", UINT32_MAX, NULL, 0}, {"report", 0, NULL, 0}, {"report", 8, NULL, 0},
       {"diagnose", 0, NULL, 0}, {"diagnose", 4, NULL, 0}, {"diagnose", 8, NULL, 0}, {"list", 0, NULL, 0}, {"list", 8, NULL, 0}, {"why", 0, NULL, 0}, {"why", 5, NULL, 0}, {"why", UINT32_MAX, NULL, 0},
-      {"sections", 0, NULL, 0}, {"strip", 0, NULL, 0}, {"strip", 0, BYTES("\0\x0F\0\0\0target_features")}, {"strip", 0, BYTES("\0\1\0\0\0*")},
+      {"sections", 0, NULL, 0}, {"parts", 0, NULL, 0}, {"strip", 0, NULL, 0}, {"strip", 0, BYTES("\0\x0F\0\0\0target_features")}, {"strip", 0, BYTES("\0\1\0\0\0*")},
       {"strip", 0, BYTES("\0\2\0\0\0*s\1\4\0\0\0name")}, {"strip", 0, BYTES("\1\1\0\0\0*")}, {"strip", 0, BYTES("\0\0\0\0\0")},
       {"strip", 0, BYTES("\0\2\0\0\0*")}, {"strip", 0, BYTES("\2\0\0\0\0")}, {"strip", 0, BYTES("\0")}, {"strip", 0, BYTES("\0\xFF\xFF\xFF\xFF")},
       {"snip", 0, BYTES("f")}, {"snip", 0, BYTES("\xFF")}, {"stub", 0, BYTES("env")}, {"stub", 0, NULL, 0}, {"stub", 0, BYTES("\xFF")}};

@@ -13,7 +13,7 @@ const folder = process.argv[2], here = pathToFileURL(join(folder, 'mulkavesh.js'
 const wasm = readFileSync(join(folder, 'mulkavesh.wasm'));
 const { load, MulkaveshError, InvalidModule, TooLarge, OutOfMemory, NotFound, Trapped } = await import(here);
 const library = await load();
-const { gc, report, diagnose, list, sections, strip, why, snip, stub, version } = library;
+const { gc, report, diagnose, list, sections, parts, strip, why, snip, stub, version } = library;
 
 // ---- modules
 
@@ -275,6 +275,15 @@ const TRIES = {
     assert.deepEqual(sections(TWO), { sections: wanted, end: 36, whole: true });
     for (let cut = 27; cut < 36; cut++) assert.deepEqual(sections(TWO.subarray(0, cut)), { sections: wanted.slice(0, 3), end: 26, whole: false });
     assert.deepEqual(sections(module()), { sections: [], end: 8, whole: true });
+  },
+  parts: () => {
+    const items = (input) => parts(input).filter((it) => !('id' in it)), told = (kind, index, start, size) => ({ kind, index, start, size });
+    assert.deepEqual(parts(TWO).slice(0, 4), sections(TWO).sections);
+    assert.deepEqual(parts(TWO).slice(4), [told('function', 0, 30, 3), told('function', 1, 34, 2)]);
+    assert.deepEqual(items(IMPORTS), [told('function', 3, IMPORTS.length - 8, 8)]);
+    assert.deepEqual(items(module('05 03 01 00 01', '0B 0B 02 00 41 00 0B 02 07 07 01 01 09')), [told('data', 0, 16, 7), told('data', 1, 23, 3)]);
+    assert.deepEqual(parts(module()), []);
+    refusesFor(diagnose(TWO.subarray(0, 35)), () => parts(TWO.subarray(0, 35)));
   },
   'sections with names': () => {
     const custom = (name, start, size) => ({ id: 0, kind: 'custom', name, start, size, entries: null });

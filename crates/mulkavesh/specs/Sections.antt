@@ -1,5 +1,7 @@
 -- The sections of a module, as a text for people.
 use Rattle.std.specs.Prelude.{ℕ, Bool, true, false, List, [], ◌++◌, Option, Some, None, codes, decimal, length, nat_eq, if◌then◌else◌}
+use Rattle.walrus_tools.specs.declared.parts.Item.{Item}
+use Rattle.walrus_tools.specs.PartList.{FunctionPart, Part, SectionPart, SegmentPart}
 use Rattle.walrus_tools.specs.Sections.{Piece}
 use Rattle.mulkavesh.specs.Visible.{shown}
 
@@ -41,6 +43,17 @@ count_text None = []
 -- its place, how many bytes it has, and what it is
 abbrev pub section_line : Piece → List ℕ
 section_line p = decimal p.start ++ codes " " ++ decimal (length p.bytes) ++ codes " " ++ what_text p.id p.name ++ count_text p.entries ++ codes "\n"
+
+-- a function or a data segment, by its word, behind the line of its section: its place, how many bytes it has, what it is, and its index
+abbrev pub item_line : (word : List ℕ) → Item → List ℕ
+item_line word i =
+    codes "  " ++ decimal i.start ++ codes " " ++ decimal i.size ++ codes " " ++ word ++ codes " " ++ decimal i.index ++ codes "\n"
+
+-- a section, a function or a data segment
+abbrev pub part_line : Part → List ℕ
+part_line (SectionPart p) = section_line p
+part_line (FunctionPart i) = item_line (codes "function") i
+part_line (SegmentPart i) = item_line (codes "data") i
 
 -- what is said where sections end before the bytes do
 abbrev pub stop_text : (is_whole : Bool) → (place : ℕ) → List ℕ

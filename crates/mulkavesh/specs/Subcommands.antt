@@ -8,6 +8,7 @@ use Rattle.walrus_tools.specs.Diagnosed.{Finds, WordsFault}
 use Rattle.walrus_tools.specs.Found.{AnswersFound, IsFound}
 use Rattle.walrus_tools.specs.Handed.{Config, Error, Fault, InvalidWasm, Memory, ReportsOn, RunsOn, config_of, defaults}
 use Rattle.walrus_tools.specs.Kinds.{AnswersCounted}
+use Rattle.walrus_tools.specs.PartList.{HasParts, IsNone, Part}
 use Rattle.walrus_tools.specs.Reasons.{AnswersChain, HoldsChain}
 use Rattle.walrus_tools.specs.Sections.{LacksHeader, Piece, StandUpTo}
 use Rattle.walrus_tools.specs.Sized.{AnswersListed}
@@ -25,7 +26,7 @@ use Rattle.mulkavesh.specs.Chains.{chain_told}
 use Rattle.mulkavesh.specs.Choices.{choices_of}
 use Rattle.mulkavesh.specs.Entries.{listed_told}
 use Rattle.mulkavesh.specs.Reports.{counted_json}
-use Rattle.mulkavesh.specs.Sections.{section_line, stop_text}
+use Rattle.mulkavesh.specs.Sections.{part_line, section_line, stop_text}
 
 -- what a call of the library answers: bytes, or why not
 abbrev pub Answer : Type 0
@@ -124,6 +125,26 @@ TellsSections bytes is_json (Err (InvalidWasm kind)) = LacksHeader bytes
 TellsSections bytes is_json (Err (Memory e)) = ⊤
 TellsSections bytes is_json (Err _) = ⊥
 
+-- a line for each part of the module that the bytes are, and nothing is noted
+pub record SaysParts (bytes : List ℕ) (is_json : Bool) (m : Made) : Type 0 where
+  pub parts : List Part
+  pub has : HasParts bytes parts
+  pub lines : ForPeople is_json (m.output.items ≡ flat_map part_line parts)
+  pub alone : NotesNothing m
+  pub accepted : m.is_refused ≡ false
+
+-- that, or the bytes are no module, or memory ran out
+abbrev pub TellsParts : (bytes : List ℕ) → (is_json : Bool) → Result Made Error → Type 0
+TellsParts bytes is_json (Ok m) = SaysParts bytes is_json m
+TellsParts bytes is_json (Err (InvalidWasm kind)) = IsNone bytes
+TellsParts bytes is_json (Err (Memory e)) = ⊤
+TellsParts bytes is_json (Err _) = ⊥
+
+-- sections as they stand, or all that a module has
+abbrev pub TellsAll : (bytes : List ℕ) → (is_all is_json : Bool) → Result Made Error → Type 0
+TellsAll bytes false is_json = TellsSections bytes is_json
+TellsAll bytes true is_json = TellsParts bytes is_json
+
 -- ---- why
 
 -- the word says an index of 32 bits
@@ -156,7 +177,7 @@ AnswersWork work.Gc o bytes = WritesQuietly o.is_quiet (RunsOn (config_wanted o.
 AnswersWork work.Report o bytes = WritesAlone (Reports o.is_json (config_wanted o.wanted) bytes)
 AnswersWork work.List o bytes = WritesAlone (Told (listed_told o.is_json) (AnswersListed (config_wanted o.wanted) bytes))
 AnswersWork work.Check o bytes = Checks (config_wanted o.wanted) bytes o.is_json
-AnswersWork work.Sections o bytes = TellsSections bytes o.is_json
+AnswersWork work.Sections o bytes = TellsAll bytes o.is_all o.is_json
 AnswersWork work.Strip o bytes = WritesAlone (AnswersStripped bytes (choices_of o))
 AnswersWork work.Snip o bytes = Writes (AnswersSnipped (config_of defaults) bytes (operand_bytes o.operand))
 AnswersWork work.Stub o bytes = Writes (AnswersStubbed (config_of defaults) bytes (operand_bytes o.operand))

@@ -23,6 +23,7 @@ mod notes;
 mod numbers;
 mod order;
 mod output;
+mod parts;
 mod reports;
 mod sections;
 mod subcommands;

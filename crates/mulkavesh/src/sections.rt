@@ -2,13 +2,14 @@
 
 ghost use Rattle.std.specs.Prelude.{◌≡◌, ◌++◌, IfOk, OnOk, false, flat_map, map, option_map};
 ghost use Rattle.mulkavesh.specs.Sections.{count_text, kind_text, kind_word, section_line, stop_text, what_text};
-ghost use Rattle.mulkavesh.specs.Subcommands.{ForPeople, TellsSections};
+ghost use Rattle.mulkavesh.specs.Subcommands.{ForPeople, TellsAll, TellsSections};
 ghost use Rattle.walrus_tools.specs.Sections.{piece_record};
 
 use crate::entries::add_name;
 use crate::json::add_string;
 use crate::numbers::add_decimal;
 use crate::order::Order;
+use crate::parts;
 use crate::subcommands::Made;
 use std::alloc::{AllocError, Global};
 use walrus_tools::{Error, ErrorKind, Pieced, RawPiece, sections};
@@ -74,8 +75,12 @@ fn add_count(alloc: Global, to: &mut Vec<u8>, entries: Option<u32>) -> Result<()
     add_decimal(alloc, to, count as u64)
 }
 
-// Puts the line of a section behind the text.
-fn add_line(alloc: Global, to: &mut Vec<u8>, piece: RawPiece<'_>) -> Result<(), AllocError>
+/// Puts the line of a section behind the text.
+pub(crate) fn add_line(
+    alloc: Global,
+    to: &mut Vec<u8>,
+    piece: RawPiece<'_>,
+) -> Result<(), AllocError>
     ensures { OnOk result (to.new.items ≡ to.old.items ++ section_line (piece_record piece.entry)) }
 {
     add_decimal(alloc, to, piece.start as u64)?;
@@ -99,8 +104,12 @@ fn text(alloc: Global, pieces: &[RawPiece<'_>]) -> Result<Vec<u8>, AllocError>
     Ok(text)
 }
 
-// Puts the object of a section behind the text.
-fn add_object(alloc: Global, to: &mut Vec<u8>, piece: RawPiece<'_>) -> Result<(), AllocError> {
+/// Puts the object of a section behind the text.
+pub(crate) fn add_object(
+    alloc: Global,
+    to: &mut Vec<u8>,
+    piece: RawPiece<'_>,
+) -> Result<(), AllocError> {
     to.extend_from_slice(b"{\"id\":")?;
     add_decimal(alloc, to, piece.id as u64)?;
     to.extend_from_slice(b",\"kind\":\"")?;
@@ -163,21 +172,31 @@ fn stop(alloc: Global, place: usize) -> Result<Vec<u8>, AllocError>
     Ok(note)
 }
 
-/// The sections as they stand, whatever they hold; where bytes are left behind them, the place is noted, and that is a refusal.
-pub(crate) fn told(alloc: Global, order: &Order, bytes: &[u8]) -> Result<Made, Error>
-    ensures { TellsSections bytes.now order.now.is_json result }
+// The sections as they stand, whatever they hold; where bytes are left behind them, the place is noted, and that is a refusal.
+fn stand(alloc: Global, is_json: bool, bytes: &[u8]) -> Result<Made, Error>
+    ensures { TellsSections bytes.now is_json result }
 {
     match sections(alloc, bytes)? {
         Pieced::Whole(pieces) => Ok(Made {
-            output: listed(alloc, order.is_json, &pieces)?,
+            output: listed(alloc, is_json, &pieces)?,
             note: Vec::new(alloc),
             is_refused: false,
         }),
         Pieced::NoHeader => Err(Error::InvalidWasm(ErrorKind::InvalidWasm)),
         Pieced::Until(pieces, place) => Ok(Made {
-            output: listed(alloc, order.is_json, &pieces)?,
+            output: listed(alloc, is_json, &pieces)?,
             note: stop(alloc, place)?,
             is_refused: true,
         }),
     }
+}
+
+/// The sections as they stand; or all that a module has, where the order says so.
+pub(crate) fn told(alloc: Global, order: &Order, bytes: &[u8]) -> Result<Made, Error>
+    ensures { TellsAll bytes.now order.now.is_all order.now.is_json result }
+{
+    if order.is_all {
+        return parts::told(alloc, order.is_json, bytes);
+    }
+    stand(alloc, order.is_json, bytes)
 }

@@ -12,6 +12,7 @@ mod names;
 ghost use Rattle.std.specs.Prelude.{◌≡◌, ⊤};
 ghost use Rattle.walrus_tools.specs.Diagnosed.{AnswersFault};
 ghost use Rattle.walrus_tools.specs.Handed.{ReportsOn, RunsOn, config_of, defaults};
+ghost use Rattle.walrus_tools.specs.PartList.{AnswersPartList};
 ghost use Rattle.walrus_tools.specs.Reasons.{AnswersChain, WritesChain};
 ghost use Rattle.walrus_tools.specs.Choice.{IsList};
 ghost use Rattle.walrus_tools.specs.Sections.{AnswersSections};
@@ -146,6 +147,20 @@ pub extern "C" fn mulkavesh_sections(
     ensures { Gives ⊤ (AnswersSections input.now) output.old output.new length.new result }
 {
     let made = walrus_tools::section_list(alloc, input);
+    put(made, output, length)
+}
+
+/// The sections of a module and what stands in them, with the place and the size of each: `walrus_tools::part_list`.
+#[unsafe(no_mangle)]
+pub extern "C" fn mulkavesh_parts(
+    alloc: Global,
+    input: &[u8],
+    output: &mut [u8],
+    length: &mut usize,
+) -> u32
+    ensures { Gives ⊤ (AnswersPartList input.now) output.old output.new length.new result }
+{
+    let made = walrus_tools::part_list(alloc, input);
     put(made, output, length)
 }
 

@@ -3,7 +3,7 @@
 use std::alloc::Global;
 use std::test::Fail;
 use test_support::{bytes_of, demand, demand_bytes, is_text};
-use walrus_tools::{Choice, Result, section_list, strip};
+use walrus_tools::{Choice, Item, Part, Result, part_list, section_list, section_parts, strip};
 
 // Fails where a caller refused, or answered with other bytes than these.
 fn demand_output(
@@ -111,5 +111,50 @@ fn cut_bytes_are_listed_up_to_there(rt: HostRuntime) -> std::result::Result<(), 
             "The input WebAssembly is invalid",
         ),
         "another version",
+    )
+}
+
+// ---- section_parts and part_list
+
+// An imported function, two functions with bodies, a memory, an active data segment and a passive one.
+const PARTS: &str =
+    "00 61 73 6D 01 00 00 00 01 04 01 60 00 00 02 07 01 01 61 01 62 00 00 03 03 02 00 00 05 03 01 00 01 0A 08 02 02 00 0B 03 00 01 0B 0B 0B 02 00 41 00 0B 02 07 07 01 01 09";
+
+#[test]
+fn functions_and_segments_are_parts(rt: HostRuntime) -> std::result::Result<(), Fail> {
+    let alloc = rt.alloc();
+    let bytes = bytes_of(alloc, PARTS)?;
+    let parts = section_parts(alloc, &bytes)?;
+    demand(parts.len() == 10, "six sections and four parts in them")?;
+    let second = Item {
+        index: 2,
+        start: 40,
+        size: 3,
+    };
+    demand(parts[6] == Part::Function(second), "the second function")?;
+    let first = Item {
+        index: 0,
+        start: 46,
+        size: 7,
+    };
+    demand(parts[8] == Part::Segment(first), "the first segment")
+}
+
+#[test]
+fn functions_and_segments_are_listed(rt: HostRuntime) -> std::result::Result<(), Fail> {
+    let alloc = rt.alloc();
+    let bytes = bytes_of(alloc, PARTS)?;
+    demand_output(
+        alloc,
+        part_list(alloc, &bytes),
+        "01 38 00 00 00 01 01 08 00 00 00 06 00 00 00 01 00 00 00 FF FF FF FF 02 01 0E 00 00 00 09 00 00 00 01 00 00 00 FF FF FF FF 03 01 17 00 00 00 05 00 00 00 02 00 00 00 FF FF FF FF 05 01 1C 00 00 00 05 00 00 00 01 00 00 00 FF FF FF FF 0A 01 21 00 00 00 0A 00 00 00 02 00 00 00 FF FF FF FF 8A 01 25 00 00 00 02 00 00 00 01 00 00 00 FF FF FF FF 8A 01 28 00 00 00 03 00 00 00 02 00 00 00 FF FF FF FF 0B 01 2B 00 00 00 0D 00 00 00 02 00 00 00 FF FF FF FF 8B 01 2E 00 00 00 07 00 00 00 00 00 00 00 FF FF FF FF 8B 01 35 00 00 00 03 00 00 00 01 00 00 00 FF FF FF FF",
+    )?;
+    let unread = bytes_of(alloc, SECTIONS)?;
+    demand(
+        is_refused(
+            part_list(alloc, &unread),
+            "The input WebAssembly is invalid",
+        ),
+        "a section without a meaning",
     )
 }

@@ -34,6 +34,10 @@ mod MovesRuns
 mod MovesTrue
 mod OneBeginning
 mod OneNumber
+mod PartItems
+mod PartListLemmas
+mod PartRows
+mod PartText
 mod PlacedEnds
 mod PlacedOps
 mod PlacedSlots

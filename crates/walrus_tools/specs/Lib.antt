@@ -18,6 +18,9 @@ pub mod Measured
 pub mod Metadata
 pub mod Moves
 pub mod Numbers
+pub mod PartList
+pub mod PartSteps
+pub mod Parts
 pub mod Placed
 pub mod Reasons
 pub mod Renamed

@@ -7,6 +7,7 @@ pub mod gc;
 pub mod gc_counted;
 pub mod list;
 pub mod report;
+pub mod section_parts;
 pub mod sections;
 pub mod snip;
 pub mod strip;

@@ -26,8 +26,8 @@
 /// The answer stands in the first `*length` bytes of `output`.
 pub const MULKAVESH_DONE: u32 = 0;
 
-/// The input is no module that keeps the rules; of [`mulkavesh_strip`] and [`mulkavesh_sections`],
-/// its framing alone is none.
+/// The input is no module that keeps the rules; of [`mulkavesh_strip`], [`mulkavesh_sections`] and
+/// [`mulkavesh_parts`], its framing alone is none.
 pub const MULKAVESH_INVALID: u32 = 1;
 
 /// What is to be written has a count or a size past 32 bits.
@@ -56,6 +56,12 @@ pub const MULKAVESH_NO_LEGACY: u32 = 4;
 
 /// What stands in a list for the length of a name that isn't there.
 pub const MULKAVESH_NO_NAME: u32 = u32::MAX;
+
+/// A function with a body: what [`mulkavesh_parts`] tells in place of the number of a section.
+pub const MULKAVESH_FUNCTION: u8 = 138;
+
+/// A data segment: the same.
+pub const MULKAVESH_SEGMENT: u8 = 139;
 
 /// Nothing is wrong with the bytes: the first number that [`mulkavesh_diagnose`] tells.
 pub const MULKAVESH_FAULT_NONE: u32 = 0;
@@ -200,6 +206,21 @@ extern "C" {
     /// [`MULKAVESH_INVALID`] exactly where the magic number and the version don't stand in front,
     /// and [`MULKAVESH_TOO_LARGE`] where a number passes 32 bits.
     pub fn mulkavesh_sections(
+        input: *const u8,
+        input_length: usize,
+        output: *mut u8,
+        room: usize,
+        length: *mut usize,
+    ) -> u32;
+
+    /// What stands in a module, as [`mulkavesh_sections`] tells it: each section, and behind one of
+    /// code each function in it, as a section with the number [`MULKAVESH_FUNCTION`], behind one of
+    /// data each data segment, as one with the number [`MULKAVESH_SEGMENT`]. Their place is that of
+    /// the first byte of a function's body, behind its size, and of a segment's first byte; the count
+    /// is their index, where imported functions have the first ones; and they have no name. The first
+    /// byte is 1. [`MULKAVESH_INVALID`] exactly where the bytes aren't the sections of a module, read
+    /// to their ends, and [`MULKAVESH_TOO_LARGE`] where a number passes 32 bits.
+    pub fn mulkavesh_parts(
         input: *const u8,
         input_length: usize,
         output: *mut u8,

@@ -56,6 +56,10 @@ impl<'a> Call<'a> {
         Call::unflagged(Form::Plain(library::mulkavesh_sections))
     }
 
+    pub(crate) fn parts() -> Self {
+        Call::unflagged(Form::Plain(library::mulkavesh_parts))
+    }
+
     /// The choice is a list of records, as `choice::records` makes it.
     pub(crate) fn strip(choice: &'a [u8]) -> Self {
         Call::unflagged(Form::WithBytes(library::mulkavesh_strip, choice))

@@ -36,12 +36,14 @@ mod error;
 mod fault;
 mod flags;
 mod listed;
+mod parts;
 mod sections;
 
 pub use crate::error::Error;
 pub use crate::fault::{Beginning, Fault, Rule};
 pub use crate::flags::Flags;
 pub use crate::listed::Listed;
+pub use crate::parts::{Item, Part};
 pub use crate::sections::{Section, Sections};
 
 use crate::call::Call;
@@ -214,6 +216,30 @@ pub fn list(input: &[u8], flags: Flags) -> Result<Vec<Listed>, Error> {
 pub fn sections(input: &[u8]) -> Result<Sections, Error> {
     let answer = Call::sections().answer(input, ROOM_OF_SECTIONS)?;
     Sections::of(&answer)
+}
+
+/// What stands in a module: its sections, and behind one of code the functions in it, behind one of
+/// data the data segments.
+///
+/// # Errors
+///
+/// [`Error::Invalid`] exactly where the bytes aren't the sections of a module, read to their ends,
+/// [`Error::TooLarge`] where a place, a size or a count passes 32 bits, and [`Error::NoMemory`].
+///
+/// ```
+/// use mulkavesh::{parts, Item, Part};
+///
+/// // Two functions, whose bodies have two and three bytes.
+/// let module = b"\0asm\x01\0\0\0\x01\x04\x01\x60\0\0\x03\x03\x02\0\0\x0A\x08\x02\x02\0\x0B\x03\0\x01\x0B";
+/// let found = parts(module)?;
+/// assert!(matches!(&found[2], Part::Section(code) if code.kind() == "code"));
+/// let second = Item { index: 1, start: 26, size: 3 };
+/// assert_eq!(found[4..], [Part::Function(second)]);
+/// # Ok::<(), mulkavesh::Error>(())
+/// ```
+pub fn parts(input: &[u8]) -> Result<Vec<Part>, Error> {
+    let answer = Call::parts().answer(input, input.len() / 4 + ROOM_OF_SECTIONS)?;
+    parts::parts(Sections::of(&answer)?.sections)
 }
 
 /// The module without the custom sections whose names fit one of `goes` and none of `stays`. All else

@@ -2,7 +2,7 @@
 
 mod support;
 
-use mulkavesh::{gc, list, report, sections, strip, stub, why, Error, Flags, Listed};
+use mulkavesh::{gc, list, parts, report, sections, strip, stub, why, Error, Flags, Listed, Part};
 use std::ops::Range;
 use std::thread;
 use support::Sample;
@@ -224,6 +224,50 @@ fn sections_are_those_that_stand_there() {
         count += framed.len();
     }
     support::say(&format!("compared: {count} sections of the modules"));
+}
+
+/// The places of the functions of a module.
+fn bodies(module: &[u8]) -> Vec<Range<usize>> {
+    let mut found = Vec::new();
+    for section in framed(module) {
+        if section.id == SECTION_OF_CODE {
+            let front = section.range.end - section.content.len();
+            let (count, mut at) = number(section.content, 0);
+            for _ in 0..count {
+                let (size, start) = number(section.content, at);
+                at = start + size;
+                found.push(front + start..front + at);
+            }
+        }
+    }
+    found
+}
+
+#[test]
+fn parts_are_those_that_stand_there() {
+    let (mut functions, mut segments) = (0, 0);
+    for Sample { path, bytes } in support::samples() {
+        println!("{}", path.display());
+        let (mut found, mut places, mut before) = (Vec::new(), Vec::new(), None);
+        for part in parts(&bytes).expect("parts") {
+            match part {
+                Part::Section(section) => found.push(section),
+                Part::Function(it) => places.push(it.start as usize..(it.start + it.size) as usize),
+                Part::Segment(it) => {
+                    let (index, end) = before.unwrap_or((0, it.start));
+                    assert_eq!((it.index, it.start), (index, end));
+                    before = Some((index + 1, it.start + it.size));
+                }
+            }
+        }
+        assert_eq!(found, sections(&bytes).expect("sections").sections);
+        assert_eq!(places, bodies(&bytes));
+        functions += places.len();
+        segments += before.map_or(0, |(count, _)| count);
+    }
+    support::say(&format!(
+        "compared: {functions} functions and {segments} data segments of the modules"
+    ));
 }
 
 #[test]

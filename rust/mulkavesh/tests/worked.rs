@@ -1,8 +1,8 @@
 //! Each call on small modules, whose bytes were worked out by hand.
 
 use mulkavesh::{
-    diagnose, gc, list, report, sections, snip, strip, stub, version, why, Beginning, Error, Fault,
-    Flags, Listed, Rule, Section, Sections,
+    diagnose, gc, list, parts, report, sections, snip, strip, stub, version, why, Beginning, Error,
+    Fault, Flags, Item, Listed, Part, Rule, Section, Sections,
 };
 
 /// The bytes that the text says.
@@ -229,6 +229,43 @@ fn sections_are_told() {
         is_whole: true,
     };
     assert_eq!(sections(&module[..8]), Ok(wanted));
+}
+
+#[test]
+fn functions_and_segments_are_told() {
+    let two = parts(&bytes(TWO)).expect("parts");
+    let first = Item {
+        index: 0,
+        start: 30,
+        size: 3,
+    };
+    let second = Item {
+        index: 1,
+        start: 34,
+        size: 2,
+    };
+    assert_eq!(two[4..], [Part::Function(first), Part::Function(second)]);
+    assert!(two[..4].iter().all(|it| matches!(it, Part::Section(_))));
+    let imports = bytes(IMPORTS);
+    let own = Item {
+        index: 3,
+        start: imports.len() as u32 - 8,
+        size: 8,
+    };
+    let told = parts(&imports).expect("parts");
+    assert_eq!(told.last(), Some(&Part::Function(own)));
+    let head = bytes("00 61 73 6D 01 00 00 00 05 03 01 00 01");
+    let data = section(11, &bytes("02 00 41 00 0B 02 07 07 01 01 09"));
+    let segment = Item {
+        index: 1,
+        start: 23,
+        size: 3,
+    };
+    let told = parts(&[head, data].concat()).expect("parts");
+    assert_eq!(told.last(), Some(&Part::Segment(segment)));
+    assert_eq!(parts(&bytes(TWO)[..8]), Ok(Vec::new()));
+    let cut = Err(Error::Invalid(Fault::Section(26)));
+    assert_eq!(parts(&bytes(TWO)[..35]), cut);
 }
 
 #[test]

@@ -53,7 +53,7 @@ fn add_name(to: &mut Vec<u8>, name: Option<&str>) -> Result<()>
 }
 
 // Puts a section behind the bytes.
-fn add_section(to: &mut Vec<u8>, piece: RawPiece<'_>) -> Result<()>
+pub(crate) fn add_section(to: &mut Vec<u8>, piece: RawPiece<'_>) -> Result<()>
     ensures value { OnOk result (to.new.items ≡ to.old.items
         ++ section_bytes (piece_record piece.entry)) }
     ensures fits { OnOk result (IsLongSection (piece_record piece.entry) → ⊥) }
