@@ -8,12 +8,8 @@
 #![tactic(auto)]
 
 mod beginnings;
-#[cfg(test)]
-mod beginnings_tests;
 mod calls;
 mod choice;
-#[cfg(test)]
-mod choice_samples;
 mod examples;
 mod finish;
 mod fits;
@@ -21,10 +17,6 @@ mod functions;
 mod law;
 mod lines;
 mod numbers;
-#[cfg(test)]
-mod samples;
-#[cfg(test)]
-mod section_samples;
 mod tool;
 mod traps;
 mod wanted;
@@ -56,7 +48,7 @@ pub use tool::why::{why, why_called};
 pub use walrus::tool::{
     DeviceFailed, FromWrite, ReadAllError, Sink, Source, ToolError, read_all, write_all,
 };
-pub use walrus::{Error, ErrorKind};
+pub use walrus::{Error, ErrorKind, Result};
 pub use walrus_reading::Fault;
 pub use wanted::Wanted;
 pub use wasm_frames::{Pieced, RawPiece};

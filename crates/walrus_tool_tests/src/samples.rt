@@ -1,28 +1,12 @@
 //! Each caller on a small module, whose bytes were worked out by hand.
 
-use crate::examples::count_calls::count_calls;
-use crate::examples::find::find;
-use crate::examples::keep_listed::keep_listed;
-use crate::examples::moves::moves;
-use crate::examples::rename_export::rename_export;
-use crate::examples::shrink::shrink;
-use crate::examples::why_with_sizes::why_with_sizes;
-use crate::examples::with_export::with_export;
-use crate::examples::with_metadata::with_metadata;
-use crate::examples::with_places::with_places;
-use crate::tool::diagnose::fault;
-use crate::tool::gc::gc;
-use crate::tool::list::list;
-use crate::tool::report::report;
-use crate::tool::snip::snip;
-use crate::tool::stub::stub;
-use crate::tool::why::{why, why_called};
-use crate::wanted::Wanted;
 use std::alloc::Global;
 use std::test::Fail;
 use test_support::{bytes_of, demand, demand_bytes, is_text};
-use walrus::{Module, Result};
-use walrus_module::emitted_twice;
+use walrus_tools::{
+    Result, Wanted, count_calls, fault, find, gc, keep_listed, list, moves, rename_export, report,
+    shrink, snip, stub, why, why_called, why_with_sizes, with_export, with_metadata, with_places,
+};
 
 // Fails where a caller refused, or answered with other bytes than these.
 fn demand_output(
@@ -53,19 +37,6 @@ const ONE: &str =
 fn one_of_two_functions_is_left(rt: HostRuntime) -> std::result::Result<(), Fail> {
     let bytes = bytes_of(rt.alloc(), TWO)?;
     demand_output(rt.alloc(), shrink(rt.alloc(), &bytes), ONE)
-}
-
-// The module as a first and as a second emission write it.
-fn emitted(alloc: Global, bytes: &[u8]) -> Result<(Vec<u8>, Vec<u8>)> {
-    let mut module = Module::from_buffer(alloc, bytes)?;
-    emitted_twice(alloc, &mut module)
-}
-
-#[test]
-fn a_second_emission_writes_the_same(rt: HostRuntime) -> std::result::Result<(), Fail> {
-    let (first, second) = emitted(rt.alloc(), &bytes_of(rt.alloc(), ONE)?)?;
-    demand_bytes(rt.alloc(), &first, ONE, "a first emission")?;
-    demand_bytes(rt.alloc(), &second, ONE, "a second emission")
 }
 
 // ---- gc, report and list under flags
@@ -431,11 +402,13 @@ fn a_function_is_found_by_its_export(rt: HostRuntime) -> std::result::Result<(),
 
 // ---- diagnose
 
-// What is asked, and the two numbers of what is wrong with it: nothing; no header, but the front of what gzip writes; behind the types, at byte 14,
-// an id that is no section's; in function 0 an operator that isn't known.
-const FAULTS: [(&str, &str); 4] = [
+// What is asked, and the two numbers of what is wrong with it: nothing; no header, but the front of what gzip writes, the header of another
+// version, or none of what is known; behind the types, at byte 14, an id that is no section's; in function 0 an operator that isn't known.
+const FAULTS: [(&str, &str); 6] = [
     (TWO, "00 00 00 00 00 00 00 00"),
     ("1F 8B 08 00", "01 00 00 00 03 00 00 00"),
+    ("00 61 73 6D 02 00 00 00", "01 00 00 00 0A 00 00 00"),
+    ("68 65", "01 00 00 00 00 00 00 00"),
     (
         "00 61 73 6D 01 00 00 00 01 04 01 60 00 00 0E 00",
         "02 00 00 00 0E 00 00 00",
