@@ -52,7 +52,6 @@ module _ {S : Type 0} (choices : List Choice) (old new : Module S) (kept : Keeps
     where
       after : Module S
       after = record old { exports = new.exports }
-
       stays = kept_whole (IsChosen choices) c (held_view old) (held_view after) refl (exports old.exports) (exports new.exports) refl refl (kept.keeps).stay whole.made
 
 -- ---- from bytes to bytes

@@ -2,6 +2,7 @@
 
 pub mod diagnose;
 pub mod gc;
+pub mod gc_chosen;
 pub mod gc_counted;
 pub mod list;
 pub mod report;
@@ -9,4 +10,5 @@ pub mod sections;
 pub mod snip;
 pub mod strip;
 pub mod stub;
+pub mod unfit;
 pub mod why;
