@@ -9,7 +9,7 @@ use crate::named_exports::{drop_others, unfit_number};
 use std::alloc::Global;
 use walrus::{Error, Module, Result};
 
-/// The exports whose names aren't chosen are gone. `NotFound` exactly where a choice fits no export, but where memory ran out.
+/// The exports whose names aren't chosen are gone. `NotFound` exactly where a choice fits no export, unless memory runs out.
 pub(crate) fn keep_chosen<S>(
     alloc: Global,
     module: &mut Module<S>,
