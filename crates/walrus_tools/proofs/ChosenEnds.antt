@@ -46,13 +46,14 @@ module _ {S : Type 0} (choices : List Choice) (old new : Module S) (kept : Keeps
   pub chosen_held : KeepsChosen choices (contents_of old) (contents_of new)
   chosen_held = record { keeps = kept.keeps; others = ap contents_of kept.others }
 
+  abbrev after : Module S
+  after = record old { exports = new.exports }
+
   -- what was whole is whole
   pub chosen_whole : (c : Config) → IsWhole c old → IsWhole c new
-  chosen_whole c whole = subst (IsWhole c) (sym kept.others) (record { made = stays.made; reached = stays.reached tt whole.reached })
-    where
-      after : Module S
-      after = record old { exports = new.exports }
-      stays = kept_whole (IsChosen choices) c (held_view old) (held_view after) refl (exports old.exports) (exports new.exports) refl refl (kept.keeps).stay whole.made
+  chosen_whole c whole =
+      let stays = kept_whole (IsChosen choices) c (held_view old) (held_view after) refl (exports old.exports) (exports new.exports) refl refl (kept.keeps).stay whole.made in
+      subst (IsWhole c) (sym kept.others) (record { made = stays.made; reached = stays.reached tt whole.reached })
 
 -- ---- from bytes to bytes
 
