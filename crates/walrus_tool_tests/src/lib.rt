@@ -10,6 +10,8 @@ mod beginnings;
 #[cfg(test)]
 mod choice_samples;
 #[cfg(test)]
+mod chosen_samples;
+#[cfg(test)]
 mod samples;
 #[cfg(test)]
 mod section_samples;

@@ -4,7 +4,9 @@ mod BodiesRise
 mod CallBody
 mod CallSound
 mod ChoiceLists
+mod Choosers
 mod Chosen
+mod ChosenEnds
 mod Closures
 mod CountEnds
 mod CountRead
@@ -19,12 +21,14 @@ mod Fronts
 mod FunctionsThere
 mod HookEnds
 mod HookSteps
+mod KeptWhole
 mod KindLemmas
 mod LineLemmas
 mod ListedBytes
 mod ListedEnds
 mod ListedReached
 mod ListedWritten
+mod LookedUp
 mod Matched
 mod MeantThere
 mod MetadataEnds
@@ -32,6 +36,8 @@ mod MovesEnds
 mod MovesOnce
 mod MovesRuns
 mod MovesTrue
+mod NamedExports
+mod NoneChosen
 mod OneBeginning
 mod OneNumber
 mod PartItems

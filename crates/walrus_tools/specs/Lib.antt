@@ -1,5 +1,7 @@
 pub mod Beginnings
 pub mod Choice
+pub mod Chosen
+pub mod ChosenModule
 pub mod Comparing
 pub mod Count
 pub mod Counted
@@ -11,12 +13,14 @@ pub mod Fits
 pub mod Found
 pub mod Handed
 pub mod Hooked
+pub mod KeptExports
 pub mod Kinds
 pub mod Listed
 pub mod Listing
 pub mod Measured
 pub mod Metadata
 pub mod Moves
+pub mod NameLists
 pub mod Numbers
 pub mod PartList
 pub mod PartSteps

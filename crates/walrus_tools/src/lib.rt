@@ -10,12 +10,16 @@
 mod beginnings;
 mod calls;
 mod choice;
+mod chooser;
 mod examples;
 mod finish;
 mod fits;
 mod functions;
+mod keeping;
 mod law;
 mod lines;
+mod name_lists;
+mod named_exports;
 mod numbers;
 mod parts;
 mod tool;
@@ -41,6 +45,7 @@ pub use tool::counts::{Counted, counts};
 pub use tool::diagnose::{diagnose, fault, fault_words};
 pub use tool::find::find;
 pub use tool::gc::gc;
+pub use tool::gc_chosen::{gc_chosen, none_is_chosen};
 pub use tool::gc_counted::{Kinds, Smaller, gc_counted};
 pub use tool::list::{Listed, function_list, list};
 pub use tool::report::report;
@@ -49,6 +54,7 @@ pub use tool::sections::{section_list, sections};
 pub use tool::snip::snip;
 pub use tool::strip::strip;
 pub use tool::stub::stub;
+pub use tool::unfit::unfit;
 pub use tool::why::{Chain, why, why_called};
 pub use walrus::tool::{
     DeviceFailed, FromWrite, ReadAllError, Sink, Source, ToolError, read_all, write_all,

@@ -1,0 +1,65 @@
+//! Exports, by their names.
+
+ghost use Rattle.std.specs.Prelude.{◌≡◌, IfOk, map};
+ghost use Rattle.walrus_items.specs.Exports.{exports};
+ghost use Rattle.walrus_tools.specs.Choice.{choices_seen};
+ghost use Rattle.walrus_tools.specs.Chosen.{TellsUnfit};
+ghost use Rattle.walrus_tools.specs.KeptExports.{KeepsAt, KeepsNamed, export_names};
+ghost use Rattle.walrus_tools.specs.NameLists.{IsInOrder, IsPicked, texts};
+
+use crate::choice::Choice;
+use crate::chooser::{Chooser, is_chosen};
+use crate::name_lists::first_unfit;
+use std::alloc::{AllocError, Global};
+use walrus_base::ExportId;
+use walrus_items::ModuleExports;
+
+// The names under which something is exported, by rising id.
+fn export_names(alloc: Global, all: &ModuleExports) -> Result<Vec<&[u8]>, AllocError>
+    ensures { IfOk result (λ names. texts names.items ≡ export_names (exports all.now)) }
+{
+    let mut names = Vec::with_capacity(alloc, all.next_id().index())?;
+    'exports: for export in all.iter() {
+        names.push(export.name.as_bytes())?;
+    }
+    Ok(names)
+}
+
+/// The number of the first choice that fits no export. Takes a look-up for each choice without a star, and for each other one a walk over
+/// all exports.
+pub(crate) fn unfit_number(
+    alloc: Global,
+    all: &ModuleExports,
+    choices: &[Choice<'_>],
+) -> Result<Option<usize>, AllocError>
+    ensures { IfOk result (TellsUnfit (export_names (exports all.now)) (choices_seen choices.now)) }
+{
+    let mut names = export_names(alloc, all)?;
+    names.sort_unstable();
+    Ok(first_unfit(&names, choices))
+}
+
+// The export at this place is gone, unless its name is chosen.
+fn drop_at(all: &mut ModuleExports, at: usize, chooser: &Chooser<'_>)
+    requires { IsInOrder chooser.now }
+    ensures { KeepsAt (IsPicked chooser.now) at (exports all.old) (exports all.new) }
+{
+    let id = ExportId::at(at);
+    if !all.contains(id) {
+        return;
+    }
+    if is_chosen(chooser, all.get(id).name.as_bytes()) {
+        return;
+    }
+    all.remove_root(id);
+}
+
+/// The exports whose names aren't chosen are gone. Takes a look-up or two for each export, and one test for each NAME with a star.
+pub(crate) fn drop_others(all: &mut ModuleExports, chooser: &Chooser<'_>)
+    requires { IsInOrder chooser.now }
+    ensures { KeepsNamed (IsPicked chooser.now) (exports all.old) (exports all.new) }
+{
+    'places: for at in 0..all.next_id().index() {
+        drop_at(all, at, chooser);
+    }
+}
