@@ -13,3 +13,5 @@ mod choice_samples;
 mod samples;
 #[cfg(test)]
 mod section_samples;
+#[cfg(test)]
+mod snip_samples;

@@ -24,7 +24,10 @@ mod ListedBytes
 mod ListedEnds
 mod ListedReached
 mod ListedWritten
+mod MarkLemmas
 mod Matched
+mod MeantLemmas
+mod MeantTexts
 mod MeantThere
 mod MetadataEnds
 mod MovesEnds
@@ -54,5 +57,7 @@ mod StubStep
 mod StubTurn
 mod TrapBody
 mod TrapSound
+mod TrapTurn
+mod TrapWhole
 mod WantedLemmas
 pub use Rattle.walrus.proofs.DeviceLemmas

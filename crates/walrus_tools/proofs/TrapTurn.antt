@@ -66,17 +66,24 @@ traps_end hits k old new some le = λ p. ⊎_elim
     (cases_lt p k)
 
 -- the function at a place is put back, and traps
-pub trap_put : (slots : List (Option Function)) (p : ℕ) (was : Function) (kind : FunctionKind) → item_at (map (option_map function_value) slots) p ≡ Some (function_value was) → KindTraps was.kind kind
-    → PlaceTraps true p (map (option_map function_value) slots) (map (option_map function_value) (slice_set slots p (Some (record was { kind = kind }))))
-trap_put slots p was kind there traps =
-    let set : map (option_map function_value) (slice_set slots p (Some (record was { kind = kind }))) ≡ slice_set (map (option_map function_value) slots) p (Some (record (function_value was) { kind = kind })) = map-set (option_map function_value) slots p (Some (record was { kind = kind })) in
-    subst (λ (new : List (Option FunctionValue)). PlaceTraps true p (map (option_map function_value) slots) new) (sym set)
-    (record {
-      here = subst (λ (o : Option FunctionValue). SlotTraps o (item_at (slice_set (map (option_map function_value) slots) p (Some (record (function_value was) { kind = kind }))) p)) (sym there)
-          (kind, set_here (map (option_map function_value) slots) p (Some (record (function_value was) { kind = kind })) (some_there (item_at (map (option_map function_value) slots) p) there), traps);
-      others = λ i differs. get_or-set_other (map (option_map function_value) slots) p i (Some (record (function_value was) { kind = kind })) None differs;
-      same_length = length-set (map (option_map function_value) slots) p (Some (record (function_value was) { kind = kind }));
-    })
+module _ (slots : List (Option Function)) (p : ℕ) (was : Function) (kind : FunctionKind) where
+  abbrev before : List (Option FunctionValue)
+  before = map (option_map function_value) slots
+
+  abbrev now_there : Option FunctionValue
+  now_there = Some (record (function_value was) { kind = kind })
+
+  put : item_at before p ≡ Some (function_value was) → KindTraps was.kind kind → PlaceTraps true p before (slice_set before p now_there)
+  put there traps = record {
+    here = subst (λ (o : Option FunctionValue). SlotTraps o (item_at (slice_set before p now_there) p)) (sym there) (kind, set_here before p now_there (some_there (item_at before p) there), traps);
+    others = λ i differs. get_or-set_other before p i now_there None differs;
+    same_length = length-set before p now_there;
+  }
+
+  pub trap_put : (hit : Bool) → hit ≡ true → item_at before p ≡ Some (function_value was) → KindTraps was.kind kind → PlaceTraps hit p before (map (option_map function_value) (slice_set slots p (Some (record was { kind = kind }))))
+  trap_put hit is there traps =
+      subst (λ (b : Bool). PlaceTraps b p before (map (option_map function_value) (slice_set slots p (Some (record was { kind = kind }))))) (sym is)
+      (subst (λ (new : List (Option FunctionValue)). PlaceTraps true p before new) (sym (map-set (option_map function_value) slots p (Some (record was { kind = kind })))) (put there traps))
 
 -- ---- those that are meant
 

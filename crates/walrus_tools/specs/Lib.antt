@@ -14,6 +14,8 @@ pub mod Hooked
 pub mod Kinds
 pub mod Listed
 pub mod Listing
+pub mod Marking
+pub mod Meant
 pub mod Measured
 pub mod Metadata
 pub mod Moves
@@ -30,4 +32,5 @@ pub mod Stripped
 pub mod Stub
 pub mod Stubbed
 pub mod Trap
+pub mod Trapping
 pub mod Wanted

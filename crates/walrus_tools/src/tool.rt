@@ -7,6 +7,7 @@ pub mod list;
 pub mod report;
 pub mod sections;
 pub mod snip;
+pub mod snip_functions;
 pub mod strip;
 pub mod stub;
 pub mod why;
