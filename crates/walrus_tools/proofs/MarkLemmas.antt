@@ -1,17 +1,16 @@
--- Marks that come place by place, and text by text.
+-- Marks that come place by place.
 use Rattle.std.proofs.Common.{◌≡◌, ℕ, ◌+◌, ◌<◌, ◌≤◌, Bool, true, refl, sym, ap, ◌∙◌, subst, inl, inr, ⊎_elim, arith}
 use Rattle.std.specs.Prelude.{◌⊎◌}
 use Rattle.std.proofs.lemmas.Bool.{cases_lt}
 use Rattle.walrus_base.specs.Marks.{is_marked}
-use Rattle.walrus_base.specs.declared.keys.FunctionKey.{FunctionKey}
 use Rattle.walrus_base.specs.declared.marks.Marks.{Marks}
 use Rattle.walrus_tools.specs.Marking.{Adds, Meets}
-use Rattle.walrus_tools.specs.declared.meant.Marking.{Marking}
+use Rattle.walrus_tools.specs.declared.marking.Marking.{Marking}
 
 -- ---- the same places, said otherwise
 
-module _ (P Q : ℕ → Type 0) (to : (p : ℕ) → P p → Q p) (back : (p : ℕ) → Q p → P p) where
-  pub adds_as : (old new : Marks FunctionKey) → Adds P old new → Adds Q old new
+module _ {K : Type 0} (P Q : ℕ → Type 0) (to : (p : ℕ) → P p → Q p) (back : (p : ℕ) → Q p → P p) where
+  pub adds_as : (old new : Marks K) → Adds P old new → Adds Q old new
   adds_as old new a = record {
     added = λ p q. a.added p (back p q);
     stay = a.stay;
@@ -19,7 +18,7 @@ module _ (P Q : ℕ → Type 0) (to : (p : ℕ) → P p → Q p) (back : (p : �
     places = a.places;
   }
 
-  pub meets_as : (old new : Marking) → Meets P old new → Meets Q old new
+  pub meets_as : (old new : Marking K) → Meets P old new → Meets Q old new
   meets_as old new m = record {
     adds = adds_as old.marks new.marks m.adds;
     met = λ p q. m.met p (back p q);
@@ -29,11 +28,8 @@ module _ (P Q : ℕ → Type 0) (to : (p : ℕ) → P p → Q p) (back : (p : �
 
 -- ---- two steps
 
-module _ (P Q : ℕ → Type 0) where
-  abbrev Both : ℕ → Type 0
-  Both p = P p ⊎ Q p
-
-  pub adds_both : (old mid new : Marks FunctionKey) → Adds P old mid → Adds Q mid new → Adds Both old new
+module _ {K : Type 0} (P Q : ℕ → Type 0) where
+  adds_both : (old mid new : Marks K) → Adds P old mid → Adds Q mid new → Adds (λ p. P p ⊎ Q p) old new
   adds_both old mid new a b = record {
     added = λ p h. ⊎_elim (λ (is : P p). b.stay p (a.added p is)) (λ (is : Q p). b.added p is) h;
     stay = λ p h. b.stay p (a.stay p h);
@@ -44,7 +40,7 @@ module _ (P Q : ℕ → Type 0) where
     places = b.places ∙ a.places;
   }
 
-  pub meets_both : (old mid new : Marking) → Meets P old mid → Meets Q mid new → Meets Both old new
+  pub meets_both : (old mid new : Marking K) → Meets P old mid → Meets Q mid new → Meets (λ p. P p ⊎ Q p) old new
   meets_both old mid new a b = record {
     adds = adds_both old.marks mid.marks new.marks a.adds b.adds;
     met = λ p h. ⊎_elim (λ (is : P p). b.stays (a.met p is)) (λ (is : Q p). b.met p is) h;
@@ -65,12 +61,6 @@ module _ (R : ℕ → ℕ → Type 0) where
   none_below : (p : ℕ) → Below 0 p → ⊥
   none_below p h = let lt : h.0 < 0 = h.1 in omega (arith, lt)
 
-  pub adds_none : (marks : Marks FunctionKey) → Adds (Below 0) marks marks
-  adds_none marks = record { added = λ p h. absurd (none_below p h); stay = λ p h. h; only = λ p h. inl h; places = refl }
-
-  pub meets_none : (marking : Marking) → Meets (Below 0) marking marking
-  meets_none marking = record { adds = adds_none marking.marks; met = λ p h. absurd (none_below p h); stays = λ h. h; only = λ h. inl h }
-
   above : (k p : ℕ) → Below k p ⊎ R k p → Below (k + 1) p
   above k p (inl h) = let lt : h.0 < k = h.1 in (h.0, omega (arith, lt), h.2)
   above k p (inr h) = (k, omega arith, h)
@@ -81,12 +71,17 @@ module _ (R : ℕ → ℕ → Type 0) where
       (λ (more : k ≤ h.0). inr (let is : h.0 ≡ k = omega (arith, lt, more) in subst (λ (i : ℕ). R i p) is h.2))
       (cases_lt h.0 k)
 
-  pub adds_more : (k : ℕ) (old mid new : Marks FunctionKey) → Adds (Below k) old mid → Adds (R k) mid new → Adds (Below (k + 1)) old new
-  adds_more k old mid new a b = adds_as (λ p. Below k p ⊎ R k p) (Below (k + 1)) (above k) (beneath k) old new (adds_both (Below k) (R k) old mid new a b)
+  pub meets_none : {K : Type 0} (marking : Marking K) → Meets (Below 0) marking marking
+  meets_none marking = record {
+    adds = record { added = λ p h. absurd (none_below p h); stay = λ p h. h; only = λ p h. inl h; places = refl };
+    met = λ p h. absurd (none_below p h);
+    stays = λ h. h;
+    only = λ h. inl h;
+  }
 
-  pub meets_more : (k : ℕ) (old mid new : Marking) → Meets (Below k) old mid → Meets (R k) mid new → Meets (Below (k + 1)) old new
+  pub meets_more : {K : Type 0} (k : ℕ) (old mid new : Marking K) → Meets (Below k) old mid → Meets (R k) mid new → Meets (Below (k + 1)) old new
   meets_more k old mid new a b = meets_as (λ p. Below k p ⊎ R k p) (Below (k + 1)) (above k) (beneath k) old new (meets_both (Below k) (R k) old mid new a b)
 
   -- behind the last place all is brought
-  pub meets_all : (n k : ℕ) → n ≤ k → ((i p : ℕ) → R i p → i < n) → (old new : Marking) → Meets (Below k) old new → Meets (λ p. (i : ℕ) × R i p) old new
+  pub meets_all : {K : Type 0} (n k : ℕ) → n ≤ k → ((i p : ℕ) → R i p → i < n) → (old new : Marking K) → Meets (Below k) old new → Meets (λ p. (i : ℕ) × R i p) old new
   meets_all n k le few old new m = meets_as (Below k) (λ p. (i : ℕ) × R i p) (λ p h. (h.0, h.2)) (λ p h. let lt : h.0 < n = few h.0 p h.1 in (h.0, omega (arith, lt, le), h.1)) old new m

@@ -16,8 +16,8 @@ use Rattle.walrus_tools.specs.Found.{FindsCalled, function_called}
 use Rattle.walrus_tools.specs.Marking.{Adds, IsExported, IsFit, IsFitting, IsNamed, MarksFitting, MarksOne, MarksText, Meets, RefusesText}
 use Rattle.walrus_tools.specs.Meant.{FitsExport, FitsFunction, Means, MeansBodies, by_index, by_name, by_star, has_body, has_star, SaysIndex, SaysNone}
 use Rattle.walrus_tools.specs.Reasons.{FindsFunction}
-use Rattle.walrus_tools.specs.declared.meant.Marking.{Marking}
-use Rattle.walrus_tools.proofs.MarkLemmas.{adds_as, adds_both, meets_both}
+use Rattle.walrus_tools.specs.declared.marking.Marking.{Marking}
+use Rattle.walrus_tools.proofs.MarkLemmas.{adds_as, meets_both}
 
 untrue : false ≡ true → ⊥
 untrue h = cc
@@ -38,20 +38,9 @@ named_within name fs i p h = body_within fs i h.1.0
 pub exported_within : (name : List ℕ) (fs : List (Option FunctionValue)) (es : List (Option ExportValue)) (i p : ℕ) → IsExported name fs es i p → i < length es
 exported_within name fs es i p h = within es i (λ none. subst (λ (o : Option ExportValue). FitsExport name o p) none h.0)
 
--- ---- one place
-
--- nothing is marked, where there is no such place
-pub meets_nothing : (P : ℕ → Type 0) → ((p : ℕ) → P p → ⊥) → (marking : Marking) → Meets P marking marking
-meets_nothing P none marking = record {
-  adds = record { added = λ p h. absurd (none p h); stay = λ p h. h; only = λ p h. inl h; places = refl };
-  met = λ p h. absurd (none p h);
-  stays = λ h. h;
-  only = λ h. inl h;
-}
-
 -- ---- all that a name with stars fits
 
-module _ (name : List ℕ) (fs : List (Option FunctionValue)) (es : List (Option ExportValue)) (old mid new : Marking)
+module _ (name : List ℕ) (fs : List (Option FunctionValue)) (es : List (Option ExportValue)) (old mid new : Marking FunctionKey)
     (one : Meets (λ p. (i : ℕ) × IsNamed name fs i p) old mid) (two : Meets (λ p. (i : ℕ) × IsExported name fs es i p) mid new) (unset : old.is_met ≡ false) where
   abbrev both : Meets (IsFitting name fs es) old new
   both = meets_both (λ p. (i : ℕ) × IsNamed name fs i p) (λ p. (i : ℕ) × IsExported name fs es i p) old mid new one two

@@ -1,4 +1,4 @@
--- What marks the functions that texts mean.
+-- Marks that are set one after another, and those of the functions that texts mean.
 use Rattle.std.specs.Prelude.{ℕ, Bool, true, false, List, Option, Result, Ok, Err, All, MatchResult, length, ◌≡◌, ◌⊎◌, ◌↔◌, ⊤}
 use Rattle.walrus_base.specs.Arena.{item_at}
 use Rattle.walrus_base.specs.Marks.{is_marked, mark_places}
@@ -9,25 +9,26 @@ use Rattle.walrus_items.specs.Functions.{FunctionValue}
 use Rattle.walrus_items.specs.declared.error.Error.{Error}
 use Rattle.walrus_items.specs.declared.error.Error.TheVariants.{Memory, NotFound, NotReplaceable}
 use Rattle.walrus_tools.specs.Meant.{AreMeant, FitsExport, FitsFunction, has_body, IsFirst, Means, MeansBodies, MeansBodiless, MeansNone}
-use Rattle.walrus_tools.specs.declared.meant.Marking.{Marking}
+use Rattle.walrus_tools.specs.declared.marking.Marking.{Marking}
 
--- beside those that were marked, these places are, and no others
-pub record Adds (P : ℕ → Type 0) (old new : Marks FunctionKey) : Type 0 where
-  pub added : (p : ℕ) → P p → is_marked new p ≡ true
-  pub stay : (p : ℕ) → is_marked old p ≡ true → is_marked new p ≡ true
-  pub only : (p : ℕ) → is_marked new p ≡ true → (is_marked old p ≡ true) ⊎ P p
-  pub places : mark_places new ≡ mark_places old
+module _ {K : Type 0} where
+  -- beside those that were marked, these places are, and no others
+  pub record Adds (P : ℕ → Type 0) (old new : Marks K) : Type 0 where
+    pub added : (p : ℕ) → P p → is_marked new p ≡ true
+    pub stay : (p : ℕ) → is_marked old p ≡ true → is_marked new p ≡ true
+    pub only : (p : ℕ) → is_marked new p ≡ true → (is_marked old p ≡ true) ⊎ P p
+    pub places : mark_places new ≡ mark_places old
 
--- the same, and one was met where one had been, or where there is such a place
-pub record Meets (P : ℕ → Type 0) (old new : Marking) : Type 0 where
-  pub adds : Adds P old.marks new.marks
-  pub met : (p : ℕ) → P p → new.is_met ≡ true
-  pub stays : old.is_met ≡ true → new.is_met ≡ true
-  pub only : new.is_met ≡ true → (old.is_met ≡ true) ⊎ ((p : ℕ) × P p)
+  -- the same, and one was met where one had been, or where there is such a place
+  pub record Meets (P : ℕ → Type 0) (old new : Marking K) : Type 0 where
+    pub adds : Adds P old.marks new.marks
+    pub met : (p : ℕ) → P p → new.is_met ≡ true
+    pub stays : old.is_met ≡ true → new.is_met ≡ true
+    pub only : new.is_met ≡ true → (old.is_met ≡ true) ⊎ ((p : ℕ) × P p)
 
--- there is a mark for each of these functions
-abbrev pub HasPlaces : List (Option FunctionValue) → Marks FunctionKey → Type 0
-HasPlaces functions marks = mark_places marks ≡ length functions
+  -- there is a mark for each of these places
+  abbrev pub HasPlaces : {A : Type 0} → List A → Marks K → Type 0
+  HasPlaces slots marks = mark_places marks ≡ length slots
 
 -- a function with a body stands there, and the NAME fits its name
 abbrev pub IsFit : (name : List ℕ) → Option FunctionValue → Type 0

@@ -16,6 +16,7 @@ mod fits;
 mod functions;
 mod law;
 mod lines;
+mod marking;
 mod meant;
 mod numbers;
 mod tool;

@@ -1,9 +1,8 @@
 //! The functions that texts mean: by an index, by a name, or by a name with stars.
 
-ghost use Rattle.std.specs.Prelude.{ℕ, ◌≡◌, ◌<◌, ◌↔◌, MatchOption, MatchResult, true};
+ghost use Rattle.std.specs.Prelude.{ℕ, ◌≡◌, ◌↔◌, MatchOption, MatchResult, true};
 ghost use Rattle.walrus_base.specs.Arena.{item_at};
 ghost use Rattle.walrus_base.specs.Id.{place};
-ghost use Rattle.walrus_base.specs.Marks.{mark_places};
 ghost use Rattle.walrus_items.specs.Exports.{exports};
 ghost use Rattle.walrus_items.specs.Functions.{functions};
 ghost use Rattle.walrus_items.specs.Seen.{text_of};
@@ -12,6 +11,7 @@ ghost use Rattle.walrus_tools.specs.Meant.{FitsExport, FitsName, has_body, has_s
 
 use crate::fits::fits;
 use crate::functions::{function_at, function_called};
+use crate::marking::{Marking, meet};
 use std::alloc::Global;
 use walrus::{
     Error, ExportId, ExportItem, FunctionId, FunctionKey, FunctionKind, Marks, ModuleExports,
@@ -24,13 +24,6 @@ pub struct Meant<'a> {
     /// The index of a function, in decimal. Or else, with a star in it, a name as in [`Choice`](crate::Choice), which means each function with a
     /// body whose name it fits, or the name of one of whose exports. Or else the name of a function, or that of the export of one.
     pub name: &'a str,
-}
-
-/// Marks of functions, and whether one was met since that was last unset.
-#[derive(Drop)]
-struct Marking {
-    marks: Marks<FunctionKey>,
-    is_met: bool,
 }
 
 // Whether a star stands in the text.
@@ -97,17 +90,8 @@ fn fits_export(all: &ModuleExports, at: ExportId, name: &str) -> Option<Function
 
 // ---- marks
 
-// Marks a function, and one is met.
-fn meet(marking: &mut Marking, id: FunctionId)
-    requires { place id < mark_places marking.old.marks }
-    ensures { Meets (λ p. p ≡ place id) marking.old marking.new }
-{
-    let _is_new = marking.marks.mark(id);
-    marking.is_met = true;
-}
-
 // Marks the function of this id, if it has a body and this fits its name.
-fn mark_named(marking: &mut Marking, all: &ModuleFunctions, id: FunctionId, name: &str)
+fn mark_named(marking: &mut Marking<FunctionKey>, all: &ModuleFunctions, id: FunctionId, name: &str)
     requires { HasPlaces (functions all.now) marking.old.marks }
     ensures { Meets (IsNamed name.now (functions all.now) (place id)) marking.old marking.new }
 {
@@ -118,7 +102,7 @@ fn mark_named(marking: &mut Marking, all: &ModuleFunctions, id: FunctionId, name
 
 // Marks the function that the export of this id brings out, if it has a body and this fits the name of the export.
 fn mark_exported(
-    marking: &mut Marking,
+    marking: &mut Marking<FunctionKey>,
     all: &ModuleFunctions,
     exported: &ModuleExports,
     at: ExportId,
@@ -136,7 +120,7 @@ fn mark_exported(
 }
 
 // Marks the functions with a body whose names this fits.
-fn mark_all_named(marking: &mut Marking, all: &ModuleFunctions, name: &str)
+fn mark_all_named(marking: &mut Marking<FunctionKey>, all: &ModuleFunctions, name: &str)
     requires { HasPlaces (functions all.now) marking.old.marks }
     ensures { Meets (λ p. (i : ℕ) × IsNamed name.now (functions all.now) i p) marking.old marking.new }
 {
@@ -147,7 +131,7 @@ fn mark_all_named(marking: &mut Marking, all: &ModuleFunctions, name: &str)
 
 // Marks the functions with a body that are exported under names that this fits.
 fn mark_all_exported(
-    marking: &mut Marking,
+    marking: &mut Marking<FunctionKey>,
     all: &ModuleFunctions,
     exported: &ModuleExports,
     name: &str,
@@ -163,7 +147,7 @@ fn mark_all_exported(
 
 // Marks the functions that a name with a star means.
 fn mark_fitting(
-    marking: &mut Marking,
+    marking: &mut Marking<FunctionKey>,
     all: &ModuleFunctions,
     exported: &ModuleExports,
     name: &str,
@@ -182,7 +166,7 @@ fn mark_fitting(
 }
 
 // Marks a function, if it has a body.
-fn mark_one(marking: &mut Marking, all: &ModuleFunctions, id: FunctionId) -> Result<()>
+fn mark_one(marking: &mut Marking<FunctionKey>, all: &ModuleFunctions, id: FunctionId) -> Result<()>
     requires { HasPlaces (functions all.now) marking.old.marks }
     ensures { MarksOne (functions all.now) (place id) marking.old.marks marking.new.marks result }
 {
@@ -195,7 +179,7 @@ fn mark_one(marking: &mut Marking, all: &ModuleFunctions, id: FunctionId) -> Res
 
 // Marks the functions that a text means.
 fn mark_text(
-    marking: &mut Marking,
+    marking: &mut Marking<FunctionKey>,
     all: &ModuleFunctions,
     exported: &ModuleExports,
     text: &str,
