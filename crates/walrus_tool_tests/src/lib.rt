@@ -15,3 +15,5 @@ mod samples;
 mod section_samples;
 #[cfg(test)]
 mod snip_samples;
+#[cfg(test)]
+mod stub_samples;

@@ -4,6 +4,7 @@ mod CallBody
 mod CallSound
 mod ChoiceLists
 mod Chosen
+mod ChosenImports
 mod Closures
 mod CountEnds
 mod CountRead
@@ -26,6 +27,7 @@ mod ListedReached
 mod ListedWritten
 mod MarkLemmas
 mod Matched
+mod MatchingEnds
 mod MeantLemmas
 mod MeantTexts
 mod MeantThere

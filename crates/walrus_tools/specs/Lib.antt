@@ -30,6 +30,7 @@ pub mod Snipped
 pub mod StripSteps
 pub mod Stripped
 pub mod Stub
+pub mod StubMatching
 pub mod Stubbed
 pub mod Trap
 pub mod Trapping

@@ -14,6 +14,7 @@ mod examples;
 mod finish;
 mod fits;
 mod functions;
+mod import_choice;
 mod law;
 mod lines;
 mod marking;
@@ -49,6 +50,7 @@ pub use tool::snip::snip;
 pub use tool::snip_functions::snip_functions;
 pub use tool::strip::strip;
 pub use tool::stub::stub;
+pub use tool::stub_matching::stub_matching;
 pub use tool::why::{why, why_called};
 pub use walrus::tool::{
     DeviceFailed, FromWrite, ReadAllError, Sink, Source, ToolError, read_all, write_all,

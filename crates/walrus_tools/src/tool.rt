@@ -10,4 +10,5 @@ pub mod snip;
 pub mod snip_functions;
 pub mod strip;
 pub mod stub;
+pub mod stub_matching;
 pub mod why;
