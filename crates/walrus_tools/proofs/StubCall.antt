@@ -130,10 +130,10 @@ module _ {S : Type 0} (c : Config) (hits : ℕ → Bool) (old : Module S) (whole
 
 -- ---- the imports from a module
 
-brings : (from : List ℕ) (o : Option ImportValue) (id : Id FunctionKey) → function_from from o ≡ Some id → BringsFunction o
-brings from None id e = absurd (none_isnt e)
-brings from (Some x) id e = record { value = x; there = refl; id = id; function = by (bytes_eq x.module_name from) e } where
-  by : (b : Bool) → (if b then imported_function x.kind else None) ≡ Some id → imported_function x.kind ≡ Some id
+brings : (from : List ℕ) (o : Option ImportValue) (f : Id FunctionKey) → function_from from o ≡ Some f → BringsFunction o
+brings from None f e = absurd (none_isnt e)
+brings from (Some x) f e = record { value = x; there = refl; id = f; function = by (bytes_eq x.module_name from) e } where
+  by : (b : Bool) → (if b then imported_function x.kind else None) ≡ Some f → imported_function x.kind ≡ Some f
   by true e = e
   by false e = absurd (none_isnt e)
 

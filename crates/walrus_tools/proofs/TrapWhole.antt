@@ -18,7 +18,7 @@ use Rattle.walrus_model.specs.Refers.{function_names, named_by}
 use Rattle.walrus_contents.specs.View.{body, contents_view, function, handlers_at, kind_of}
 use Rattle.walrus_contents.specs.declared.parts.Contents.{Contents}
 use Rattle.walrus_items.specs.Errors.{out_of_memory}
-use Rattle.walrus_items.specs.Exports.{exports}
+use Rattle.walrus_items.specs.Exports.{ExportValue, exports}
 use Rattle.walrus_items.specs.Function.{args_of, function_type}
 use Rattle.walrus_items.specs.Functions.{FunctionValue, functions}
 use Rattle.walrus_items.specs.LocalFunction.{LocalFunction}
@@ -106,7 +106,7 @@ module _ {S : Type 0} (c : Config) (old new : Module S) (whole : IsWhole c old) 
     -- its type is all that it leads to, and was written in it before
     trapped_leads : AddsLive (held_view old) w (Functions, i)
     trapped_leads y r = inl (inl (subst (λ (x : Item). Contains (named_by function_names ((held_view old).functions i)) x) (sym (trap_refers w i ty b stands t.same.traps no_handlers y r))
-        (subst (λ (o : Option abstract.Function). Contains (named_by function_names o) (type_item ty)) (sym stood) (Contains-head (type_item ty) []))))
+        (subst (λ (o : Option abstract.Function). Contains (named_by function_names o) (type_item ty)) (sym stood) (Contains-head (type_item ty) _))))
 
   sound : (i : ℕ) (d : Turn i) → tells d ≡ true → IsSound c w (Functions, i)
   sound i (inl (meant, t)) h = trapped_sound i t
@@ -132,7 +132,7 @@ module _ {S : Type 0} (c : Config) (old : Module S) (whole : IsWhole c old) wher
   abbrev fs : List (Option FunctionValue)
   fs = functions old.funcs
 
-  abbrev es : List (Option _)
+  abbrev es : List (Option ExportValue)
   es = exports old.exports
 
   means_there : (text : List ℕ) (p : ℕ) → Means fs es text p → IsSome (item_at fs p)
@@ -148,7 +148,7 @@ module _ {S : Type 0} (c : Config) (old : Module S) (whole : IsWhole c old) wher
     by_kind : (f : FunctionValue) → item_at fs p ≡ Some f → (k : FunctionKind) → f.kind ≡ k → MeansImported fs es text
     by_kind f there (Local l) kind = absurd (untrue (sym without ∙ ap has_body there ∙ ap (λ (k : FunctionKind). has_body (Some (record f { kind = k }))) kind))
     by_kind f there (Import i) kind = record { place = p; is = means; function = f; there = there; imported = i; kind = kind }
-    by_kind f there (Uninitialized ty) kind =
+    by_kind f there (Uninitialized t) kind =
         absurd (whole.made.writable.initialised p (function old.locals f) (ap (option_map (function old.locals)) there) (ap (λ (k : FunctionKind). kind_of old.locals k) kind))
 
     by : (f : FunctionValue) × (item_at fs p ≡ Some f) → MeansImported fs es text
