@@ -15,3 +15,7 @@ mod chosen_samples;
 mod samples;
 #[cfg(test)]
 mod section_samples;
+#[cfg(test)]
+mod snip_samples;
+#[cfg(test)]
+mod stub_samples;

@@ -7,6 +7,7 @@ mod ChoiceLists
 mod Choosers
 mod Chosen
 mod ChosenEnds
+mod ChosenImports
 mod Closures
 mod CountEnds
 mod CountRead
@@ -29,7 +30,11 @@ mod ListedEnds
 mod ListedReached
 mod ListedWritten
 mod LookedUp
+mod MarkLemmas
 mod Matched
+mod MatchingEnds
+mod MeantLemmas
+mod MeantTexts
 mod MeantThere
 mod MetadataEnds
 mod MovesEnds
@@ -65,5 +70,7 @@ mod StubStep
 mod StubTurn
 mod TrapBody
 mod TrapSound
+mod TrapTurn
+mod TrapWhole
 mod WantedLemmas
 pub use Rattle.walrus.proofs.DeviceLemmas

@@ -1,12 +1,11 @@
 -- Which of the first places a test tells, one place more at a time.
-use Rattle.std.proofs.Common.{◌≡◌, ◌≢◌, ℕ, ◌+◌, ◌<◌, ◌≤◌, Bool, true, false, length, List, Option, Some, None, refl, sym, ap, ◌∙◌, ⊎_elim, arith}
+use Rattle.std.proofs.Common.{◌≡◌, ◌≢◌, ℕ, ◌+◌, ◌<◌, ◌≤◌, Bool, true, false, length, List, Option, None, refl, sym, ap, ◌∙◌, ⊎_elim, arith}
 use Rattle.std.specs.Prelude.{nat_lt, ◌&&◌, is_some}
 use Rattle.std.proofs.Math.Path.{fun_ext}
 use Rattle.std.proofs.Math.Bool.{and-false}
 use Rattle.std.proofs.lemmas.Bool.{cases_lt, le-ltb, lt-ltb}
-use Rattle.walrus_base.specs.Arena.{item_at}
+use Rattle.std.proofs.lemmas.List.{get_or_past}
 use Rattle.walrus_items.specs.Imports.{ImportValue}
-use Rattle.walrus_reading.proofs.Carrying.{item_within}
 use Rattle.walrus_theorem.proofs.EditSpace.{equal_or}
 use Rattle.walrus_tools.specs.Stub.{comes_from, function_from}
 
@@ -36,13 +35,12 @@ passes_over C n miss = fun_ext (λ p. ⊎_elim
     (equal_or p n))
 
 -- behind the last place nothing is told
-pub all_below : (from : List ℕ) (all : List (Option ImportValue)) (n : ℕ) → n ≡ length all → ◌≡◌ {A = ℕ → Bool} (λ p. nat_lt p n && comes_from from all p) (comes_from from all)
-all_below from all n is = fun_ext (λ p. ⊎_elim
-    (λ (lt : p < n). ap (λ (b : Bool). b && comes_from from all p) (lt-ltb p n lt))
-    (λ (le : n ≤ p). past p le (item_at all p) refl)
-    (cases_lt p n)) where
-      past : (p : ℕ) → n ≤ p → (o : Option ImportValue) → item_at all p ≡ o → (nat_lt p n && comes_from from all p) ≡ comes_from from all p
-      past p le None e =
-          let miss : comes_from from all p ≡ false = ap (λ (o : Option ImportValue). is_some (function_from from o)) e in
-          ap (λ (b : Bool). nat_lt p n && b) miss ∙ and-false (nat_lt p n) ∙ sym miss
-      past p le (Some x) e = let lt : p < length all = item_within all p (ap is_some e) in absurd (omega (arith, lt, le, is))
+pub all_below : (C : ℕ → Bool) (n : ℕ) → ((p : ℕ) → n ≤ p → C p ≡ false) → ◌≡◌ {A = ℕ → Bool} (λ p. nat_lt p n && C p) C
+all_below C n past = fun_ext (λ p. ⊎_elim
+    (λ (lt : p < n). ap (λ (b : Bool). b && C p) (lt-ltb p n lt))
+    (λ (le : n ≤ p). ap (λ (b : Bool). nat_lt p n && b) (past p le) ∙ and-false (nat_lt p n) ∙ sym (past p le))
+    (cases_lt p n))
+
+-- so it is of the imports of a module
+pub comes_past : (from : List ℕ) (all : List (Option ImportValue)) (p : ℕ) → length all ≤ p → comes_from from all p ≡ false
+comes_past from all p le = ap (λ (o : Option ImportValue). is_some (function_from from o)) (get_or_past all p None le)

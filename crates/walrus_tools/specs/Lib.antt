@@ -17,6 +17,8 @@ pub mod KeptExports
 pub mod Kinds
 pub mod Listed
 pub mod Listing
+pub mod Marking
+pub mod Meant
 pub mod Measured
 pub mod Metadata
 pub mod Moves
@@ -35,6 +37,8 @@ pub mod Snipped
 pub mod StripSteps
 pub mod Stripped
 pub mod Stub
+pub mod StubMatching
 pub mod Stubbed
 pub mod Trap
+pub mod Trapping
 pub mod Wanted

@@ -25,6 +25,13 @@ function_from from slot = option_and_then (brought_from from) slot
 abbrev pub comes_from : List ℕ → List (Option ImportValue) → ℕ → Bool
 comes_from from all p = is_some (function_from from (item_at all p))
 
+-- an import of a function stands there
+pub record BringsFunction (slot : Option ImportValue) : Type 0 where
+  pub value : ImportValue
+  pub there : slot ≡ Some value
+  pub id : Id FunctionKey
+  pub function : imported_function value.kind ≡ Some id
+
 -- the place of the import that brings a function of this kind
 abbrev pub import_place : FunctionKind → Option ℕ
 import_place (Import i) = Some (place i.«import»)

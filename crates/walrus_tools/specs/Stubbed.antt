@@ -31,14 +31,16 @@ module _ {S : Type 0} where
   abbrev pub Stubs : (from : List ℕ) → (old new : Module S) → Type 0
   Stubs from old new = StubsAt (comes_from from (imports old.imports)) old new
 
-  -- the same of the imports at the first n places alone
-  pub record StubsSome (c : Config) (from : List ℕ) (n : ℕ) (old new : Module S) : Type 0 where
-    pub stubs : StubsAt (λ p. nat_lt p n && comes_from from (imports old.imports) p) old new
+  -- so it is at the first n places alone
+  pub record StubsSome (c : Config) (hits : ℕ → Bool) (n : ℕ) (old new : Module S) : Type 0 where
+    pub stubs : StubsAt (λ p. nat_lt p n && hits p) old new
     pub whole : IsWhole c new
 
   -- of a whole module in which that is done at the first n places, it is done at the first m; `Memory` is the only refusal
   abbrev pub StubsOne : (from : List ℕ) → (n m : ℕ) → (old new : Module S) → Result (Unit {0}) Error → Type 0
-  StubsOne from n m old new result = (c : Config) (begun : Module S) → IsWhole c begun → StubsSome c from n begun old → MatchResult result (λ done. StubsSome c from m begun new) (λ e. e ≡ out_of_memory)
+  StubsOne from n m old new result =
+      (c : Config) (begun : Module S) → IsWhole c begun → StubsSome c (comes_from from (imports begun.imports)) n begun old
+      → MatchResult result (λ done. StubsSome c (comes_from from (imports begun.imports)) m begun new) (λ e. e ≡ out_of_memory)
 
   -- of a whole module it is done at all places, and what is left is whole; `Memory` is the only refusal
   abbrev pub StubsAll : (from : List ℕ) → (old new : Module S) → Result (Unit {0}) Error → Type 0

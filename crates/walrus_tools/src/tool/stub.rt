@@ -29,8 +29,12 @@ fn is_from(all: &ModuleImports, at: ImportId, from: &str) -> bool
     }
 }
 
-// The function that this import brings is local under its id, and traps.
-fn trap_import<S>(alloc: Global, module: &mut Module<S>, at: ImportId) -> Result<FunctionId>
+/// The function that this import brings is local under its id, and traps.
+pub(crate) fn trap_import<S>(
+    alloc: Global,
+    module: &mut Module<S>,
+    at: ImportId,
+) -> Result<FunctionId>
     ensures { ReplacesImport PutsTrap at «module».old «module».new result }
 {
     module.replace_import(

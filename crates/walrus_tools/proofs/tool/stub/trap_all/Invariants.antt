@@ -2,11 +2,12 @@ use Rattle.std.proofs.Common.{◌≡◌, length}
 use Rattle.walrus_items.specs.Imports.{imports}
 use Rattle.walrus_model.specs.Config.{Config}
 use Rattle.walrus_tools.specs.Edited.{IsWhole}
+use Rattle.walrus_tools.specs.Stub.{comes_from}
 use Rattle.walrus_tools.specs.Stubbed.{StubsSome}
 use Rattle.walrus_tools.proofs.tool.stub.trap_all.Given as goal
 
 -- at the places so far all is done
 abbrev pub invariant-places : goal.invariant-places
 invariant-places g l =
-    ((config : Config) → IsWhole config l.initial.module → StubsSome config l.from l.at l.initial.module l.module)
+    ((config : Config) → IsWhole config l.initial.module → StubsSome config (comes_from l.from (imports l.initial.module.imports)) l.at l.initial.module l.module)
     × (l.at-end ≡ length (imports l.initial.module.imports))

@@ -1,0 +1,39 @@
+//! What a snipper does by function: those that won't be called trap, and what they alone reached goes.
+
+ghost use Rattle.walrus_tools.specs.Meant.{texts};
+ghost use Rattle.walrus_tools.specs.Trapping.{AnswersMeant};
+ghost use Rattle.walrus_tools.specs.Wanted.{config_wanted};
+
+use crate::finish::finished;
+use crate::meant::Meant;
+use crate::trapping::trap_meant;
+use crate::wanted::Wanted;
+use std::alloc::Global;
+use walrus::{ModuleConfig, Result};
+
+/// The bytes of the module where each function that one of these texts means traps at once, under its own id, so that whoever calls it
+/// traps; then without what nothing reaches. For a name without a star the functions and the exports are walked once each, and so they are for
+/// one with a star, however many functions it means.
+///
+/// # Errors
+///
+/// `InvalidWasm` only where the bytes are no module that keeps the rules. By the first text that is refused: `NotFound` only where it means no
+/// function, and `NotReplaceable` only where it means an imported one. `TooLarge` only where what is kept has a count or a size past 32 bits,
+/// and `Memory`.
+pub fn snip_functions(
+    alloc: Global,
+    bytes: &[u8],
+    wanted: Wanted,
+    functions: &[Meant<'_>],
+) -> Result<Vec<u8>>
+    ensures { AnswersMeant (config_wanted wanted) bytes.now (texts functions.now) result }
+{
+    let mut made = ModuleConfig::new();
+    let config = made
+        .generate_name_section(wanted.names)
+        .generate_producers_section(wanted.producers)
+        .legacy_exceptions(wanted.legacy);
+    let mut module = config.parse(alloc, bytes)?;
+    trap_meant(alloc, &mut module, functions)?;
+    finished(alloc, module)
+}
