@@ -5,12 +5,14 @@ _mulkavesh_options() {
   case $1 in
     gc) echo --no-names --no-producers --no-legacy --quiet --help ;;
     report | list | check) echo --json --no-legacy --no-names --no-producers --help ;;
-    sections | why) echo --json --help ;;
-    strip | snip | stub) echo --help ;;
+    sections) echo --all --json --help ;;
+    strip) echo --section --names --producers --debug --all --help ;;
+    why) echo --json --help ;;
+    snip | stub) echo --help ;;
   esac
 }
 
-# What can stand at the cursor: a subcommand first; behind it an option, or a file; and behind `help` a subcommand.
+# What can stand at the cursor: a subcommand first; behind it an option, or a file; behind `--section` a name that many modules have; and behind `help` a subcommand.
 _mulkavesh() {
   local word=${COMP_WORDS[COMP_CWORD]} before=${COMP_WORDS[COMP_CWORD - 1]} names='gc report list check sections strip snip stub why' words
   COMPREPLY=()
@@ -18,6 +20,8 @@ _mulkavesh() {
     words="$names help --help --version"
   elif [ "$COMP_CWORD" = 2 ] && [ "$before" = help ]; then
     words=$names
+  elif [ "$before" = --section ]; then
+    words='name producers .debug* sourceMappingURL'
   elif [ "$before" != -o ] && [ "$before" != --output ] && [[ $word = -* ]]; then
     words="$(_mulkavesh_options "${COMP_WORDS[1]}") -o --output"
   else

@@ -6,12 +6,14 @@ _mulkavesh_options() {
   case $1 in
     gc) echo --no-names --no-producers --no-legacy --quiet --help ;;
     report | list | check) echo --json --no-legacy --no-names --no-producers --help ;;
-    sections | why) echo --json --help ;;
-    strip | snip | stub) echo --help ;;
+    sections) echo --all --json --help ;;
+    strip) echo --section --names --producers --debug --all --help ;;
+    why) echo --json --help ;;
+    snip | stub) echo --help ;;
   esac
 }
 
-# What can stand at the cursor: a subcommand first; behind it an option, or a file; and behind `help` a subcommand.
+# What can stand at the cursor: a subcommand first; behind it an option, or a file; behind `--section` a name that many modules have; and behind `help` a subcommand.
 _mulkavesh() {
   local -a names
   names=(gc report list check sections strip snip stub why)
@@ -19,6 +21,8 @@ _mulkavesh() {
     compadd -- $names help --help --version
   elif (( CURRENT == 3 )) && [[ $words[2] == help ]]; then
     compadd -- $names
+  elif [[ $words[CURRENT-1] == --section ]]; then
+    compadd -- name producers '.debug*' sourceMappingURL
   elif [[ $words[CURRENT-1] != -o && $words[CURRENT-1] != --output && $PREFIX == -* ]]; then
     compadd -- ${=$(_mulkavesh_options $words[2])} -o --output
   else

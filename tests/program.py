@@ -10,7 +10,9 @@ import itertools
 import json
 import os
 import pathlib
+import pty
 import re
+import select
 import shutil
 import stat
 import subprocess
@@ -210,25 +212,45 @@ def is_fit(title, text):
     return re.fullmatch(pattern, text, re.DOTALL) is not None
 
 
-def stripped(data, title):
-    """What is left of a module without the custom sections that fit, and whether one does."""
-    parts, found, at = [data[:8]], False, 8
+STAYING = (b"dylink", b"dylink.0", b"target_features")
+SHORT = {"--names": b"name", "--producers": b"producers", "--debug": b".debug*", "--all": b"*"}
+
+
+def said_gone(words):
+    """The NAMEs that the words of `strip` say, and whether all goes."""
+    names = [SHORT[word] for word in words if word in SHORT]
+    names += [word.encode() for before, word in zip(words, words[1:]) if before == "--section"]
+    return names + [word[len("--section="):].encode() for word in words if word.startswith("--section=")]
+
+
+def stripped(data, *words):
+    """What is left of a module without the custom sections that the words name, where each fits one."""
+    titles = [read_name(content, 0)[0] for code, content, _ in sections(data) if code == 0]
+    names, parts, at = said_gone(words), [data[:8]], 8
     for code, content, length in sections(data):
-        if code == 0 and is_fit(title, read_name(content, 0)[0]):
-            found = True
-        else:
-            parts.append(data[at : at + length])
+        title = read_name(content, 0)[0] if code == 0 else b""
+        goes = code == 0 and any(is_fit(name, title) for name in names) and not ("--all" in words and title in STAYING)
+        parts += [] if goes else [data[at : at + length]]
         at += length
-    return (0, b"".join(parts)) if found else (1, b"")
+    return (0, b"".join(parts)) if all(any(is_fit(name, title) for title in titles) for name in names) else (1, b"")
 
 
 def try_strip(work):
     for title, data in samples():
         whole = title not in ("broken", "empty")
         names = [text.decode() for text, _ in customs(data)] if whole else []
-        for text in [*dict.fromkeys(names), ".debug*", "*", "*o*e*", "\\*", "no such section", ""]:
-            wanted = stripped(data, text.encode()) if whole else (1, b"")
-            same(f"strip {text} of {title}", run("strip", text, data=data)[:2], wanted)
+        orders = [["--section", text] for text in [*dict.fromkeys(names), ".debug*", "*", "*o*e*", "\\*", "no such section", ""]]
+        orders += [[f"--section={text}"] for text in (*names[:2], "", "--names")]
+        orders += [["--names"], ["--producers"], ["--debug"], ["--all"], ["--names", "--producers"], ["--debug", "--all", "--names"]]
+        orders += [["--section", "name", "--section=producers"], ["--section", "dylink*", "--all"], ["--producers", "--section", ".debug_l*"]]
+        for order in orders:
+            wanted = stripped(data, *order) if whole else (1, b"")
+            same(f"strip {order} of {title}", run("strip", *order, data=data)[:2], wanted)
+    kept = module_of(*(custom(text, b"a") for text in STAYING))
+    same("strip --all of what stays", run("strip", "--all", data=kept), (0, kept, ""))
+    line = "mulkavesh: standard input: one of the options fits no custom section\n"
+    same("strip --all of no custom section", run("strip", "--all", data=TWO[:8]), (1, b"", line))
+    same("strip of many sections", run("strip", *["--section=notes"] * 5000, data=TWO)[:2], stripped(TWO, "--section=notes"))
 
 
 def section_rows(data):
@@ -430,7 +452,7 @@ def try_hidden_characters(work):
             same(f"why {text!r}", run("why", "--", text, data=data), (0, b"function 0\n", ""))
             folder = work / text
             folder.mkdir()
-            line = f"mulkavesh: {work}/{seen}: it is a folder\n"
+            line = f"mulkavesh: {work}/{seen}: is a directory\n"
             same(f"IN as the folder {text!r}", run("gc", folder), (1, b"", line))
             same(f"OUT as the folder {text!r}", run("gc", "-o", folder, data=data), (1, b"", line))
     data = functions(1, [("run", 0)], [(0, "\x9b\u202e" * 100_000)])
@@ -473,31 +495,107 @@ def try_check(work):
     for legacy, kind, number, data, words in faults():
         flags = [] if legacy else ["--no-legacy"]
         told = (1, f"{words}\n".encode(), refused) if kind else (0, b"accepted\n", "")
+        cause = f"{refused[:-1]}: {words}\n" if kind else ""
         same(f"check of {data.hex()}", run("check", *flags, data=data), told)
         status, text, said = run("check", "--json", *flags, data=data)
         begins = {"begins": BEGINNINGS[number]} if kind == "header" and number else {}
         where = {"header": begins, "section": {"place": number}, "body": {"index": number}, "rule": {"rule": RULES.get(number)}}.get(kind, {})
         wanted = {"accepted": False, "reason": words, "kind": kind, **where} if kind else {"accepted": True}
-        same(f"check --json of {data.hex()}", (status, json.loads(text), said), (told[0], wanted, told[2]))
+        same(f"check --json of {data.hex()}", (status, json.loads(text), said), (told[0], wanted, cause))
     out = work / "verdict"
     out.write_bytes(b"as it was")
     same("check -o of what is refused", run("check", "-o", out, data=BROKEN)[0], 1)
     same("OUT of a check that was refused", out.read_bytes(), run("check", data=BROKEN)[1])
+    source = work / "in.wasm"
+    source.write_bytes(BROKEN)
+    said = f"mulkavesh: {source}: the input WebAssembly is invalid: {run('check', data=BROKEN)[1].decode()}"
+    same("what check --json of a file says", run("check", "--json", source)[2], said)
+    same("what gc of it says", run("gc", source)[2], said)
+
+
+PAGE = TOP / "docs" / "USING.md"
+
+
+def page_line(begin):
+    """The line of the page's first lines that begins so, without what is said of it."""
+    found = re.findall(rf"^    ({re.escape(begin)}.*?) *(?:#.*)?$", PAGE.read_text(), re.M)
+    same(f"lines of docs/USING.md that begin as {begin}", len(found), 1)
+    return found[0]
+
+
+def run_line(line, folder):
+    """What a line of the page answers in this folder."""
+    text = line.replace("./mulkavesh", '"$0"')
+    done = subprocess.run(["sh", "-c", text, str(PROGRAM)], cwd=folder, capture_output=True, check=False)
+    return done.returncode, done.stdout.decode(), done.stderr.decode()
 
 
 def try_page(work):
     """The page that shows what is said of a file of another kind: its line, as it stands there, and its answer."""
-    found = re.findall(r"^    (gzip .*\| \./mulkavesh check)\n\n    (.*)$", (TOP / "docs" / "USING.md").read_text(), re.M)
+    found = re.findall(r"^    (gzip .*\| \./mulkavesh check)\n\n    (.*)$", PAGE.read_text(), re.M)
     same("lines of docs/USING.md", len(found), 1)
     for line, answer in found:
-        done = subprocess.run(["sh", "-c", line.replace("./mulkavesh", '"$0"'), str(PROGRAM)], cwd=TOP, capture_output=True, check=False)
-        same(line, (done.returncode, done.stdout.decode()), (1, f"{answer}\n"))
+        same(line, run_line(line, TOP)[:2], (1, f"{answer}\n"))
+
+
+def try_page_strip(work):
+    """The page's line on debug information: it goes, and all other sections stand there byte for byte."""
+    line, source, out = page_line("./mulkavesh strip --debug "), work / "in.wasm", work / "out.wasm"
+    with_debug = [(title, data) for title, data in samples() if title not in ("broken", "empty") and any(text.startswith(b".debug") for text, _ in customs(data))]
+    for title, data in with_debug:
+        source.write_bytes(data)
+        same(f"{line} of {title}", run_line(line, work), (0, "", ""))
+        at, left = 8, data[:8]
+        for code, content, length in sections(data):
+            left += b"" if code == 0 and read_name(content, 0)[0].startswith(b".debug") else data[at : at + length]
+            at += length
+        same(f"OUT of {line} of {title}", out.read_bytes(), left)
+        same(f"bytes of {title} that went", len(out.read_bytes()) < len(data), True)
+
+
+def try_page_sections(work):
+    """The page's line on sections, of modules that are refused: two exports of one name, and bytes that are cut."""
+    line, source = page_line("./mulkavesh sections "), work / "in.wasm"
+    twice = functions(1, [("a", 0), ("a", 0)])
+    for title, data in (("two exports of one name", twice), ("bytes that are cut", BROKEN)):
+        source.write_bytes(data)
+        same(f"check of {title}", run("check", data=data)[0], 1)
+        rows, end = section_rows(data)
+        said = "" if end == len(data) else f"mulkavesh: no section stands at byte {end}\n"
+        same(f"{line} of {title}", run_line(line, work), (int(end < len(data)), "".join(section_text(*it) for it in rows), said))
+
+
+def body_sizes(data):
+    """How many bytes each body of the code section has."""
+    for code, content, _ in sections(data):
+        if code == 10:
+            count, at = read_number(content, 0)
+            for _ in range(count):
+                size, at = read_number(content, at)
+                yield size
+                at += size
+
+
+def try_page_list(work):
+    """The page's line on the largest functions: ten at most, with the sizes that bodies have in the smaller module, and the names that IN has."""
+    line, source = page_line("./mulkavesh list "), work / "in.wasm"
+    for title, data in samples():
+        status, made, _ = run("gc", "--quiet", data=data)
+        if status:
+            continue
+        source.write_bytes(data)
+        status, text, said = run_line(line, work)
+        found = [row.split(" ", 2) for row in text.splitlines()]
+        same(f"the sizes of {line} of {title}", [int(row[0]) for row in found], sorted(body_sizes(made), reverse=True)[:10])
+        names = dict((index, shown_name(text.decode("utf-8", "replace"))[1:]) for text, index in reversed(list(named(data))))
+        same(f"the names of {line} of {title}", [row[2] if len(row) > 2 else "" for row in found], [names.get(int(row[1]), "") for row in found])
+        same(f"what {line} of {title} says", (status, said), (0, ""))
 
 
 def try_faults(work):
     """Each subcommand that refuses bytes as invalid says in its line what `check` writes, under the same choice of legacy exceptions."""
     choosing = (["gc"], ["report"], ["report", "--json"], ["list"])
-    framed = (["strip", "a"], ["sections"], ["sections", "--json"])
+    framed = (["strip", "--section", "a"], ["sections"], ["sections", "--json"])
     others = (["snip", "a"], ["stub", "env"], ["why", "0"], ["why", "a"], ["why", "--json", "0"])
     for legacy, kind, _, data, words in faults():
         flags = [] if legacy else ["--no-legacy"]
@@ -531,13 +629,13 @@ def try_silence(work):
     """What is said on standard error where all was done: nothing, but for what gc says without --quiet, and for snip and stub, of which nothing is told here."""
     data = functions(2, [("run", 1)], [(0, "gone"), (1, "main")], [custom("notes", b"abc")])
     for words in (
-        "check", "report", "list", "why 0", "why main", "sections", "sections --all", "strip notes", "gc --quiet", "check --json", "report --json", "list --json", "sections --json",
+        "check", "report", "list", "why 0", "why main", "sections", "sections --all", "strip --section notes", "gc --quiet", "check --json", "report --json", "list --json", "sections --json",
         "why --json run",
     ):
         status, _, said = run(*words.split(), data=data)
         same(f"what {words} says", (status, said), (0, ""))
     for title, data in samples():
-        for words in ("check", "report", "list", "sections", "why 0", "strip producers", "gc --quiet"):
+        for words in ("check", "report", "list", "sections", "why 0", "strip --producers", "gc --quiet"):
             status, _, said = run(*words.split(), data=data)
             same(f"how many lines {words} says of {title}", len(said.splitlines()), status)
 
@@ -589,22 +687,22 @@ def try_failures(work):
     folder.mkdir()
     (work / "nowhere").symlink_to(work / "nothing")
     (work / "circle").symlink_to(work / "circle")
-    nothing, no_folder = "there is no such file or folder", "a part of its path is no folder"
+    nothing, no_folder = "no such file or directory", "not a directory"
     for words, of, why in (
         (["gc", work / "none", "-o", out], work / "none", nothing),
-        (["gc", folder, "-o", out], folder, "it is a folder"),
+        (["gc", folder, "-o", out], folder, "is a directory"),
         (["gc", out / "in", "-o", out], out / "in", no_folder),
-        (["gc", work / ("n" * 300), "-o", out], work / ("n" * 300), "its name is too long"),
-        (["gc", work / "circle", "-o", out], work / "circle", "its links lead in a circle"),
+        (["gc", work / ("n" * 300), "-o", out], work / ("n" * 300), "file name too long"),
+        (["gc", work / "circle", "-o", out], work / "circle", "too many levels of symbolic links"),
         (["gc", "", "-o", out], "", nothing),
-        (["gc", "-o", folder], folder, "it is a folder"),
+        (["gc", "-o", folder], folder, "is a directory"),
         (["gc", "-o", work / "none" / "out"], work / "none" / "out", nothing),
         (["gc", "-o", out / "out"], out / "out", no_folder),
         (["gc", "-o", f"{work}/new/"], f"{work}/new/", no_folder),
-        (["gc", "-o", work / ("n" * 300)], work / ("n" * 300), "its name is too long"),
+        (["gc", "-o", work / ("n" * 300)], work / ("n" * 300), "file name too long"),
         (["gc", "-o", work / "nowhere"], work / "nowhere", nothing),
         (["gc", "-o", ""], "", nothing),
-        (["strip", "none", "-o", out], "standard input", "there is no custom section of this name"),
+        (["strip", "--section", "none", "-o", out], "standard input", "one of the options fits no custom section"),
         (["snip", "none", "-o", out], "standard input", "no function is exported under this name"),
         (["why", "none", "-o", out], "standard input", "there is no such function"),
         (["why", "2", "-o", out], "standard input", "there is no such function"),
@@ -612,7 +710,7 @@ def try_failures(work):
         same(f"{words}", run(*words, data=TWO), (1, b"", f"mulkavesh: {of}: {why}\n"))
         same(f"OUT of {words}", out.read_bytes(), b"as it was")
     line = f"mulkavesh: standard input: the input WebAssembly is invalid: {run('check', data=BROKEN)[1].decode()}"
-    for work_word in ("gc", "report", "list", "strip none", "snip none", "stub none", "why none"):
+    for work_word in ("gc", "report", "list", "strip --all", "snip none", "stub none", "why none"):
         same(f"{work_word} of what is refused", run(*work_word.split(), "-o", out, data=BROKEN), (1, b"", line))
         same(f"OUT of {work_word} of what is refused", out.read_bytes(), b"as it was")
     line = "mulkavesh: standard input: the input WebAssembly is invalid\n"
@@ -645,10 +743,10 @@ def try_rights(work):
         ("a file that isn't to be read", ["gc", shut / "in", "-o", shut / "out"], shut / "in"),
     ):
         found = run(*words, data=TWO, program=program, user=OTHER_USER)
-        same(what, found, (1, b"", f"mulkavesh: {of}: there is no right to do that\n"))
+        same(what, found, (1, b"", f"mulkavesh: {of}: permission denied\n"))
     (mine / "out").chmod(0o666)
     found = run("gc", "-o", mine / "out", data=TWO, program=program, user=OTHER_USER)
-    same("a file that may be written in a folder that may not", found, (1, b"", f"mulkavesh: {mine / 'out'}: there is no right to do that\n"))
+    same("a file that may be written in a folder that may not", found, (1, b"", f"mulkavesh: {mine / 'out'}: permission denied\n"))
     for folder in (mine, theirs, shut):
         same(f"OUT in {folder.name}", (folder / "out").read_bytes(), b"as it was")
         same(f"what is in {folder.name}", sorted(it.name for it in folder.iterdir()), ["in", "out"])
@@ -665,7 +763,7 @@ def try_full_disk(work):
         return
     try:
         out, data = disk / "out", functions(20000, [(f"f{at}", at) for at in range(20000)])
-        line = f"mulkavesh: {out}: no space is left\n"
+        line = f"mulkavesh: {out}: no space left on device\n"
         same("a new file on a full disk", run("gc", "--quiet", "-o", out, data=data), (1, b"", line))
         same("what is on it", list(disk.iterdir()), [])
         out.write_bytes(b"as it was")
@@ -679,7 +777,7 @@ def try_full_disk(work):
 
 def try_devices(work):
     wanted = run("gc", "--quiet", data=TWO)[1]
-    full = "no space is left\n"
+    full = "no space left on device\n"
     same("OUT as /dev/full", run("gc", "--quiet", "-o", "/dev/full", data=TWO), (1, b"", f"mulkavesh: /dev/full: {full}"))
     with open("/dev/full", "wb") as device:
         done = subprocess.run([PROGRAM, "gc"], input=TWO, stdout=device, stderr=subprocess.PIPE, check=False)
@@ -723,14 +821,61 @@ def try_closed_streams(work):
         same(f"OUT of gc {closed}", out.read_bytes(), wanted)
     same("gc from a pipe 2>&-", shell('cat "$IN" | "$P" gc -o "$OUT" 2>&-', **words)[0], 0)
     same("OUT of gc from a pipe 2>&-", out.read_bytes(), wanted)
-    same("gc <&-", shell('"$P" gc <&-', **words)[::2], (1, "mulkavesh: standard input: the system refused\n"))
-    same("gc >&-", shell('"$P" gc "$IN" >&-', **words)[::2], (1, "mulkavesh: standard output: the system refused\n"))
+    same("gc <&-", shell('"$P" gc <&-', **words)[::2], (1, "mulkavesh: standard input: bad file descriptor\n"))
+    same("gc >&-", shell('"$P" gc "$IN" >&-', **words)[::2], (1, "mulkavesh: standard output: bad file descriptor\n"))
+
+
+def at_terminal(*words, of, **streams):
+    """The status, what was written and what was said, where these streams (0, 1) are a terminal."""
+    leader, follower = pty.openpty()
+    try:
+        ends = {name: follower if number in of else streams.get(name, subprocess.PIPE) for number, name in ((0, "stdin"), (1, "stdout"))}
+        child = subprocess.Popen([PROGRAM, *words], stderr=subprocess.PIPE, **ends)
+        written, said = child.communicate(None if 0 in of else TWO, timeout=60)
+        os.close(follower)
+        follower = None
+        seen = b""
+        while select.select([leader], [], [], 0)[0]:
+            try:
+                some = os.read(leader, 65536)
+            except OSError:
+                break
+            if not some:
+                break
+            seen += some
+        return child.returncode, written if 1 not in of else seen, said.decode()
+    finally:
+        os.close(leader)
+        if follower is not None:
+            os.close(follower)
+
+
+def try_terminals(work):
+    """From a terminal nothing is read, and to one no module is written, but where `-` says so."""
+    source, out = work / "in", work / "out"
+    source.write_bytes(TWO)
+    no_input = "no input: name a file, or - for standard input"
+    no_output = "standard output is a terminal; write -o FILE, or -o - to send the bytes there all the same"
+    for words in (["gc"], ["report"], ["list", "--json"], ["check"], ["sections"], ["strip", "--all"], ["snip", "run"], ["stub", "env"], ["why", "0"]):
+        line = (2, b"", f"mulkavesh: {words[0]}: {no_input}\n")
+        same(f"{words} of a terminal", at_terminal(*words, of=(0,)), line)
+        same(f"{words} -o OUT of a terminal", at_terminal(*words, "-o", out, of=(0, 1)), line)
+    same("OUT is left alone", out.exists(), False)
+    for words in (["gc"], ["strip", "--all"], ["snip", "run"], ["stub", "env"]):
+        same(f"{words} to a terminal", at_terminal(*words, source, of=(1,)), (2, b"", f"mulkavesh: {words[0]}: {no_output}\n"))
+        same(f"{words} to a terminal from standard input", at_terminal(*words, of=(1,)), (2, b"", f"mulkavesh: {words[0]}: {no_output}\n"))
+        status, written, said = at_terminal(*words, source, "-o", "-", of=(1,))
+        same(f"{words} -o - to a terminal", (status, written[:4]), (0, b"\0asm"))
+        same(f"{words} -o OUT from a terminal's side", at_terminal(*words, source, "-o", out, of=(0, 1))[:2], (0, b""))
+    same("check to a terminal", at_terminal("check", source, of=(0, 1)), (0, b"accepted\r\n", ""))
+    same("check - of a terminal's side", at_terminal("check", "-", of=(1,)), (0, b"accepted\r\n", ""))
+    same("--help to a terminal", at_terminal("--help", of=(0, 1))[0], 0)
 
 
 def try_readers_that_go(work):
     big = functions(20000, [(f"f{at}", at) for at in range(20000)], more=[custom("notes", b"abc")])
     (work / "big").write_bytes(big)
-    for words in ("gc --quiet", "list", "list --json", "strip notes"):
+    for words in ("gc --quiet", "list", "list --json", "strip --section notes"):
         found = shell(f'"$P" {words} "$IN" | head -c 1 | wc -c; echo "${{PIPESTATUS[0]}}"', IN=str(work / "big"))
         same(f"{words} into head", found, (0, b"1\n1\n", ""))
     many = work / "many"
@@ -742,6 +887,8 @@ def try_readers_that_go(work):
 
 
 # ---- arguments, help, completions, manual
+
+NO_SECTION = "nothing to strip: --section NAME, --names, --producers, --debug or --all"
 
 # Command lines that say nothing, and what is told of each behind `mulkavesh: `.
 MISTAKES = (
@@ -770,7 +917,7 @@ MISTAKES = (
     ("report --quiet", "report: --quiet is no option of this subcommand; mulkavesh report --help tells more"),
     ("list -q in", "list: -q is no option of this subcommand; mulkavesh list --help tells more"),
     ("snip a --no-names", "snip: --no-names is no option of this subcommand; mulkavesh snip --help tells more"),
-    ("strip a --no-names", "strip: --no-names is no option of this subcommand; mulkavesh strip --help tells more"),
+    ("strip --all --no-names", "strip: --no-names is no option of this subcommand; mulkavesh strip --help tells more"),
     ("sections --quiet", "sections: --quiet is no option of this subcommand; mulkavesh sections --help tells more"),
     ("sections in out", "sections: 'out' is a second input; the output goes behind -o"),
     ("why a --no-legacy", "why: --no-legacy is no option of this subcommand; mulkavesh why --help tells more"),
@@ -784,7 +931,23 @@ MISTAKES = (
     ("gc in out.wasm", "gc: 'out.wasm' is a second input; the output goes behind -o"),
     ("gc -- in -o", "gc: '-o' is a second input; the output goes behind -o"),
     ("why a b c", "why: 'c' is a second input; the output goes behind -o"),
-    ("strip", "strip: NAME is missing; mulkavesh strip --help tells more"),
+    ("strip", f"strip: {NO_SECTION}"),
+    ("strip in", f"strip: {NO_SECTION}"),
+    ("strip -o out -- in", f"strip: {NO_SECTION}"),
+    ("strip name in", "strip: 'in' is a second input; the output goes behind -o"),
+    ("strip --section", "strip: NAME is missing behind --section; mulkavesh strip --help tells more"),
+    ("strip --names in --section", "strip: NAME is missing behind --section; mulkavesh strip --help tells more"),
+    ("strip --sections=a", "strip: unknown option --sections=a; did you mean --section?"),
+    ("strip --name", "strip: unknown option --name; did you mean --names?"),
+    ("strip --all=1", "strip: --all=1 has a value, but this option takes none; mulkavesh strip --help tells more"),
+    ("strip --debug=", "strip: --debug= has a value, but this option takes none; mulkavesh strip --help tells more"),
+    ("strip --json --all", "strip: --json is no option of this subcommand; mulkavesh strip --help tells more"),
+    ("gc --section name", "gc: --section is no option of this subcommand; mulkavesh gc --help tells more"),
+    ("gc --section=name in", "gc: --section=name is no option of this subcommand; mulkavesh gc --help tells more"),
+    ("gc --section", "gc: --section is no option of this subcommand; mulkavesh gc --help tells more"),
+    ("list --all", "list: --all is no option of this subcommand; mulkavesh list --help tells more"),
+    ("sections --names", "sections: --names is no option of this subcommand; mulkavesh sections --help tells more"),
+    ("check --debug", "check: --debug is no option of this subcommand; mulkavesh check --help tells more"),
     ("snip -o out", "snip: EXPORT is missing; mulkavesh snip --help tells more"),
     ("stub --", "stub: MODULE is missing; mulkavesh stub --help tells more"),
     ("why --json", "why: FUNCTION is missing; mulkavesh why --help tells more"),
@@ -862,9 +1025,10 @@ def try_help(work):
         status, text, said = run(word, "--help")
         same(f"{word} --help", (status, said, text.startswith(f"usage: mulkavesh {word} ".encode())), (0, "", True))
         flags[word] = set(re.findall(r"--[a-z-]+", text.decode()))
-        for flag in ("--no-names", "--no-producers", "--no-legacy", "--quiet", "--json"):
-            operand = ["x"] if word in words[5:] else []
+        for flag in ("--no-names", "--no-producers", "--no-legacy", "--quiet", "--json", "--section=x", "--names", "--producers", "--debug", "--all"):
+            operand = ["--section=y"] if word == "strip" else ["x"] if word in words[5:] else []
             known = run(word, flag, *operand, data=b"")[0] != 2
+            flag = flag.split("=")[0]
             same(f"{word} --help names {flag}", flag in flags[word], known)
     lines = [line for it in (whole, *(run(word, "--help") for word in words)) for line in it[1].decode().splitlines()]
     same("the longest line of --help", max(map(len, lines)) <= 150, True)
@@ -895,6 +1059,7 @@ def try_completions(words, flags):
     for word in words:
         same(f"the options of {word}", completed("mulkavesh", word, "-"), {*flags[word], "--help", "-o", "--output"})
     same("a file", "samples" in completed("mulkavesh", "gc", "sam"), True)
+    same("a name behind --section", completed("mulkavesh", "strip", "--section", "na"), {"name"})
     for option in ("-o", "--output"):
         same(f"a file behind {option}", "samples" in completed("mulkavesh", "gc", option, "sam"), True)
 
@@ -907,7 +1072,7 @@ def try_manual(words, flags):
     done = subprocess.run(["groff", "-man", "-Tascii", "-ww", page], capture_output=True, check=False)
     same("what groff says of the manual page", (done.returncode, done.stderr), (0, b""))
     text = page.read_text().replace("\\-", "-")
-    for word in [*words, *flags, "-h", "--help", "-V", "--version", "-q", "-o", "--output", "--output="]:
+    for word in [*words, *flags, "-h", "--help", "-V", "--version", "-q", "-o", "--output", "--output=", "--section="]:
         same(f"the manual page names {word}", word in text, True)
 
 

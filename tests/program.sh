@@ -6,6 +6,7 @@
 #   the bytes of faults.txt: what check writes of them, and the line of each other subcommand that refuses them
 #   files and streams, as IN and as OUT: links, rights, a named pipe, a device, IN as OUT; each failure, after which OUT is as it was and no file is beside it
 #   a disk that is full, where this user may mount one; another user, where this one is root; a pipe that nobody reads; a list of a million lines into `head`
+#   terminals, by Python's pty: from one nothing is read, and to one no module is written, but where `-` says so; the lines of docs/USING.md
 #   arguments that say nothing, of which nothing is read, with the line that is told of each; the forms of options; --json by Python's json; --help, --version, the completions, the manual page (where groff is there)
 # Prints a line for each find and for what isn't tried, and the counts. Where there is no Python from 3.8 on, nothing is run, and the status is 2. A minute or less of
 # one processor.

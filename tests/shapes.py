@@ -663,10 +663,10 @@ def sections_all(size):
 
 
 alike(
-    "strip_small", "the same sections, all taken away (mulkavesh strip a)", custom(b"a"), sections, subcommand=("strip", "a"))
+    "strip_small", "the same sections, all taken away (mulkavesh strip --section a)", custom(b"a"), sections, subcommand=("strip", "--section", "a"))
 alike(
     "strip_star", "custom sections with names of 40 bytes, which a NAME with many stars does not fit (mulkavesh strip)", custom(b"a" * 40), sections,
-    ending=(1, b"mulkavesh: standard input: there is no custom section of this name\n", False), subcommand=("strip", "*a*a*a*a*b"))
+    ending=(1, b"mulkavesh: standard input: one of the options fits no custom section\n", False), subcommand=("strip", "--section", "*a*a*a*a*b"))
 
 
 # What is refused late.

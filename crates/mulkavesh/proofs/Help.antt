@@ -3,13 +3,13 @@ use Rattle.std.proofs.Common.{◌≡◌, Bool, true, false, ◌||◌, List, [], 
 use Rattle.std.specs.Prelude.{All, flat_map, bytes_eq, if◌then◌else◌, ⊤}
 use Rattle.std.proofs.lemmas.List.Elements.{All-cons, All-head, All-nil, All-tail}
 use Rattle.mulkavesh.specs.declared.order.Naming.{Naming}
-use Rattle.mulkavesh.specs.declared.order.Naming.TheVariants.{Short, Long}
+use Rattle.mulkavesh.specs.declared.order.Naming.TheVariants.{Short, Long, Section}
 use Rattle.mulkavesh.specs.declared.words.Seen.{Seen}
 use Rattle.mulkavesh.specs.declared.words.Seen.TheVariants as seen
 use Rattle.mulkavesh.specs.Order.{naming_word}
 use Rattle.mulkavesh.specs.Steps.{asks_help, is_help, look_at, looks}
 use Rattle.mulkavesh.specs.Words.{AsksHelp, Front, IsFront, IsHelp, IsUnhelped, Word, front_words, pair, single}
-use Rattle.mulkavesh.proofs.Spelling.{decided, differs}
+use Rattle.mulkavesh.proofs.Spelling.{decided, differs, or_cases}
 
 -- ---- one argument
 
@@ -20,38 +20,44 @@ IsSeen word seen.Ending = word ≡ codes "--"
 IsSeen word seen.Nothing = IsFront (single word)
 
 either : (word a b : Word) → (bytes_eq word a || bytes_eq word b) ≡ true → (word ≡ a) ⊎ (word ≡ b)
-either word a b is = by (bytes_eq word a) refl is
-  where
-    by : (t : Bool) → bytes_eq word a ≡ t → (t || bytes_eq word b) ≡ true → (word ≡ a) ⊎ (word ≡ b)
-    by true first is = inl (decided word a first)
-    by false first is = inr (decided word b is)
+either word a b is = ⊎_elim (λ e. inl (decided word a e)) (λ e. inr (decided word b e)) (or_cases (bytes_eq word a) (bytes_eq word b) is)
+
+neither_test : (a b : Bool) → (a || b) ≡ false → (a ≡ false) × (b ≡ false)
+neither_test true b is = absurd (cc)
+neither_test false b is = (refl, is)
 
 neither : (word a b : Word) → (bytes_eq word a || bytes_eq word b) ≡ false → (word ≡ a → ⊥) × (word ≡ b → ⊥)
-neither word a b is = by (bytes_eq word a) refl is
+neither word a b is = let t = neither_test (bytes_eq word a) (bytes_eq word b) is in (differs word a t.0, differs word b t.1)
+
+-- the tests of the options that have a value
+abbrev is_naming : Word → Bool
+is_naming word = bytes_eq word (codes "-o") || bytes_eq word (codes "--output") || bytes_eq word (codes "--section")
+
+one_naming : (word : Word) → is_naming word ≡ true → (n : Naming) × (word ≡ naming_word n)
+one_naming word is = ⊎_elim (λ e. ⊎_elim (λ s. (Short, s)) (λ s. (Long, s)) (either word (codes "-o") (codes "--output") e)) (λ e. (Section, decided word (codes "--section") e)) (or_cases _ _ is)
+
+no_naming : (word : Word) → is_naming word ≡ false → (n : Naming) → word ≡ naming_word n → ⊥
+no_naming word is n = by n
   where
-    by : (t : Bool) → bytes_eq word a ≡ t → (t || bytes_eq word b) ≡ false → (word ≡ a → ⊥) × (word ≡ b → ⊥)
-    by true first is = absurd (cc)
-    by false first is = (differs word a first, differs word b is)
+    t : ((bytes_eq word (codes "-o") || bytes_eq word (codes "--output")) ≡ false) × (bytes_eq word (codes "--section") ≡ false)
+    t = neither_test (bytes_eq word (codes "-o") || bytes_eq word (codes "--output")) (bytes_eq word (codes "--section")) is
+
+    by : (n : Naming) → word ≡ naming_word n → ⊥
+    by Short same = (neither word (codes "-o") (codes "--output") t.0).0 same
+    by Long same = (neither word (codes "-o") (codes "--output") t.0).1 same
+    by Section same = differs word (codes "--section") t.1 same
 
 seen_is : (word : Word) → IsSeen word (look_at word)
 seen_is word = by _ refl _ refl _ refl
   where
-    named : (word ≡ codes "-o") ⊎ (word ≡ codes "--output") → (n : Naming) × (word ≡ naming_word n)
-    named (inl is) = (Short, is)
-    named (inr is) = (Long, is)
-
-    no_name : (word ≡ codes "-o" → ⊥) × (word ≡ codes "--output" → ⊥) → (n : Naming) → word ≡ naming_word n → ⊥
-    no_name never Short is = never.0 is
-    no_name never Long is = never.1 is
-
-    by : (a : Bool) → (bytes_eq word (codes "-h") || bytes_eq word (codes "--help")) ≡ a → (b : Bool) → (bytes_eq word (codes "-o") || bytes_eq word (codes "--output")) ≡ b → (c : Bool) → bytes_eq word (codes "--") ≡ c
+    by : (a : Bool) → (bytes_eq word (codes "-h") || bytes_eq word (codes "--help")) ≡ a → (b : Bool) → is_naming word ≡ b → (c : Bool) → bytes_eq word (codes "--") ≡ c
         → IsSeen word (if a then seen.Help else (if b then seen.Option else (if c then seen.Ending else seen.Nothing)))
     by true is _ _ _ _ = either word _ _ is
-    by false _ true is _ _ = named (either word _ _ is)
+    by false _ true is _ _ = one_naming word is
     by false _ false _ true is = decided word _ is
     by false no_help false no_option false no_ending =
         let h = neither word _ _ no_help in
-        (differs word _ no_ending, (λ asks. ⊎_elim h.0 h.1 asks), no_name (neither word _ _ no_option))
+        (differs word _ no_ending, (λ asks. ⊎_elim h.0 h.1 asks), no_naming word no_option)
 
 -- ---- argument for argument
 
@@ -106,6 +112,7 @@ help_seen word (inr is) = ap look_at is
 naming_seen : (n : Naming) → look_at (naming_word n) ≡ seen.Option
 naming_seen Short = refl
 naming_seen Long = refl
+naming_seen Section = refl
 
 single_seen : (word : Word) → IsFront (single word) → look_at word ≡ seen.Nothing
 single_seen word is = by (look_at word) refl (seen_is word)

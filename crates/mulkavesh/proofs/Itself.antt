@@ -11,7 +11,7 @@ use Rattle.mulkavesh.specs.declared.order.Order.{Order}
 use Rattle.mulkavesh.specs.declared.order.Work.{Work}
 use Rattle.mulkavesh.specs.declared.order.Work.TheVariants as work
 use Rattle.mulkavesh.specs.Mistakes.{IsOrdered, IsTold, at_help, at_version}
-use Rattle.mulkavesh.specs.Order.{work_word}
+use Rattle.mulkavesh.specs.Order.{Said, said, work_word}
 use Rattle.mulkavesh.specs.Steps.{IsAlone}
 use Rattle.mulkavesh.specs.Words.{AsksHelp, BeginsWith, Front, IsNoWork, IsUnhelped, Says, SaysOrder, Word, front_words, help, help_alone, help_named, help_of, order, pair, single, version}
 use Rattle.mulkavesh.proofs.Spelling.{differs}
@@ -67,20 +67,21 @@ first_is v w vs ws same = cc
 rest_is : (v w : Word) (vs ws : List Word) → v ∷ vs ≡ w ∷ ws → vs ≡ ws
 rest_is v w vs ws same = cc
 
-no_order : (w : Work) (words : List Word) → IsUnhelped (work_word w ∷ words) → ((o : Order) → SaysOrder (work_word w ∷ words) o → ⊥) → (asked : Asked) → Says (work_word w ∷ words) asked → ⊥
+no_order : (w : Work) (words : List Word) → IsUnhelped (work_word w ∷ words) → ((o : Said) → SaysOrder (work_word w ∷ words) o → ⊥) → (asked : Asked) → Says (work_word w ∷ words) asked → ⊥
 no_order w words none never Help (help h other) = none h
 no_order w words none never Help (help_alone is) = help_is_none w (first_is (work_word w) (codes "help") words [] is)
 no_order w words none never (HelpOf v) (help_of _ begins h) = none h
 no_order w words none never (HelpOf v) (help_named _ is) = help_is_none w (first_is (work_word w) (codes "help") words (work_word v ∷ []) is)
 no_order w words none never Version (version is) =
     version_is_none w (⊎_elim (λ e. inl (first_is (work_word w) (codes "-V") words [] e)) (λ e. inr (first_is (work_word w) (codes "--version") words [] e)) is)
-no_order w words none never (Run o) (order _ says) = never o says
+no_order w words none never (Run o) (order _ says) = never (said o) says
 
 pub told_order : (w : Work) (words : List Word) (o : Order) → IsOrdered w words (Ok o) → IsTold (work_word w ∷ words) (Ok (Run o))
 told_order w words o says = order o says
 
 pub told_wrong : (w : Work) (words : List Word) (m : Wrong) → IsOrdered w words (Err m) → IsUnhelped (work_word w ∷ words) → IsTold (work_word w ∷ words) (Err (mistake.Behind w m))
-told_wrong w words m is none = ((words, refl, is.0), no_order w words none is.1)
+told_wrong w words m (inl memory) none = inl memory
+told_wrong w words m (inr is) none = inr ((words, refl, is.0), no_order w words none is.1)
 
 -- ---- where no subcommand stands first
 
@@ -111,7 +112,7 @@ some_more : (v : Word) (vs : List Word) → v ∷ vs ≡ [] → ⊥
 some_more v vs is = cc
 
 pub told_named : (a : String Global) (words : List Word) → IsNoWork (string_bytes a) → IsUnhelped (codes "help" ∷ string_bytes a ∷ words) → IsTold (codes "help" ∷ string_bytes a ∷ words) (Err (mistake.UnknownSubcommand a))
-told_named a words never none = (
+told_named a words never none = inr (
   inr (words, refl, never),
   unasked (codes "help") (string_bytes a ∷ words) help_is_none none (λ is. some_more (string_bytes a) words (rest_is (codes "help") (codes "help") (string_bytes a ∷ words) [] is))
       (λ w is. never w (sym (first_is (string_bytes a) (work_word w) words [] (rest_is (codes "help") (codes "help") (string_bytes a ∷ words) (work_word w ∷ []) is)))) (help_no_version (string_bytes a ∷ words)),
@@ -121,22 +122,22 @@ pub told_help_of : (w : Work) (words : List Word) (r : Result Asked Mistake) →
 told_help_of w words (Ok asked) (same, empty) none =
     subst (λ (a : Asked). Says (codes "help" ∷ work_word w ∷ words) a) (sym same) (help_named w (ap (λ (l : List Word). codes "help" ∷ work_word w ∷ l) empty))
 told_help_of w words (Err m) (a, rest, is, are) none =
-    subst (λ (x : Mistake). IsTold (codes "help" ∷ work_word w ∷ words) (Err x)) (sym is) (
+    subst (λ (x : Mistake). IsTold (codes "help" ∷ work_word w ∷ words) (Err x)) (sym is) (inr (
       (codes "help" ∷ work_word w ∷ [], rest, ap (λ (l : List Word). codes "help" ∷ work_word w ∷ l) are, at_help w refl),
       unasked (codes "help") (work_word w ∷ words) help_is_none none (λ is. some_more (work_word w) words (rest_is (codes "help") (codes "help") (work_word w ∷ words) [] is))
           (λ v is. some_more (string_bytes a) rest (sym are ∙ rest_is (work_word w) (work_word v) words [] (rest_is (codes "help") (codes "help") (work_word w ∷ words) (work_word v ∷ []) is))) (help_no_version (work_word w ∷ words)),
-    )
+    ))
 
 pub told_version : (first : Word) (words : List Word) (r : Result Asked Mistake) → (first ≡ codes "-V") ⊎ (first ≡ codes "--version") → IsAlone Version words r → IsUnhelped (first ∷ words) → IsTold (first ∷ words) r
 told_version first words (Ok asked) is (same, empty) none =
     subst (λ (a : Asked). Says (first ∷ words) a) (sym same) (version (⊎_elim (λ e. inl (ap (λ (v : Word). v ∷ words) e ∙ ap (λ (l : List Word). codes "-V" ∷ l) empty)) (λ e. inr (ap (λ (v : Word). v ∷ words) e ∙ ap (λ (l : List Word). codes "--version" ∷ l) empty)) is))
 told_version first words (Err m) is (a, rest, same, are) none =
-    subst (λ (x : Mistake). IsTold (first ∷ words) (Err x)) (sym same) (
+    subst (λ (x : Mistake). IsTold (first ∷ words) (Err x)) (sym same) (inr (
       (first ∷ [], rest, ap (λ (l : List Word). first ∷ l) are, at_version (version (⊎_elim (λ e. inl (ap (λ (v : Word). v ∷ []) e)) (λ e. inr (ap (λ (v : Word). v ∷ []) e)) is))),
       unasked first words (no_version_work first is) none (λ e. some_more (string_bytes a) rest (sym are ∙ rest_is first (codes "help") words [] e))
           (λ w e. no_named first is words w e)
           (λ e. ⊎_elim (λ s. some_more (string_bytes a) rest (sym are ∙ rest_is first (codes "-V") words [] s)) (λ s. some_more (string_bytes a) rest (sym are ∙ rest_is first (codes "--version") words [] s)) e),
-    )
+    ))
   where
     no_named : (first : Word) → (first ≡ codes "-V") ⊎ (first ≡ codes "--version") → (words : List Word) (w : Work) → first ∷ words ≡ codes "help" ∷ work_word w ∷ [] → ⊥
     no_named first (inl is) words w e = differs (codes "help") (codes "-V") refl (first_is first (codes "help") words (work_word w ∷ []) e ∙ is)

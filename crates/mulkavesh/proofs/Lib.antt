@@ -1,8 +1,11 @@
 mod Answered
 mod CauseLemmas
+mod Choosing
 mod Complete
+mod Escaping
 mod Help
 mod Itself
+mod JsonLists
 mod Lines
 mod Ordered
 mod Pieces

@@ -17,7 +17,7 @@ module _ (Answers : List ℕ → Result Made Error → Type 0) (w : Work) (c : C
   abbrev pub Told : Cause → Type 0
   Told x = TellsResult Answers w c from to errors status (Err (error_of x))
 
-  pub tells_refused : (is_refused : Bool) (note : List ℕ) → is_refused ≡ true → (status ≡ 1) × Tells errors (unaccepted_text from.name note) → TellsMade Answers w c from to errors status is_refused note
+  pub tells_refused : (is_refused : Bool) (note : List ℕ) → is_refused ≡ true → (status ≡ 1) × Tells errors (unaccepted_text w from.name note) → TellsMade Answers w c from to errors status is_refused note
   tells_refused true note is told = told
   tells_refused false note is told = absurd (cc)
 

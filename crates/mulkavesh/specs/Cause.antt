@@ -18,7 +18,7 @@ refused_text = codes "the input WebAssembly is invalid"
 
 -- what isn't there
 abbrev pub absent_text : Work → List ℕ
-absent_text work.Strip = codes "there is no custom section of this name"
+absent_text work.Strip = codes "one of the options fits no custom section"
 absent_text work.Snip = codes "no function is exported under this name"
 absent_text _ = codes "there is no such function"
 

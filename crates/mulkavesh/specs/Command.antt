@@ -1,5 +1,5 @@
 -- What one order comes to, for all that was read and all that was written, and what is told of it.
-use Rattle.std.specs.Prelude.{ℕ, Bool, true, false, List, [], ◌∷◌, Option, Result, Ok, Err, String, IfSome, OnOk, string_bytes, ◌≡◌, ◌⊎◌, ⊤}
+use Rattle.std.specs.Prelude.{ℕ, Bool, true, false, List, Option, Result, Ok, Err, String, IfSome, OnOk, string_bytes, ◌≡◌, ◌⊎◌, ⊤}
 use Rattle.std.specs.Io.KnownBytes.{Appends, Keeps}
 use Rattle.std.specs.declared.alloc.Global.{Global}
 use Rattle.walrus_tools.specs.Handed.{Config, CountsReads, CountsWrites, Error, IsUntouched, Memory, Module, Read, ReadsWhole, Stream, Tells, ToolError, Write, WroteFront, stream_of}
@@ -7,7 +7,8 @@ use Rattle.mulkavesh.specs.declared.cause.Cause.{Cause}
 use Rattle.mulkavesh.specs.declared.cause.Cause.TheVariants as cause
 use Rattle.mulkavesh.specs.declared.subcommands.Made.{Made}
 use Rattle.mulkavesh.specs.declared.order.Work.{Work}
-use Rattle.mulkavesh.specs.Cause.{IsInvalid, SaysFault, SaysRefused, refusal_text, refused_text}
+use Rattle.mulkavesh.specs.declared.order.Work.TheVariants as work
+use Rattle.mulkavesh.specs.Cause.{IsInvalid, SaysFault, SaysRefused, refusal_text}
 use Rattle.mulkavesh.specs.Message.{line}
 
 -- ---- from the source to the sink
@@ -40,10 +41,10 @@ module _ (Answers : List ℕ → Result Made Error → Type 0) (from_old from_ne
 
 -- ---- what is told
 
--- what is told of bytes that aren't accepted: what is noted of them, and where nothing is, that they are invalid
-abbrev pub unaccepted_text : (name note : List ℕ) → List ℕ
-unaccepted_text name [] = line name refused_text
-unaccepted_text name (byte ∷ more) = byte ∷ more
+-- what is told of bytes that aren't accepted: of `check`, what it notes of them, in a line with the source's name; and else the note itself
+abbrev pub unaccepted_text : Work → (name note : List ℕ) → List ℕ
+unaccepted_text work.Check name note = line name note
+unaccepted_text _ name note = note
 
 -- a source or a sink: its stream, its name, why its last call failed, and whether its reader went away
 pub record Device : Type 0 where
@@ -80,7 +81,7 @@ module _ (Answers : List ℕ → Result Made Error → Type 0) (w : Work) (c : C
 
   -- bytes that aren't accepted are a refusal
   abbrev pub TellsMade : (is_refused : Bool) → (note : List ℕ) → Type 0
-  TellsMade true note = (status ≡ 1) × Tells errors (unaccepted_text from.name note)
+  TellsMade true note = (status ≡ 1) × Tells errors (unaccepted_text w from.name note)
   TellsMade false note = (status ≡ 0) × Tells errors note
 
   -- a line says that the bytes are invalid, which are all of the source, and behind it something that is wrong with them

@@ -1,16 +1,19 @@
 -- What is wrong with arguments that say nothing: each mistake is there, of its kind and with its argument.
-use Rattle.std.specs.Prelude.{◌≡◌, ◌≢◌, ◌⊎◌, ℕ, Bool, true, false, List, [], ◌∷◌, ◌++◌, Option, None, Result, Ok, Err, All, flat_map, length, codes, string_bytes}
+use Rattle.std.specs.Prelude.{◌≡◌, ◌≢◌, ◌⊎◌, ℕ, Bool, true, false, List, [], ◌∷◌, ◌++◌, Option, Some, None, Result, Ok, Err, All, flat_map, length, codes, string_bytes, ◌||◌, if◌then◌else◌}
 use Rattle.mulkavesh.specs.declared.order.Work.{Work}
 use Rattle.mulkavesh.specs.declared.order.Flag.{Flag}
+use Rattle.mulkavesh.specs.declared.order.Naming.{Naming}
 use Rattle.mulkavesh.specs.declared.order.Order.{Order}
+use Rattle.mulkavesh.specs.declared.order.Naming.TheVariants.{Section}
+use Rattle.mulkavesh.specs.declared.order.Flag.TheVariants as option
 use Rattle.mulkavesh.specs.declared.order.Asked.{Asked}
 use Rattle.mulkavesh.specs.declared.order.Asked.TheVariants.{Version}
 use Rattle.mulkavesh.specs.declared.mistakes.Wrong.{Wrong}
-use Rattle.mulkavesh.specs.declared.mistakes.Wrong.TheVariants.{UnknownOption, NotTaken, TakesNoValue, NoValue, SecondOutput, SecondInput, OperandMissing}
+use Rattle.mulkavesh.specs.declared.mistakes.Wrong.TheVariants.{UnknownOption, NotTaken, TakesNoValue, NoValue, SecondOutput, SecondInput, OperandMissing, NoSection, OutOfMemory}
 use Rattle.mulkavesh.specs.declared.mistakes.Mistake.{Mistake}
 use Rattle.mulkavesh.specs.declared.mistakes.Mistake.TheVariants.{NoArguments, UnknownSubcommand, Extra, Behind}
-use Rattle.mulkavesh.specs.Order.{flag_word, has_flag, has_operand, naming_word, value_bytes, work_word}
-use Rattle.mulkavesh.specs.Words.{IsNoWork, IsPlain, Piece, Says, SaysOrder, Word, behind_words, ending_words, flag_in, out_in, piece_words, plain_in}
+use Rattle.mulkavesh.specs.Order.{Said, flag_word, has_flag, has_naming, has_operand, is_strip, joined_front, naming_word, said, value_bytes, work_word}
+use Rattle.mulkavesh.specs.Words.{IsNoWork, IsPlain, Piece, Says, SaysOrder, Word, behind_words, ending_words, flag, flag_in, out_in, piece_words, plain_in, section_equals, valued}
 
 -- ---- behind a subcommand
 
@@ -34,25 +37,66 @@ pub record IsUnknown (word : Word) : Type 0 where
   pub no_ending : word ≢ codes "--"
   pub none : (p : Piece) (more : List Word) → plain_in p ≡ [] → piece_words p ≡ word ∷ more → ⊥
 
--- where a list of words stands behind pieces that name these files to be written, and have these plain arguments: its first argument is wrong so
-module _ (w : Work) (outs plains more : List Word) where
+-- the option says of some sections that they go
+abbrev pub is_gone : Flag → Bool
+is_gone option.Names = true
+is_gone option.Producers = true
+is_gone option.Debug = true
+is_gone option.All = true
+is_gone _ = false
+
+abbrev pub is_section : Naming → Bool
+is_section Section = true
+is_section _ = false
+
+-- one of the pieces says of some sections that they go
+abbrev pub says_gone : Piece → Bool
+says_gone (flag f) = is_gone f
+says_gone (valued n w) = is_section n
+says_gone (section_equals w) = true
+says_gone _ = false
+
+abbrev pub any_gone : List Piece → Bool
+any_gone [] = false
+any_gone (p ∷ pieces) = says_gone p || any_gone pieces
+
+-- the argument is this option, which has a value, or begins with it and a value
+abbrev pub IsNamed : Naming → Word → Type 0
+IsNamed n word = (word ≡ naming_word n) ⊎ ((value : Word) × (word ≡ joined_front (Some n) ++ value))
+
+-- the argument is an option that the subcommand doesn't have: without a value, or one that has one
+abbrev pub IsNotTaken : Work → Word → Type 0
+IsNotTaken w word =
+    ((p : Piece) × (f : Flag) × (piece_words p ≡ word ∷ []) × (flag_in p ≡ f ∷ []) × (has_flag w f ≡ false))
+    ⊎ ((n : Naming) × IsNamed n word × (has_naming w n ≡ false))
+
+-- where a list of words stands behind pieces that name these files to be written, have these plain arguments, and say of sections that they go or don't:
+-- its first argument is wrong so
+module _ (w : Work) (outs plains : List Word) (gone : Bool) (more : List Word) where
   abbrev pub WrongAt : Wrong → Type 0
   WrongAt (UnknownOption a) = (rest : List Word) × (more ≡ string_bytes a ∷ rest) × IsUnknown (string_bytes a)
-  WrongAt (NotTaken a) = (p : Piece) × (f : Flag) × (rest : List Word) × (more ≡ string_bytes a ∷ rest) × (piece_words p ≡ string_bytes a ∷ []) × (flag_in p ≡ f ∷ []) × (has_flag w f ≡ false)
+  WrongAt (NotTaken a) = (rest : List Word) × (more ≡ string_bytes a ∷ rest) × IsNotTaken w (string_bytes a)
   WrongAt (TakesNoValue a) = (f : Flag) × (value : Word) × (rest : List Word) × (more ≡ string_bytes a ∷ rest) × (string_bytes a ≡ flag_word f ++ (codes "=" ++ value))
-  WrongAt (NoValue n) = more ≡ naming_word n ∷ []
+  WrongAt (NoValue n) = (more ≡ naming_word n ∷ []) × (has_naming w n ≡ true)
   WrongAt (SecondOutput v) = (p : Piece) × (rest : List Word) × (more ≡ piece_words p ++ rest) × (out_in p ≡ value_bytes v ∷ []) × (outs ≢ [])
   WrongAt (SecondInput a) = (behind : Option (List Word)) × (rest : List Word) × (more ≡ ending_words behind ++ string_bytes a ∷ rest) × (behind ≡ None → IsPlain (string_bytes a)) × (length (plains ++ behind_words behind) ≡ room w)
   WrongAt OperandMissing = (behind : Option (List Word)) × (more ≡ ending_words behind) × (has_operand w ≡ true) × (plains ++ behind_words behind ≡ [])
+  WrongAt NoSection = (behind : Option (List Word)) × (more ≡ ending_words behind) × (is_strip w ≡ true) × (gone ≡ false)
+  WrongAt OutOfMemory = ⊥
 
 -- this is wrong behind the subcommand
 abbrev pub IsWrong : (w : Work) (words : List Word) → Wrong → Type 0
-IsWrong w words wrong = (pieces : List Piece) × (more : List Word) × Stands words pieces more × WrongAt w (flat_map out_in pieces) (flat_map plain_in pieces) more wrong
+IsWrong w words wrong = (pieces : List Piece) × (more : List Word) × Stands words pieces more × WrongAt w (flat_map out_in pieces) (flat_map plain_in pieces) (any_gone pieces) more wrong
 
--- the order that they say; or what is wrong, and they say none
+-- memory ran out
+abbrev pub is_memory_wrong : Wrong → Bool
+is_memory_wrong OutOfMemory = true
+is_memory_wrong _ = false
+
+-- the order that they say; or what is wrong, and they say none; or memory ran out
 abbrev pub IsOrdered : (w : Work) (words : List Word) → Result Order Wrong → Type 0
-IsOrdered w words (Ok o) = SaysOrder (work_word w ∷ words) o
-IsOrdered w words (Err wrong) = IsWrong w words wrong × ((o : Order) → SaysOrder (work_word w ∷ words) o → ⊥)
+IsOrdered w words (Ok o) = SaysOrder (work_word w ∷ words) (said o)
+IsOrdered w words (Err wrong) = (is_memory_wrong wrong ≡ true) ⊎ (IsWrong w words wrong × ((o : Said) → SaysOrder (work_word w ∷ words) o → ⊥))
 
 -- ---- all of them
 
@@ -75,7 +119,15 @@ IsMistake words (UnknownSubcommand a) = ((rest : List Word) × (words ≡ string
 IsMistake words (Extra a) = (front : List Word) × (rest : List Word) × (words ≡ front ++ string_bytes a ∷ rest) × IsFull front
 IsMistake words (Behind w wrong) = (rest : List Word) × (words ≡ work_word w ∷ rest) × IsWrong w rest wrong
 
--- what the arguments ask for; or what is wrong with them, and they ask for nothing
+abbrev pub is_memory : Mistake → Bool
+is_memory (Behind w wrong) = is_memory_wrong wrong
+is_memory _ = false
+
+-- the status of a run that tells it
+abbrev pub mistake_status : Mistake → ℕ
+mistake_status mistake = if is_memory mistake then 1 else 2
+
+-- what the arguments ask for; or what is wrong with them, and they ask for nothing; or memory ran out
 abbrev pub IsTold : List Word → Result Asked Mistake → Type 0
 IsTold words (Ok asked) = Says words asked
-IsTold words (Err mistake) = IsMistake words mistake × ((asked : Asked) → Says words asked → ⊥)
+IsTold words (Err mistake) = (is_memory mistake ≡ true) ⊎ (IsMistake words mistake × ((asked : Asked) → Says words asked → ⊥))

@@ -1,15 +1,16 @@
 -- Where each argument behind the subcommand goes, as the program puts it there.
-use Rattle.std.specs.Prelude.{◌≡◌, ℕ, Bool, true, false, not, ◌&&◌, ◌||◌, List, [], ◌∷◌, Option, Some, None, Result, Ok, Err, bytes_eq, is_some, codes, map, string_bytes, String, if◌then◌else◌}
+use Rattle.std.specs.Prelude.{◌≡◌, ◌⊎◌, ℕ, Bool, true, false, not, ◌&&◌, ◌||◌, List, [], ◌∷◌, ◌++◌, Option, Some, None, Result, Ok, Err, bytes_eq, is_some, codes, map, string_bytes, String, if◌then◌else◌}
 use Rattle.std.specs.declared.alloc.Global.{Global}
 use Rattle.std.specs.declared.vec.IntoIter.{IntoIter}
 use Rattle.std.specs.Vec.Iter.{into_iter_items}
 use Rattle.mulkavesh.specs.declared.order.Flag.{Flag}
-use Rattle.mulkavesh.specs.declared.order.Flag.TheVariants.{NoNames, NoProducers, NoLegacy, Quiet, Json}
+use Rattle.mulkavesh.specs.declared.order.Flag.TheVariants.{NoNames, NoProducers, NoLegacy, Quiet, Json, Names, Producers, Debug, All}
 use Rattle.mulkavesh.specs.declared.order.Naming.{Naming}
-use Rattle.mulkavesh.specs.declared.order.Naming.TheVariants.{Short, Long}
+use Rattle.mulkavesh.specs.declared.order.Naming.TheVariants.{Short, Long, Section}
 use Rattle.mulkavesh.specs.declared.order.Order.{Order}
+use Rattle.mulkavesh.specs.declared.order.Value.{Value}
 use Rattle.mulkavesh.specs.declared.mistakes.Wrong.{Wrong}
-use Rattle.mulkavesh.specs.declared.mistakes.Wrong.TheVariants.{UnknownOption, NotTaken, TakesNoValue, NoValue, SecondOutput, SecondInput, OperandMissing}
+use Rattle.mulkavesh.specs.declared.mistakes.Wrong.TheVariants.{UnknownOption, NotTaken, TakesNoValue, NoValue, SecondOutput, SecondInput, OperandMissing, NoSection, OutOfMemory}
 use Rattle.mulkavesh.specs.declared.mistakes.Mistake.{Mistake}
 use Rattle.mulkavesh.specs.declared.mistakes.Mistake.TheVariants.{Extra}
 use Rattle.mulkavesh.specs.declared.order.Asked.{Asked}
@@ -19,7 +20,7 @@ use Rattle.mulkavesh.specs.declared.words.Seen.{Seen}
 use Rattle.mulkavesh.specs.declared.words.Seen.TheVariants as seen
 use Rattle.mulkavesh.specs.declared.words.Spelling.{Spelling}
 use Rattle.mulkavesh.specs.declared.words.Spelling.TheVariants as kind
-use Rattle.mulkavesh.specs.Order.{begins, flag_named, has_flag, has_operand}
+use Rattle.mulkavesh.specs.Order.{Said, asks_gone, begins, flag_named, has_flag, has_naming, has_operand, is_strip, naming_named, said}
 
 -- ---- help
 
@@ -27,7 +28,7 @@ use Rattle.mulkavesh.specs.Order.{begins, flag_named, has_flag, has_operand}
 abbrev pub look_at : List ℕ → Seen
 look_at word =
     if bytes_eq word (codes "-h") || bytes_eq word (codes "--help") then seen.Help
-    else (if bytes_eq word (codes "-o") || bytes_eq word (codes "--output") then seen.Option
+    else (if bytes_eq word (codes "-o") || bytes_eq word (codes "--output") || bytes_eq word (codes "--section") then seen.Option
     else (if bytes_eq word (codes "--") then seen.Ending else seen.Nothing))
 
 -- what is seen with one argument more
@@ -51,94 +52,143 @@ asks_help words = is_help (looks seen.Nothing words)
 -- ---- one argument
 
 -- a file that is written, where none was named
-abbrev pub with_output : Order → String Global → Option Naming → Result Order Wrong
-with_output o w joined =
-    if is_some o.output then Err (SecondOutput (record { argument = w; joined = joined }))
-    else Ok (record o { output = Some (record { argument = w; joined = joined }) })
+abbrev pub with_output : Said → Value → Result Said Wrong
+with_output o v = if is_some o.output then Err (SecondOutput v) else Ok (record o { output = Some v })
+
+-- one section more that goes
+abbrev pub with_section : Said → Value → Result Said Wrong
+with_section o v = Ok (record o { sections = o.sections ++ v ∷ [] })
+
+-- the value of an option
+abbrev pub with_value : Said → Naming → Value → Result Said Wrong
+with_value o Short v = with_output o v
+with_value o Long v = with_output o v
+with_value o Section v = with_section o v
 
 -- as what the subcommand is about, and else as IN
-abbrev pub with_plain : Order → String Global → Result Order Wrong
+abbrev pub with_plain : Said → String Global → Result Said Wrong
 with_plain o w =
     if has_operand o.work && not (is_some o.operand) then Ok (record o { operand = Some w })
     else (if is_some o.input then Err (SecondInput w) else Ok (record o { input = Some w }))
 
-abbrev pub set : Order → Flag → Order
+abbrev pub set : Said → Flag → Said
 set o NoNames = record o { wanted = record (o.wanted) { names = false } }
 set o NoProducers = record o { wanted = record (o.wanted) { producers = false } }
 set o NoLegacy = record o { wanted = record (o.wanted) { legacy = false } }
 set o Quiet = record o { is_quiet = true }
 set o Json = record o { is_json = true }
+set o Names = record o { gone = record (o.gone) { names = true } }
+set o Producers = record o { gone = record (o.gone) { producers = true } }
+set o Debug = record o { gone = record (o.gone) { debug = true } }
+set o All = record o { is_all = true }
 
-abbrev pub with_flag : Order → Flag → String Global → Result Order Wrong
+abbrev pub with_flag : Said → Flag → String Global → Result Said Wrong
 with_flag o f w = if has_flag o.work f then Ok (set o f) else Err (NotTaken w)
 
 -- what is left of an order, and where the next argument stands; or what is wrong
 abbrev pub Put : Type 0
-Put = Result (Order × Place) Wrong
+Put = Result (Said × Place) Wrong
 
-abbrev pub then_at : Place → Result Order Wrong → Put
+abbrev pub then_at : Place → Result Said Wrong → Put
 then_at p (Ok n) = Ok (n, p)
 then_at p (Err wrong) = Err wrong
 
+-- the value of an option, in an argument of its own or behind the option
+abbrev pub put_value : Said → Naming → String Global → (joined : Option Naming) → Put
+put_value o n w joined = then_at place.Anywhere (with_value o n (record { argument = w; joined = joined }))
+
+-- the next argument is the value of the option, where the subcommand has that
+abbrev pub waiting : Said → Naming → String Global → Put
+waiting o n w = if has_naming o.work n then Ok (o, place.Value n) else Err (NotTaken w)
+
+abbrev pub put_joined : Said → Naming → String Global → Put
+put_joined o n w = if has_naming o.work n then put_value o n w (Some n) else Err (NotTaken w)
+
 -- it is an option that takes no value, with one
 abbrev pub has_value : List ℕ → Bool
-has_value word = begins (codes "--no-names=") word || begins (codes "--no-producers=") word || begins (codes "--no-legacy=") word || begins (codes "--quiet=") word || begins (codes "--json=") word
+has_value word =
+    begins (codes "--no-names=") word || begins (codes "--no-producers=") word || begins (codes "--no-legacy=") word || begins (codes "--quiet=") word
+    || begins (codes "--json=") word || begins (codes "--names=") word || begins (codes "--producers=") word || begins (codes "--debug=") word
+    || begins (codes "--all=") word
 
 -- what it is, if it isn't spelled as an option that has no value in it
 abbrev pub spelled_otherwise : List ℕ → Spelling
 spelled_otherwise word =
     if begins (codes "--output=") word then kind.Joined Long
+    else (if begins (codes "--section=") word then kind.Joined Section
     else (if begins (codes "-o") word then kind.Joined Short
     else (if has_value word then kind.Valued
-    else (if begins (codes "-") word then kind.Unknown else kind.Plain)))
+    else (if begins (codes "-") word then kind.Unknown else kind.Plain))))
 
 abbrev pub spelled_as : Option Flag → List ℕ → Spelling
 spelled_as (Some f) word = kind.Flag f
 spelled_as None word = spelled_otherwise word
+
+abbrev pub spelled_by : Option Naming → List ℕ → Spelling
+spelled_by (Some n) word = kind.Naming n
+spelled_by None word = spelled_as (flag_named word) word
 
 -- what an argument is by its spelling, where any may stand
 abbrev pub spelling_of : List ℕ → Spelling
 spelling_of word =
     if bytes_eq word (codes "-") then kind.Plain
     else (if bytes_eq word (codes "--") then kind.Ending
-    else (if bytes_eq word (codes "-o") then kind.Output Short
-    else (if bytes_eq word (codes "--output") then kind.Output Long
-    else spelled_as (flag_named word) word)))
+    else spelled_by (naming_named word) word)
 
-abbrev pub put_spelled : Order → Spelling → String Global → Put
+abbrev pub put_spelled : Said → Spelling → String Global → Put
 put_spelled o (kind.Flag f) w = then_at place.Anywhere (with_flag o f w)
 put_spelled o kind.Valued w = Err (TakesNoValue w)
-put_spelled o (kind.Output n) w = Ok (o, place.Output n)
-put_spelled o (kind.Joined n) w = then_at place.Anywhere (with_output o w (Some n))
+put_spelled o (kind.Naming n) w = waiting o n w
+put_spelled o (kind.Joined n) w = put_joined o n w
 put_spelled o kind.Ending w = Ok (o, place.Behind)
 put_spelled o kind.Unknown w = Err (UnknownOption w)
 put_spelled o kind.Plain w = then_at place.Anywhere (with_plain o w)
 
-abbrev pub put_word : Order → Place → String Global → Put
+abbrev pub put_word : Said → Place → String Global → Put
 put_word o place.Anywhere w = put_spelled o (spelling_of (string_bytes w)) w
-put_word o (place.Output n) w = then_at place.Anywhere (with_output o w None)
+put_word o (place.Value n) w = put_value o n w None
 put_word o place.Behind w = then_at place.Behind (with_plain o w)
 
 -- ---- all of them
 
 -- the others go where the next one stands
-abbrev pub then_put : (Order → Place → Put) → Put → Put
+abbrev pub then_put : (Said → Place → Put) → Put → Put
 then_put f (Ok s) = f s.0 s.1
 then_put f (Err wrong) = Err wrong
 
-abbrev pub put_words : Order → Place → List (String Global) → Put
+abbrev pub put_words : Said → Place → List (String Global) → Put
 put_words o p [] = Ok (o, p)
-put_words o p (w ∷ words) = then_put (λ (m : Order) (q : Place). put_words m q words) (put_word o p w)
+put_words o p (w ∷ words) = then_put (λ (m : Said) (q : Place). put_words m q words) (put_word o p w)
+
+-- what is missing of an order: what it is about, or what goes
+abbrev pub missing : Said → Option Wrong
+missing o =
+    if has_operand o.work && not (is_some o.operand) then Some OperandMissing
+    else (if is_strip o.work && not (asks_gone o) then Some NoSection else None)
 
 -- what is missing behind the last argument
-abbrev pub lacking : Order → Place → Option Wrong
-lacking o (place.Output n) = Some (NoValue n)
-lacking o _ = if has_operand o.work && not (is_some o.operand) then Some OperandMissing else None
+abbrev pub lacking : Said → Place → Option Wrong
+lacking o (place.Value n) = Some (NoValue n)
+lacking o place.Anywhere = missing o
+lacking o place.Behind = missing o
 
 -- what a function leaves of an order, and where it says that the next argument stands, or what it says is wrong
 abbrev pub IsPut : Put → Order → Result Place Wrong → Type 0
 IsPut (Err wrong) o result = result ≡ Err wrong
-IsPut (Ok s) o result = (o ≡ s.0) × (result ≡ Ok s.1)
+IsPut (Ok s) o result = (said o ≡ s.0) × (result ≡ Ok s.1)
+
+-- the same, or memory ran out
+abbrev pub IsPutOrMemory : Put → Order → Result Place Wrong → Type 0
+IsPutOrMemory put o result = IsPut put o result ⊎ (result ≡ Err OutOfMemory)
+
+-- what a function makes of all of them, in memory
+abbrev pub AreSo : Put → Result (Order × Place) Wrong → Type 0
+AreSo put (Ok s) = put ≡ Ok (said s.0, s.1)
+AreSo put (Err wrong) = put ≡ Err wrong
+
+-- the same, or memory ran out
+abbrev pub ArePut : Put → Result (Order × Place) Wrong → Type 0
+ArePut put result = AreSo put result ⊎ (result ≡ Err OutOfMemory)
 
 -- nothing stands behind what asks for this; or this does, for which there is no place
 abbrev pub IsAlone : Asked → List (List ℕ) → Result Asked Mistake → Type 0

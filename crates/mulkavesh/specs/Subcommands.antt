@@ -1,29 +1,31 @@
--- What each subcommand makes of the bytes of a module. Left open are what is written for programs, under `--json`, and what is noted by gc
--- without `--quiet`, by snip and by stub.
+-- What each subcommand makes of the bytes of a module. Left open are what check and sections write for programs, under `--json`, and what is noted by
+-- gc without `--quiet`, by snip and by stub.
 use Rattle.std.specs.Prelude.{ℕ, Bool, true, false, not, List, [], ◌∷◌, ◌++◌, Option, Some, None, Result, Ok, Err, String, codes, flat_map, is_some, string_bytes, ◌≡◌, ◌⊎◌, ⊤}
 use Rattle.std.specs.Global.{Vec}
 use Rattle.std.specs.declared.alloc.Global.{Global}
 use Rattle.std.specs.Str.Parse.{ParsesUnsigned}
 use Rattle.walrus_tools.specs.Diagnosed.{Finds, WordsFault}
 use Rattle.walrus_tools.specs.Found.{AnswersFound, IsFound}
-use Rattle.walrus_tools.specs.Handed.{Config, Error, Fault, InvalidWasm, Memory, ReportsOn, RunsOn, config_of, defaults, item_of}
+use Rattle.walrus_tools.specs.Handed.{Config, Error, Fault, InvalidWasm, Memory, ReportsOn, RunsOn, config_of, defaults}
 use Rattle.walrus_tools.specs.Kinds.{AnswersCounted}
 use Rattle.walrus_tools.specs.PartList.{HasParts, IsNone, Part}
-use Rattle.walrus_tools.specs.Reasons.{AnswersChain, HoldsChain, chain_seen, chain_text}
-use Rattle.walrus_tools.specs.Choice.{Choice}
+use Rattle.walrus_tools.specs.Reasons.{AnswersChain, HoldsChain}
 use Rattle.walrus_tools.specs.Sections.{LacksHeader, Piece, StandUpTo}
 use Rattle.walrus_tools.specs.Sized.{AnswersListed}
 use Rattle.walrus_tools.specs.Snipped.{AnswersSnipped}
 use Rattle.walrus_tools.specs.Stripped.{AnswersStripped}
 use Rattle.walrus_tools.specs.Stubbed.{AnswersStubbed}
 use Rattle.walrus_tools.specs.Wanted.{config_wanted}
-use Rattle.walrus_tools.specs.declared.tool.counts.Counted.{Counted}
 use Rattle.walrus_tools.specs.declared.tool.why.Chain.{Chain}
 use Rattle.mulkavesh.specs.declared.subcommands.Made.{Made}
 use Rattle.mulkavesh.specs.declared.order.Order.{Order}
 use Rattle.mulkavesh.specs.declared.order.Work.{Work}
 use Rattle.mulkavesh.specs.declared.order.Work.TheVariants as work
-use Rattle.mulkavesh.specs.Entries.{listed_text}
+use Rattle.mulkavesh.specs.Cause.{WordsRefusal, refused_text}
+use Rattle.mulkavesh.specs.Chains.{chain_told}
+use Rattle.mulkavesh.specs.Choices.{choices_of}
+use Rattle.mulkavesh.specs.Entries.{listed_told}
+use Rattle.mulkavesh.specs.Reports.{counted_json}
 use Rattle.mulkavesh.specs.Sections.{part_line, section_line, stop_text}
 
 -- what a call of the library answers: bytes, or why not
@@ -66,16 +68,15 @@ WritesQuietly false Answers = Writes Answers
 
 -- ---- report, list and why
 
--- for people this text of what a call answers, and for programs a text that is left open; or the call's refusal
-abbrev pub Told : {X : Type 0} → (is_json : Bool) → (text_of : X → List ℕ) → (Answers : Result X Error → Type 0) → Answer → Type 0
-Told {X = X} is_json text_of Answers (Ok text) = (answer : X) × (Answers (Ok answer) × ForPeople is_json (text.items ≡ text_of answer))
-Told is_json text_of Answers (Err e) = Answers (Err e)
+-- this text of what a call answers, or the call's refusal
+abbrev pub Told : {X : Type 0} → (text_of : X → List ℕ) → (Answers : Result X Error → Type 0) → Answer → Type 0
+Told {X = X} text_of Answers (Ok text) = (answer : X) × (Answers (Ok answer) × (text.items ≡ text_of answer))
+Told text_of Answers (Err e) = Answers (Err e)
 
--- for people the report; for programs a text that is left open, where there are such counts; or a refusal
+-- for people the report, and for programs the counts of it
 abbrev pub Reports : (is_json : Bool) → Config → (bytes : List ℕ) → Answer → Type 0
-Reports false c bytes answer = ReportsOn c bytes vec_bytes answer
-Reports true c bytes (Ok text) = (counted : Counted) × AnswersCounted c bytes (Ok counted)
-Reports true c bytes (Err e) = AnswersCounted c bytes (Err e)
+Reports false c bytes = ReportsOn c bytes vec_bytes
+Reports true c bytes = Told counted_json (AnswersCounted c bytes)
 
 -- ---- check
 
@@ -84,17 +85,24 @@ abbrev pub TellsVerdict : (bytes : List ℕ) → Option Fault → (text : List �
 TellsVerdict bytes None text = text ≡ codes "accepted\n"
 TellsVerdict bytes (Some fault) text = (words : List ℕ) × WordsFault bytes fault words × (text ≡ words ++ codes "\n")
 
+-- what is noted of something that is wrong with the bytes: that they are invalid; for programs, as in other subcommands, also what is wrong with them
+abbrev pub NotesFault : (is_json : Bool) → (bytes : List ℕ) → Option Fault → (note : List ℕ) → Type 0
+NotesFault is_json bytes None note = note ≡ []
+NotesFault true bytes (Some fault) note = WordsRefusal bytes fault note
+NotesFault false bytes (Some fault) note = note ≡ refused_text
+
 -- nothing was found exactly where the bytes are accepted, and otherwise something that is wrong with them; the module is refused where something was
--- found, and the text says what
-pub record IsVerdict (c : Config) (bytes : List ℕ) (is_json is_refused : Bool) (text : List ℕ) : Type 0 where
+-- found, and the text and the note say what
+pub record IsVerdict (c : Config) (bytes : List ℕ) (is_json : Bool) (m : Made) : Type 0 where
   pub found : Option Fault
   pub finds : Finds c bytes found
-  pub refused : is_refused ≡ is_some found
-  pub says : ForPeople is_json (TellsVerdict bytes found text)
+  pub refused : m.is_refused ≡ is_some found
+  pub says : ForPeople is_json (TellsVerdict bytes found m.output.items)
+  pub notes : NotesFault is_json bytes found m.note.items
 
--- the verdict, and nothing is noted; or memory ran out
+-- the verdict, on standard output and in a note; or memory ran out
 abbrev pub Checks : Config → (bytes : List ℕ) → (is_json : Bool) → Result Made Error → Type 0
-Checks c bytes is_json (Ok m) = IsVerdict c bytes is_json m.is_refused m.output.items × NotesNothing m
+Checks c bytes is_json (Ok m) = IsVerdict c bytes is_json m
 Checks c bytes is_json (Err (Memory e)) = ⊤
 Checks c bytes is_json (Err _) = ⊥
 
@@ -157,10 +165,6 @@ MeansNone c bytes word (Err e) = ((i : ℕ) → IsIndex word i → ⊥) × Answe
 abbrev pub AnswersWhy : Config → (bytes word : List ℕ) → Result Chain Error → Type 0
 AnswersWhy c bytes word answer = ((function : ℕ) × Means c bytes word function × AnswersChain c bytes function HoldsChain answer) ⊎ MeansNone c bytes word answer
 
--- a line for each item of the chain, or the one that the function isn't reached
-abbrev pub chain_told : Chain → List ℕ
-chain_told chain = chain_text (item_of chain.item) (chain_seen chain)
-
 -- ---- each subcommand
 
 -- what a subcommand is about; where it is about nothing, no bytes
@@ -168,21 +172,17 @@ abbrev pub operand_bytes : Option (String Global) → List ℕ
 operand_bytes None = []
 operand_bytes (Some word) = string_bytes word
 
--- that sections with such a name go
-abbrev pub named : (operand : List ℕ) → Choice
-named operand = record { is_kept = false; name = operand }
-
-abbrev pub AnswersWork : Work → Config → (is_quiet is_all is_json : Bool) → (operand bytes : List ℕ) → Result Made Error → Type 0
-AnswersWork work.Gc c is_quiet is_all is_json operand bytes = WritesQuietly is_quiet (RunsOn c bytes vec_bytes)
-AnswersWork work.Report c is_quiet is_all is_json operand bytes = WritesAlone (Reports is_json c bytes)
-AnswersWork work.List c is_quiet is_all is_json operand bytes = WritesAlone (Told is_json listed_text (AnswersListed c bytes))
-AnswersWork work.Check c is_quiet is_all is_json operand bytes = Checks c bytes is_json
-AnswersWork work.Sections c is_quiet is_all is_json operand bytes = TellsAll bytes is_all is_json
-AnswersWork work.Strip c is_quiet is_all is_json operand bytes = WritesAlone (AnswersStripped bytes (named operand ∷ []))
-AnswersWork work.Snip c is_quiet is_all is_json operand bytes = Writes (AnswersSnipped (config_of defaults) bytes operand)
-AnswersWork work.Stub c is_quiet is_all is_json operand bytes = Writes (AnswersStubbed (config_of defaults) bytes operand)
-AnswersWork work.Why c is_quiet is_all is_json operand bytes = WritesAlone (Told is_json chain_told (AnswersWhy (config_of defaults) bytes operand))
+abbrev pub AnswersWork : Work → Order → (bytes : List ℕ) → Result Made Error → Type 0
+AnswersWork work.Gc o bytes = WritesQuietly o.is_quiet (RunsOn (config_wanted o.wanted) bytes vec_bytes)
+AnswersWork work.Report o bytes = WritesAlone (Reports o.is_json (config_wanted o.wanted) bytes)
+AnswersWork work.List o bytes = WritesAlone (Told (listed_told o.is_json) (AnswersListed (config_wanted o.wanted) bytes))
+AnswersWork work.Check o bytes = Checks (config_wanted o.wanted) bytes o.is_json
+AnswersWork work.Sections o bytes = TellsAll bytes o.is_all o.is_json
+AnswersWork work.Strip o bytes = WritesAlone (AnswersStripped bytes (choices_of o))
+AnswersWork work.Snip o bytes = Writes (AnswersSnipped (config_of defaults) bytes (operand_bytes o.operand))
+AnswersWork work.Stub o bytes = Writes (AnswersStubbed (config_of defaults) bytes (operand_bytes o.operand))
+AnswersWork work.Why o bytes = WritesAlone (Told (chain_told o.is_json) (AnswersWhy (config_of defaults) bytes (operand_bytes o.operand)))
 
 -- what an order makes of the bytes
 abbrev pub AnswersOrder : Order → (bytes : List ℕ) → Result Made Error → Type 0
-AnswersOrder o bytes = AnswersWork o.work (config_wanted o.wanted) o.is_quiet o.is_all o.is_json (operand_bytes o.operand) bytes
+AnswersOrder o bytes = AnswersWork o.work o bytes

@@ -1,16 +1,17 @@
 -- What the arguments of the command line say, as the usage has it: a subcommand; behind it options and plain arguments in any order; and behind `--`
 -- plain ones alone. Of the plain ones the first is what the subcommand is about, if it is about anything, and the next one is IN.
-use Rattle.std.specs.Prelude.{◌≡◌, ◌≢◌, ◌⊎◌, ◌↔◌, ℕ, true, List, [], ◌∷◌, ◌++◌, Option, Some, None, All, Contains, is_some, flat_map, codes, string_bytes, String, ⊤}
+use Rattle.std.specs.Prelude.{◌≡◌, ◌≢◌, ◌⊎◌, ◌↔◌, ℕ, true, List, [], ◌∷◌, ◌++◌, Option, Some, None, All, Contains, is_some, flat_map, map, codes, string_bytes, String, ⊤}
 use Rattle.std.specs.declared.alloc.Global.{Global}
 use Rattle.mulkavesh.specs.declared.order.Work.{Work}
 use Rattle.mulkavesh.specs.declared.order.Flag.{Flag}
 use Rattle.mulkavesh.specs.declared.order.Flag.TheVariants.{Quiet}
 use Rattle.mulkavesh.specs.declared.order.Naming.{Naming}
+use Rattle.mulkavesh.specs.declared.order.Naming.TheVariants.{Short, Long, Section}
 use Rattle.mulkavesh.specs.declared.order.Order.{Order}
 use Rattle.mulkavesh.specs.declared.order.Value.{Value}
 use Rattle.mulkavesh.specs.declared.order.Asked.{Asked}
 use Rattle.mulkavesh.specs.declared.order.Asked.TheVariants.{Help, HelpOf, Version, Run}
-use Rattle.mulkavesh.specs.Order.{flag_word, has_flag, has_operand, is_set, naming_word, value_bytes, work_word}
+use Rattle.mulkavesh.specs.Order.{Said, asks_gone, flag_word, has_flag, has_naming, has_operand, is_set, is_strip, naming_word, said, value_bytes, work_word}
 
 -- one argument
 abbrev pub Word : Type 0
@@ -18,22 +19,24 @@ Word = List ℕ
 
 -- ---- pieces
 
--- what stands behind a subcommand: an option without a value, by its whole name or as `-q`; `-o OUT` or `--output OUT`, in two arguments; `-oOUT`, by the
--- first byte of OUT and the others; `--output=OUT`; or a plain argument
+-- what stands behind a subcommand: an option without a value, by its whole name or as `-q`; an option and its value, in two arguments; `-oOUT`, by the
+-- first byte of OUT and the others; `--output=OUT`; `--section=NAME`; or a plain argument
 pub data Piece : Type 0 where
   flag : Flag → Piece
   quiet : Piece
-  out : Naming → Word → Piece
+  valued : Naming → Word → Piece
   out_behind : ℕ → Word → Piece
   out_equals : Word → Piece
+  section_equals : Word → Piece
   plain : Word → Piece
 
 abbrev pub piece_words : Piece → List Word
 piece_words (flag f) = flag_word f ∷ []
 piece_words quiet = codes "-q" ∷ []
-piece_words (out n w) = naming_word n ∷ w ∷ []
+piece_words (valued n w) = naming_word n ∷ w ∷ []
 piece_words (out_behind byte rest) = (codes "-o" ++ byte ∷ rest) ∷ []
 piece_words (out_equals w) = (codes "--output=" ++ w) ∷ []
+piece_words (section_equals w) = (codes "--section=" ++ w) ∷ []
 piece_words (plain w) = w ∷ []
 
 abbrev pub flag_in : Piece → List Flag
@@ -41,11 +44,34 @@ flag_in (flag f) = f ∷ []
 flag_in quiet = Quiet ∷ []
 flag_in _ = []
 
+-- the options that have a value
+abbrev pub naming_in : Piece → List Naming
+naming_in (valued n w) = n ∷ []
+naming_in (out_behind byte rest) = Short ∷ []
+naming_in (out_equals w) = Long ∷ []
+naming_in (section_equals w) = Section ∷ []
+naming_in _ = []
+
+-- the value, where the option names the file that is written
+abbrev pub out_of : Naming → Word → List Word
+out_of Section w = []
+out_of _ w = w ∷ []
+
 abbrev pub out_in : Piece → List Word
-out_in (out n w) = w ∷ []
+out_in (valued n w) = out_of n w
 out_in (out_behind byte rest) = (byte ∷ rest) ∷ []
 out_in (out_equals w) = w ∷ []
 out_in _ = []
+
+-- the value, where it is the NAME of sections
+abbrev pub section_of : Naming → Word → List Word
+section_of Section w = w ∷ []
+section_of _ w = []
+
+abbrev pub section_in : Piece → List Word
+section_in (valued n w) = section_of n w
+section_in (section_equals w) = w ∷ []
+section_in _ = []
 
 abbrev pub plain_in : Piece → List Word
 plain_in (plain w) = w ∷ []
@@ -74,16 +100,19 @@ abbrev pub one_value : Option Value → List Word
 one_value None = []
 one_value (Some v) = value_bytes v ∷ []
 
--- the arguments say this order
-pub record SaysOrder (words : List Word) (o : Order) : Type 0 where
+-- the arguments say this order; `strip` has to be told what goes
+pub record SaysOrder (words : List Word) (o : Said) : Type 0 where
   pub pieces : List Piece
   pub behind : Option (List Word)
   pub are : words ≡ work_word o.work ∷ flat_map piece_words pieces ++ ending_words behind
   pub plain_words : All IsPlain (flat_map plain_in pieces)
   pub known : All (λ (f : Flag). has_flag o.work f ≡ true) (flat_map flag_in pieces)
+  pub known_values : All (λ (n : Naming). has_naming o.work n ≡ true) (flat_map naming_in pieces)
   pub flags : (f : Flag) → (is_set o f ≡ true) ↔ Contains (flat_map flag_in pieces) f
+  pub sections : flat_map section_in pieces ≡ map value_bytes o.sections
   pub output : flat_map out_in pieces ≡ one_value o.output
   pub about : is_some o.operand ≡ has_operand o.work
+  pub gone : is_strip o.work ≡ true → asks_gone o ≡ true
   pub plain : flat_map plain_in pieces ++ behind_words behind ≡ one_word o.operand ++ one_word o.input
 
 -- ---- help
@@ -136,4 +165,4 @@ pub data Says (words : List Word) : Asked → Type 0 where
   help_of : (w : Work) → BeginsWith w words → AsksHelp words → Says words (HelpOf w)
   help_named : (w : Work) → words ≡ codes "help" ∷ work_word w ∷ [] → Says words (HelpOf w)
   version : (words ≡ codes "-V" ∷ []) ⊎ (words ≡ codes "--version" ∷ []) → Says words Version
-  order : (o : Order) → SaysOrder words o → Says words (Run o)
+  order : (o : Order) → SaysOrder words (said o) → Says words (Run o)

@@ -4,7 +4,7 @@ ghost use Rattle.std.specs.Prelude.{◌≡◌, IfOk, IfSome, string_bytes};
 ghost use Rattle.mulkavesh.specs.Cause.{SaysFault, SaysRefused, WordsRefusal, absent_text, config_read, refusal_text, said_text};
 ghost use Rattle.walrus_tools.specs.Wanted.{config_wanted};
 
-use crate::order::{Order, Work};
+use crate::order::{Order, Work, new_wanted};
 use crate::verdicts::REFUSED;
 use std::alloc::{AllocError, Global};
 use walrus_tools::{Error, Fault, Wanted, diagnose, fault_words};
@@ -35,7 +35,7 @@ fn wanted_of(order: &Order) -> Wanted
     ensures { config_wanted result ≡ config_read order.now }
 {
     match order.work {
-        Work::Snip | Work::Stub | Work::Why => Order::new(order.work).wanted,
+        Work::Snip | Work::Stub | Work::Why => new_wanted(),
         _ => order.wanted,
     }
 }
@@ -50,8 +50,8 @@ fn found_in(alloc: Global, bytes: &[u8], wanted: Wanted) -> Option<String>
     }
 }
 
-// What is said of bytes that are invalid, and behind it what is wrong with them.
-fn worded(alloc: Global, fault: Fault, bytes: &[u8]) -> Result<String, AllocError>
+/// What is said of bytes that are invalid, and behind it what is wrong with them.
+pub(crate) fn worded(alloc: Global, fault: Fault, bytes: &[u8]) -> Result<String, AllocError>
     ensures { IfOk result (λ text. WordsRefusal bytes.now fault (string_bytes text)) }
 {
     let words = fault_words(alloc, fault, bytes)?;
@@ -91,7 +91,7 @@ fn absent(work: Work) -> &'static str
     ensures { result.now ≡ absent_text work }
 {
     match work {
-        Work::Strip => "there is no custom section of this name",
+        Work::Strip => "one of the options fits no custom section",
         Work::Snip => "no function is exported under this name",
         _ => "there is no such function",
     }

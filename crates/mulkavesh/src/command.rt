@@ -9,10 +9,9 @@ ghost use Rattle.walrus_tools.specs.Handed.{CountsReads, CountsWrites, Tells, st
 
 use crate::cause::{Cause, said_of, text_said};
 use crate::explains::Explains;
-use crate::message::refuse;
-use crate::order::Order;
+use crate::message::{refuse, refuse_in};
+use crate::order::{Order, Work};
 use crate::subcommands::{Made, make};
-use crate::verdicts::REFUSED;
 use std::alloc::Global;
 use walrus_tools::{Error, ReadAllError, Sink, Source, read_all, write_all};
 
@@ -75,17 +74,19 @@ fn unwritten<W: Explains, E: Sink>(output: &W, errors: &mut E) -> u8
     refuse(errors, output.name(), output.trouble())
 }
 
-// Tells what is noted of bytes that aren't accepted, and where nothing is, that they aren't.
-fn unaccepted<E: Sink>(errors: &mut E, name: &str, note: &[u8]) -> u8
+// Tells what is noted of bytes that aren't accepted: of `check` in a line with the source's name, and else as it stands.
+fn unaccepted<E: Sink>(errors: &mut E, work: Work, name: &str, note: &[u8]) -> u8
     ensures status { result ≡ 1 }
     ensures told { Tells (stream_of E.held E.write_failures errors.old errors.new)
-        (unaccepted_text name.now note.now) }
+        (unaccepted_text work name.now note.now) }
 {
-    if note.is_empty() {
-        return refuse(errors, name, REFUSED);
+    match work {
+        Work::Check => refuse_in(errors, name, note),
+        _ => {
+            let _told = write_all(errors, note);
+            1
+        }
     }
-    let _told = write_all(errors, note);
-    1
 }
 
 /// Runs one order: reads all of the source, writes what is made of it to the sink, and tells of a refusal in one line. The answer is the status: 0
@@ -105,7 +106,12 @@ pub(crate) fn command<R: Source + Explains, W: Sink + Explains, E: Sink>(
     ensures flushed { result ≡ 0 → W.is_flushed output.new ≡ true }
 {
     match carry(alloc, order, input, output) {
-        Ok(answer) if answer.is_refused => unaccepted(errors, input.name(), &answer.note),
+        Ok(answer) if answer.is_refused => unaccepted(
+            errors,
+            order.work,
+            input.name(),
+            &answer.note,
+        ),
         Ok(answer) => {
             let _told = write_all(errors, &answer.note);
             0

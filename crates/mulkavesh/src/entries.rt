@@ -1,11 +1,12 @@
 //! The functions that stay, as a text: for people a line each, for programs an array of objects.
 
-ghost use Rattle.std.specs.Prelude.{◌≡◌, ◌++◌, IfOk, OnOk, flat_map, map};
-ghost use Rattle.mulkavesh.specs.Entries.{listed_line};
+ghost use Rattle.std.specs.Prelude.{◌≡◌, ◌++◌, IfOk, OnOk, codes, flat_map, map, true};
+ghost use Rattle.mulkavesh.specs.Entries.{listed_line, listed_object, listed_text};
+ghost use Rattle.mulkavesh.specs.Json.{separated};
 ghost use Rattle.mulkavesh.specs.Visible.{shown};
 ghost use Rattle.walrus_tools.specs.Sized.{listed_seen};
 
-use crate::json::add_string;
+use crate::json::{add_comma, add_string};
 use crate::numbers::add_decimal;
 use crate::visible::front_shown;
 use std::alloc::{AllocError, Global};
@@ -38,8 +39,8 @@ fn add_line(alloc: Global, to: &mut Vec<u8>, function: &Listed) -> Result<(), Al
     Ok(to.push(b'\n')?)
 }
 
-/// A line for each of the functions.
-pub(crate) fn text(alloc: Global, functions: &[Listed]) -> Result<Vec<u8>, AllocError>
+// A line for each of the functions.
+fn text(alloc: Global, functions: &[Listed]) -> Result<Vec<u8>, AllocError>
     ensures { IfOk result (λ text. text.items
         ≡ flat_map listed_line (map listed_seen functions.now)) }
 {
@@ -51,7 +52,9 @@ pub(crate) fn text(alloc: Global, functions: &[Listed]) -> Result<Vec<u8>, Alloc
 }
 
 // Puts the object of a function behind the text.
-fn add_object(alloc: Global, to: &mut Vec<u8>, function: &Listed) -> Result<(), AllocError> {
+fn add_object(alloc: Global, to: &mut Vec<u8>, function: &Listed) -> Result<(), AllocError>
+    ensures { OnOk result (to.new.items ≡ to.old.items ++ listed_object (listed_seen function.now)) }
+{
     to.extend_from_slice(b"{\"index\":")?;
     add_decimal(alloc, to, function.index as u64)?;
     to.extend_from_slice(b",\"size\":")?;
@@ -64,16 +67,39 @@ fn add_object(alloc: Global, to: &mut Vec<u8>, function: &Listed) -> Result<(), 
     Ok(to.push(b'}')?)
 }
 
-/// An array of the functions, an object each.
-pub(crate) fn json(alloc: Global, functions: &[Listed]) -> Result<Vec<u8>, AllocError> {
+// Puts the objects of functions behind the text.
+fn add_objects(alloc: Global, to: &mut Vec<u8>, functions: &[Listed]) -> Result<(), AllocError>
+    ensures { OnOk result (to.new.items ≡ to.old.items
+        ++ separated (codes ",\n ") (map listed_object (map listed_seen functions.now))) }
+{
+    for (place, function) in functions.iter().enumerate() {
+        add_comma(to, ",\n ", place)?;
+        add_object(alloc, to, function)?;
+    }
+    Ok(())
+}
+
+// A list of the functions, an object each.
+fn json(alloc: Global, functions: &[Listed]) -> Result<Vec<u8>, AllocError>
+    ensures { IfOk result (λ text. text.items ≡ listed_text true (map listed_seen functions.now)) }
+{
     let mut text = Vec::new(alloc);
     text.push(b'[')?;
-    for function in functions {
-        if text.len() > 1 {
-            text.extend_from_slice(b",\n ")?;
-        }
-        add_object(alloc, &mut text, function)?;
-    }
+    add_objects(alloc, &mut text, functions)?;
     text.extend_from_slice(b"]\n")?;
     Ok(text)
+}
+
+/// The functions, for people or for programs.
+pub(crate) fn told(
+    alloc: Global,
+    is_json: bool,
+    functions: &[Listed],
+) -> Result<Vec<u8>, AllocError>
+    ensures { IfOk result (λ text. text.items ≡ listed_text is_json (map listed_seen functions.now)) }
+{
+    if is_json {
+        return json(alloc, functions);
+    }
+    text(alloc, functions)
 }

@@ -61,7 +61,7 @@ impl<'a> Source for Input<'a> {
         match self.read_some(buffer) {
             Ok(count) => Ok(count),
             Err(error) => {
-                self.trouble = words_of(error.kind());
+                self.trouble = words_of(&error);
                 self.failures = self.failures.saturating_add(1);
                 Err(DeviceFailed)
             }

@@ -1,24 +1,46 @@
-//! Why the system refused, in plain words.
+//! Why the system refused, in its own words, as strerror has them, in lower case.
 
-use std::io::ErrorKind;
+use std::io::{Error, ErrorKind};
 
-/// What a failure of this kind says.
-pub(crate) fn words_of(kind: ErrorKind) -> &'static str {
+/// What a failure says.
+pub(crate) fn words_of(error: &Error) -> &'static str {
+    match error.raw_os_error() {
+        Some(1) => "operation not permitted",
+        Some(5) => "input/output error",
+        Some(6) => "no such device or address",
+        Some(9) => "bad file descriptor",
+        Some(19) => "no such device",
+        Some(23) => "too many open files in system",
+        Some(24) => "too many open files",
+        _ => words_of_kind(error.kind()),
+    }
+}
+
+// What a failure of this kind says.
+fn words_of_kind(kind: ErrorKind) -> &'static str {
     match kind {
-        ErrorKind::NotFound => "there is no such file or folder",
-        ErrorKind::PermissionDenied => "there is no right to do that",
-        ErrorKind::IsADirectory => "it is a folder",
-        ErrorKind::NotADirectory => "a part of its path is no folder",
-        ErrorKind::StorageFull => "no space is left",
-        ErrorKind::QuotaExceeded => "the quota is used up",
-        ErrorKind::FileTooLarge => "the file would be too large",
-        ErrorKind::ReadOnlyFilesystem => "its file system can't be written to",
-        ErrorKind::ExecutableFileBusy => "it is a program that runs",
-        ErrorKind::InvalidFilename => "its name is too long",
-        ErrorKind::InvalidInput => "its name can't be that of a file",
-        ErrorKind::FilesystemLoop => "its links lead in a circle",
-        ErrorKind::BrokenPipe => "nobody reads it",
-        ErrorKind::OutOfMemory => "out of memory",
+        ErrorKind::NotFound => "no such file or directory",
+        ErrorKind::PermissionDenied => "permission denied",
+        ErrorKind::AlreadyExists => "file exists",
+        ErrorKind::IsADirectory => "is a directory",
+        ErrorKind::NotADirectory => "not a directory",
+        ErrorKind::ResourceBusy => "device or resource busy",
+        ErrorKind::WouldBlock => "resource temporarily unavailable",
+        ErrorKind::StorageFull => "no space left on device",
+        ErrorKind::QuotaExceeded => "disk quota exceeded",
+        ErrorKind::FileTooLarge => "file too large",
+        ErrorKind::ReadOnlyFilesystem => "read-only file system",
+        ErrorKind::ExecutableFileBusy => "text file busy",
+        ErrorKind::InvalidFilename => "file name too long",
+        ErrorKind::InvalidInput => "invalid argument",
+        ErrorKind::FilesystemLoop => "too many levels of symbolic links",
+        ErrorKind::StaleNetworkFileHandle => "stale file handle",
+        ErrorKind::Unsupported => "operation not supported",
+        ErrorKind::TimedOut => "connection timed out",
+        ErrorKind::ConnectionReset => "connection reset by peer",
+        ErrorKind::BrokenPipe => "broken pipe",
+        ErrorKind::OutOfMemory => "cannot allocate memory",
+        ErrorKind::WriteZero => "nothing could be written",
         _ => "the system refused",
     }
 }

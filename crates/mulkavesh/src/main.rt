@@ -9,6 +9,7 @@
 mod beside;
 mod cause;
 mod chains;
+mod choices;
 mod command;
 mod entries;
 mod explains;
@@ -34,14 +35,14 @@ mod words;
 
 use crate::command::{command, say};
 use crate::input::Input;
-use crate::order::{Asked, Order, Value};
+use crate::order::{Asked, Order, Value, writes_module};
 use crate::output::Output;
-use crate::telling::tell_mistake;
-use crate::usage::{UNREADABLE, USAGE, VERSION, help_of};
+use crate::telling::{NO_INPUT, TO_TERMINAL, tell_end, tell_mistake};
+use crate::usage::{OUT_OF_MEMORY, UNREADABLE, USAGE, VERSION, help_of};
 use crate::words::asked_by;
 use std::alloc::AllocError;
 use std::env;
-use std::io::ErrorKind;
+use std::io::{ErrorKind, IsTerminal};
 use std::process::ExitCode;
 use std::rt::Env;
 use walrus_tools::{FromWrite, write_all};
@@ -82,9 +83,23 @@ fn output_path(name: &Option<Value>) -> Option<&str> {
     }
 }
 
+// What is wrong where nothing is said of an end at which a terminal stands.
+fn at_terminal(rt: &HostRuntime, order: &Order) -> Option<&'static str> {
+    if order.input.is_none() && rt.stdin().is_terminal() {
+        return Some(NO_INPUT);
+    }
+    if order.output.is_none() && writes_module(order.work) && rt.stdout().is_terminal() {
+        return Some(TO_TERMINAL);
+    }
+    None
+}
+
 // Runs the order between its streams.
 fn run(rt: &HostRuntime, order: &Order) -> u8 {
     let mut errors = FromWrite::new(rt.stderr());
+    if let Some(wrong) = at_terminal(rt, order) {
+        return tell_end(&mut errors, order.work, wrong);
+    }
     let mut input = Input::new(rt, input_path(&order.input));
     let mut output = Output::new(rt, output_path(&order.output));
     command(rt.alloc(), order, &mut input, &mut output, &mut errors)
@@ -108,9 +123,9 @@ fn main(rt: HostRuntime) -> ExitCode {
     let words = match given(&rt) {
         Ok(Some(words)) => words,
         Ok(None) => return warn(&rt, UNREADABLE, 2),
-        Err(_) => return warn(&rt, "mulkavesh: out of memory\n", 1),
+        Err(_) => return warn(&rt, OUT_OF_MEMORY, 1),
     };
-    ExitCode::from(match asked_by(words) {
+    ExitCode::from(match asked_by(rt.alloc(), words) {
         Ok(Asked::Help) => tell(&rt, USAGE),
         Ok(Asked::HelpOf(work)) => tell(&rt, help_of(work)),
         Ok(Asked::Version) => tell(&rt, VERSION),

@@ -11,7 +11,7 @@ pub(crate) enum Wrong {
     NotTaken(String),
     /// In this argument an option has a value that takes none, as in `--quiet=1`.
     TakesNoValue(String),
-    /// Nothing stands behind the option that says which file is written.
+    /// Nothing stands behind this option, which has a value.
     NoValue(Naming),
     /// This is a second file to be written.
     SecondOutput(Value),
@@ -19,6 +19,10 @@ pub(crate) enum Wrong {
     SecondInput(String),
     /// What the subcommand is about is missing.
     OperandMissing,
+    /// Nothing says which sections go.
+    NoSection,
+    /// Memory ran out before all arguments were told apart.
+    OutOfMemory,
 }
 
 /// What is wrong with the arguments of the command line.

@@ -103,7 +103,7 @@ impl<'a> Output<'a> {
     }
 
     // Counts a failure, notes what it was, and leaves no file behind.
-    fn fail(&mut self, kind: ErrorKind) -> DeviceFailed
+    fn fail(&mut self, error: &Error) -> DeviceFailed
         ensures { self.new.failed ≡ min (self.old.failed + 1) (2 ^ 64 - 1) }
     {
         if let Target::Beside(beside) = &self.target {
@@ -111,8 +111,8 @@ impl<'a> Output<'a> {
         }
         self.target = Target::Finished;
         self.failed = self.failed.saturating_add(1);
-        self.is_left = kind == ErrorKind::BrokenPipe;
-        self.trouble = words_of(kind);
+        self.is_left = error.kind() == ErrorKind::BrokenPipe;
+        self.trouble = words_of(error);
         DeviceFailed
     }
 }
@@ -127,9 +127,9 @@ impl<'a> Sink for Output<'a> {
     fn write(&mut self, bytes: &[u8]) -> Result<usize, DeviceFailed> {
         self.is_flushed = false;
         match self.write_some(bytes) {
-            Ok(0) if !bytes.is_empty() => Err(self.fail(ErrorKind::WriteZero)),
+            Ok(0) if !bytes.is_empty() => Err(self.fail(&Error::from(ErrorKind::WriteZero))),
             Ok(count) => Ok(count),
-            Err(error) => Err(self.fail(error.kind())),
+            Err(error) => Err(self.fail(&error)),
         }
     }
 
@@ -139,7 +139,7 @@ impl<'a> Sink for Output<'a> {
                 self.is_flushed = true;
                 Ok(())
             }
-            Err(error) => Err(self.fail(error.kind())),
+            Err(error) => Err(self.fail(&error)),
         }
     }
 }

@@ -1,20 +1,24 @@
 //! What each subcommand makes of the bytes of a module.
 
-ghost use Rattle.std.specs.Prelude.{◌≡◌, ◌∷◌, [], false, true};
-ghost use Rattle.mulkavesh.specs.Entries.{listed_text};
-ghost use Rattle.mulkavesh.specs.Subcommands.{AnswersOrder, AnswersWhy, NotesNothing, Reports, Told, Writes, WritesQuietly, chain_told, named, operand_bytes, vec_bytes};
+ghost use Rattle.std.specs.Prelude.{◌≡◌, ◌∷◌, [], false};
+ghost use Rattle.mulkavesh.specs.Chains.{chain_told};
+ghost use Rattle.mulkavesh.specs.Choices.{choices_of};
+ghost use Rattle.mulkavesh.specs.Entries.{listed_told};
+ghost use Rattle.mulkavesh.specs.Reports.{counted_json};
+ghost use Rattle.mulkavesh.specs.Subcommands.{AnswersOrder, AnswersWhy, NotesNothing, Reports, Told, Writes, WritesQuietly, operand_bytes, vec_bytes};
 ghost use Rattle.walrus_tools.specs.Handed.{RunsOn, config_of, defaults};
+ghost use Rattle.walrus_tools.specs.Kinds.{AnswersCounted};
 ghost use Rattle.walrus_tools.specs.Sized.{AnswersListed};
 ghost use Rattle.walrus_tools.specs.Stripped.{AnswersStripped};
 ghost use Rattle.walrus_tools.specs.Wanted.{config_wanted};
 
+use crate::choices::choices_of;
 use crate::notes::note_of;
 use crate::order::{Order, Work};
 use crate::{chains, entries, reports, sections, verdicts};
 use std::alloc::Global;
 use walrus_tools::{
-    Chain, Choice, Error, Wanted, counts, gc, gc_counted, list, report, snip, strip, stub, why,
-    why_called,
+    Chain, Error, Wanted, counts, gc, gc_counted, list, report, snip, strip, stub, why, why_called,
 };
 
 /// What a subcommand makes.
@@ -62,7 +66,7 @@ pub(crate) fn make(alloc: Global, order: &Order, bytes: &[u8]) -> Result<Made, E
         Work::List => Ok(only(alloc, listed(alloc, order, bytes)?)),
         Work::Check => verdicts::checked(alloc, order, bytes),
         Work::Sections => sections::told(alloc, order, bytes),
-        Work::Strip => Ok(only(alloc, stripped(alloc, bytes, operand)?)),
+        Work::Strip => Ok(only(alloc, stripped(alloc, bytes, order)?)),
         Work::Snip => Ok(only(alloc, snip(alloc, bytes, operand)?)),
         Work::Stub => Ok(only(alloc, stub(alloc, bytes, operand)?)),
         Work::Why => Ok(only(alloc, reasoned(alloc, order, bytes, operand)?)),
@@ -103,9 +107,9 @@ fn reported(alloc: Global, order: &Order, bytes: &[u8]) -> Result<Vec<u8>, Error
     report(alloc, bytes, order.wanted)
 }
 
-// The same for programs.
+// The counts of a report, for programs.
 fn counted(alloc: Global, wanted: Wanted, bytes: &[u8]) -> Result<Vec<u8>, Error>
-    ensures { Reports true (config_wanted wanted) bytes.now result }
+    ensures { Told counted_json (AnswersCounted (config_wanted wanted) bytes.now) result }
 {
     let counted = counts(alloc, bytes, wanted)?;
     Ok(reports::json(alloc, &counted)?)
@@ -113,37 +117,28 @@ fn counted(alloc: Global, wanted: Wanted, bytes: &[u8]) -> Result<Vec<u8>, Error
 
 // Which functions stay.
 fn listed(alloc: Global, order: &Order, bytes: &[u8]) -> Result<Vec<u8>, Error>
-    ensures { Told order.now.is_json listed_text
+    ensures { Told (listed_told order.now.is_json)
         (AnswersListed (config_wanted order.now.wanted) bytes.now) result }
 {
     let functions = list(alloc, bytes, order.wanted)?;
-    if order.is_json {
-        return Ok(entries::json(alloc, &functions)?);
-    }
-    Ok(entries::text(alloc, &functions)?)
+    Ok(entries::told(alloc, order.is_json, &functions)?)
 }
 
-// What is left without the custom sections of this name.
-fn stripped(alloc: Global, bytes: &[u8], operand: &str) -> Result<Vec<u8>, Error>
-    ensures { AnswersStripped bytes.now (named operand.now ∷ []) result }
+// What is left without the custom sections that go.
+fn stripped(alloc: Global, bytes: &[u8], order: &Order) -> Result<Vec<u8>, Error>
+    ensures { AnswersStripped bytes.now (choices_of order.now) result }
 {
-    let choice = Choice {
-        is_kept: false,
-        name: operand.as_bytes(),
-    };
-    strip(alloc, bytes, &[choice])
+    let choices = choices_of(alloc, order)?;
+    strip(alloc, bytes, &choices)
 }
 
 // Why a function stays.
 fn reasoned(alloc: Global, order: &Order, bytes: &[u8], operand: &str) -> Result<Vec<u8>, Error>
-    ensures { Told order.now.is_json chain_told
+    ensures { Told (chain_told order.now.is_json)
         (AnswersWhy (config_of defaults) bytes.now operand.now) result }
 {
     let chain = chain_of(alloc, bytes, operand)?;
-    if order.is_json {
-        return Ok(chains::json(alloc, &chain)?);
-    }
-    Ok(chains::text(alloc, &chain)?)
+    Ok(chains::told(alloc, order.is_json, &chain)?)
 }
 
 // A chain to the function that is meant: by its index, or else by a name, its own or that of an export.

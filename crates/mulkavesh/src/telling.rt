@@ -1,12 +1,13 @@
 //! What a mistake on the command line is told as: a line that names the argument, and what helps.
 
 ghost use Rattle.std.specs.Prelude.{◌≡◌};
+ghost use Rattle.mulkavesh.specs.Mistakes.{mistake_status};
 
 use crate::message::write_shown;
 use crate::mistakes::{Mistake, Wrong};
 use crate::nearest::nearest;
-use crate::order::{Flag, Naming, Work, takes};
-use crate::usage::{USAGE, name_of, operand_of};
+use crate::order::{Flag, Naming, Work, takes, takes_value};
+use crate::usage::{OUT_OF_MEMORY, USAGE, name_of, operand_of};
 use walrus_tools::{DeviceFailed, Sink, write_all};
 
 // What can stand first.
@@ -36,6 +37,22 @@ fn option_of(work: Work, flag: Flag) -> &'static str {
         Flag::NoLegacy => "--no-legacy",
         Flag::Quiet => "--quiet",
         Flag::Json => "--json",
+        Flag::Names => "--names",
+        Flag::Producers => "--producers",
+        Flag::Debug => "--debug",
+        Flag::All => "--all",
+    }
+}
+
+// The option with a value, likewise.
+fn valued_option_of(work: Work, naming: Naming) -> &'static str {
+    if !takes_value(work, naming) {
+        return "--help";
+    }
+    match naming {
+        Naming::Short => "-o",
+        Naming::Long => "--output",
+        Naming::Section => "--section",
     }
 }
 
@@ -47,6 +64,11 @@ fn meant(work: Work, word: &str) -> Option<&'static str> {
         option_of(work, Flag::NoLegacy),
         option_of(work, Flag::Quiet),
         option_of(work, Flag::Json),
+        option_of(work, Flag::Names),
+        option_of(work, Flag::Producers),
+        option_of(work, Flag::Debug),
+        option_of(work, Flag::All),
+        valued_option_of(work, Naming::Section),
         "--output",
         "--help",
     ];
@@ -143,6 +165,9 @@ const VALUED: &str = " has a value, but this option takes none";
 
 const SECOND_OUTPUT: &str = "' is a second output; there can be one -o\n";
 
+const NO_SECTION: &[u8] =
+    b"nothing to strip: --section NAME, --names, --producers, --debug or --all\n";
+
 const SECOND_INPUT: &str = "' is a second input; the output goes behind -o\n";
 
 // Tells what is wrong behind a subcommand.
@@ -155,7 +180,15 @@ fn tell_wrong<E: Sink>(errors: &mut E, work: Work, wrong: &Wrong) -> Result<(), 
         Wrong::SecondOutput(value) => tell_second(errors, work, value.text(), SECOND_OUTPUT),
         Wrong::SecondInput(word) => tell_second(errors, work, word.as_str(), SECOND_INPUT),
         Wrong::OperandMissing => tell_about(errors, work, operand_of(work), " is missing"),
+        Wrong::NoSection => tell_nothing(errors, work),
+        Wrong::OutOfMemory => write_all(errors, OUT_OF_MEMORY.as_bytes()),
     }
+}
+
+// Tells that nothing says which sections go.
+fn tell_nothing<E: Sink>(errors: &mut E, work: Work) -> Result<(), DeviceFailed> {
+    begin(errors, work)?;
+    write_all(errors, NO_SECTION)
 }
 
 // What is told of an option that has no value behind it.
@@ -163,12 +196,45 @@ fn missing_behind(naming: Naming) -> &'static str {
     match naming {
         Naming::Short => "FILE is missing behind -o",
         Naming::Long => "FILE is missing behind --output",
+        Naming::Section => "NAME is missing behind --section",
     }
 }
 
-/// Tells of a mistake in one line, of no arguments by the usage, and answers the status of a run of which nothing was read.
-pub(crate) fn tell_mistake<E: Sink>(errors: &mut E, mistake: &Mistake) -> u8
+/// What is told where standard input is a terminal, and nothing says that it is read.
+pub(crate) const NO_INPUT: &str = "no input: name a file, or - for standard input";
+
+/// What is told where standard output is a terminal, and nothing says that a module goes there.
+pub(crate) const TO_TERMINAL: &str =
+    "standard output is a terminal; write -o FILE, or -o - to send the bytes there all the same";
+
+// Tells what is wrong with an end of a run.
+fn tell_of_end<E: Sink>(errors: &mut E, work: Work, wrong: &str) -> Result<(), DeviceFailed> {
+    begin(errors, work)?;
+    write_all(errors, wrong.as_bytes())?;
+    write_all(errors, b"\n")
+}
+
+/// The same, with the status of a run of which nothing was read.
+pub(crate) fn tell_end<E: Sink>(errors: &mut E, work: Work, wrong: &str) -> u8
     ensures { result ≡ 2 }
+{
+    let _told = tell_of_end(errors, work, wrong);
+    2
+}
+
+// The status of a run of which nothing was read.
+fn status_of(mistake: &Mistake) -> u8
+    ensures { result ≡ mistake_status mistake.now }
+{
+    match mistake {
+        Mistake::Behind(_, Wrong::OutOfMemory) => 1,
+        _ => 2,
+    }
+}
+
+/// Tells of a mistake in one line, of no arguments by the usage, and answers the status: 1 where memory ran out, and else 2.
+pub(crate) fn tell_mistake<E: Sink>(errors: &mut E, mistake: &Mistake) -> u8
+    ensures { result ≡ mistake_status mistake.now }
 {
     let _told = match mistake {
         Mistake::NoArguments => write_all(errors, USAGE.as_bytes()),
@@ -176,5 +242,5 @@ pub(crate) fn tell_mistake<E: Sink>(errors: &mut E, mistake: &Mistake) -> u8
         Mistake::Extra(word) => tell_extra(errors, word.as_str()),
         Mistake::Behind(work, wrong) => tell_wrong(errors, *work, wrong),
     };
-    2
+    status_of(mistake)
 }

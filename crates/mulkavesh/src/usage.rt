@@ -8,10 +8,13 @@ pub(crate) const VERSION: &str = "mulkavesh 0.1.0\n";
 /// What is told where an argument is no text.
 pub(crate) const UNREADABLE: &str = "mulkavesh: an argument isn't UTF-8\n";
 
+/// What is told where memory runs out before the arguments are told apart.
+pub(crate) const OUT_OF_MEMORY: &str = "mulkavesh: out of memory\n";
+
 /// All subcommands, the options that several have, and the statuses.
 pub(crate) const USAGE: &str =
-    "usage: mulkavesh gc | report | list | check | sections [options] [IN] [-o OUT]
-       mulkavesh strip NAME | snip EXPORT | stub MODULE | why FUNCTION [options] [IN] [-o OUT]
+    "usage: mulkavesh gc | report | list | check | sections | strip [options] [IN] [-o OUT]
+       mulkavesh snip EXPORT | stub MODULE | why FUNCTION [options] [IN] [-o OUT]
        mulkavesh help [SUBCOMMAND] | SUBCOMMAND --help | --help | --version
 
   gc              drops what nothing reaches
@@ -19,12 +22,13 @@ pub(crate) const USAGE: &str =
   list            lists the functions that gc would keep, with the bytes of each
   check           says whether a module is accepted (well made), and else what is wrong with it
   sections        lists the sections as they stand, with the place and the size of each
-  strip NAME      removes the custom sections of this name, as '.debug*'; all else stays, byte for byte
+  strip           removes custom sections: names, producers, debug information or others; all else stays, byte for byte
   snip EXPORT     makes an exported function trap, and drops what nothing reaches then
   stub MODULE     makes the functions that are imported from this module trap, and drops what nothing reaches then
   why FUNCTION    says by which references a function stays
 
 IN and OUT are files, or standard input and output where left out or -. A plain file OUT is written whole or not at all.
+From a terminal a module is read, and to a terminal one is written, only where - says so.
 Options stand anywhere behind the subcommand; behind -- each argument is a name or a file.
 
   -o OUT, -oOUT, --output OUT, --output=OUT    where the answer goes
@@ -69,7 +73,8 @@ const CHECK: &str = "usage: mulkavesh check [options] [IN] [-o OUT]
 Says whether the module is accepted: then 'accepted' is written and the status is 0, and else what is wrong with it, and the
 status is 1. Accepted means well made. That is less than valid: the types of operands aren't checked.
 
-  --json          an object, as {\"accepted\":true}, or with the members reason, kind, and place or index
+  --json          an object, as {\"accepted\":true}, or with the members reason, kind, and place or index; the reason then stands on
+                  standard error too
   --no-legacy     refuse bodies with legacy exceptions
   --no-names, --no-producers    known, as to gc; they change nothing here
 ";
@@ -80,13 +85,25 @@ Lists the sections as they stand, whatever they hold, a line each: its place in 
 name, or the standard's word and the count of its entries where one stands there, or unknown and its id. Where bytes are left in which no
 section stands, standard error says where, and the status is 1.
 
+  --all           lists behind a section also what stands in it
   --json          an array of objects, as {\"id\":10,\"kind\":\"code\",\"name\":null,\"start\":30,\"size\":12,\"entries\":2}
 ";
 
-const STRIP: &str = "usage: mulkavesh strip NAME [IN] [-o OUT]
+const STRIP: &str =
+    "usage: mulkavesh strip --section NAME .. [--names] [--producers] [--debug] [--all] [IN] [-o OUT]
 
-Removes the custom sections of this name. In NAME a star stands for any bytes, also none, and a backslash and a star for a star. All else stays,
-byte for byte, and no section is looked into.
+Removes custom sections. All else stays, byte for byte, and no section is looked into. At least one of these options stands there:
+
+  --section NAME  the sections of this name; several such options may stand there. In NAME a star stands for any bytes, also none, and a
+                  backslash and a star for a star
+  --names         as --section name
+  --producers     as --section producers
+  --debug         as --section '.debug*'
+  --all           all custom sections but dylink, dylink.0 and target_features: a linker and an engine read those, and so they stay then,
+                  also where --section names them
+
+Where an option fits no custom section, strip refuses, and nothing is written. So it does under --all where there is no custom section;
+where there are only those that stay, the module is written as it is.
 ";
 
 const SNIP: &str = "usage: mulkavesh snip EXPORT [IN] [-o OUT]
@@ -141,7 +158,6 @@ pub(crate) fn name_of(work: Work) -> &'static str {
 /// What the subcommand is about, as its usage calls it.
 pub(crate) fn operand_of(work: Work) -> &'static str {
     match work {
-        Work::Strip => "NAME",
         Work::Snip => "EXPORT",
         Work::Stub => "MODULE",
         _ => "FUNCTION",

@@ -1,9 +1,10 @@
 //! Whether a module is accepted, and what is wrong with one that isn't.
 
 ghost use Rattle.std.specs.Prelude.{IfOk};
-ghost use Rattle.mulkavesh.specs.Subcommands.{Checks, TellsVerdict};
+ghost use Rattle.mulkavesh.specs.Subcommands.{Checks, NotesFault, TellsVerdict};
 ghost use Rattle.walrus_tools.specs.Wanted.{config_wanted};
 
+use crate::cause::worded;
 use crate::json::add_string;
 use crate::order::Order;
 use crate::subcommands::Made;
@@ -23,11 +24,28 @@ pub(crate) fn checked(alloc: Global, order: &Order, bytes: &[u8]) -> Result<Made
     } else {
         text(alloc, found, bytes)?
     };
+    let note = noted(alloc, order.is_json, found, bytes)?;
     Ok(Made {
         output,
-        note: Vec::new(alloc),
+        note,
         is_refused: found.is_some(),
     })
+}
+
+// What is noted of a fault: that the bytes are invalid; for programs also what is wrong with them.
+fn noted(
+    alloc: Global,
+    is_json: bool,
+    found: Option<Fault>,
+    bytes: &[u8],
+) -> Result<Vec<u8>, AllocError>
+    ensures { IfOk result (λ note. NotesFault is_json bytes.now found note.items) }
+{
+    match found {
+        None => Ok(Vec::new(alloc)),
+        Some(fault) if is_json => Ok(worded(alloc, fault, bytes)?.into_bytes()),
+        Some(_) => Vec::from_slice(alloc, REFUSED.as_bytes()),
+    }
 }
 
 // A line for people.

@@ -3,19 +3,22 @@
 ghost use Rattle.std.specs.Prelude.{◌≡◌, ◌∷◌, codes, map, string_bytes};
 ghost use Rattle.std.specs.Vec.Iter.{into_iter_items};
 ghost use Rattle.mulkavesh.specs.Mistakes.{IsOrdered, IsTold};
-ghost use Rattle.mulkavesh.specs.Order.{work_word};
-ghost use Rattle.mulkavesh.specs.Steps.{IsAlone, IsFirst, IsPut, asks_help, has_value, lacking, look, look_at, put_spelled, put_word, put_words};
-ghost use Rattle.mulkavesh.specs.Steps.{spelled_as, spelled_otherwise, spelling_of, then_at, with_flag, with_output, with_plain};
+ghost use Rattle.mulkavesh.specs.Order.{said, work_word};
+ghost use Rattle.mulkavesh.specs.Steps.{ArePut, IsAlone, IsFirst, IsPut, IsPutOrMemory, asks_help, has_value, lacking, look, look_at, put_joined, put_spelled};
+ghost use Rattle.mulkavesh.specs.Steps.{put_value, put_word, put_words, spelled_as, spelled_by, spelled_otherwise, spelling_of, then_at, waiting, with_flag, with_output};
+ghost use Rattle.mulkavesh.specs.Steps.{with_plain, with_section};
 ghost use Rattle.mulkavesh.specs.Words.{IsNoWork, IsUnhelped};
 
 use crate::mistakes::{Mistake, Wrong};
 use crate::order::{
-    Asked, Flag, Naming, Order, Value, Work, flag_of, takes, takes_operand, work_of,
+    Asked, Flag, Naming, Order, Value, Work, flag_of, naming_of, takes, takes_operand, takes_value,
+    work_of,
 };
+use std::alloc::Global;
 use std::vec::IntoIter;
 
 /// What is asked for by the arguments behind the program's name, or what is wrong with them.
-pub(crate) fn asked_by(words: Vec<String>) -> Result<Asked, Mistake>
+pub(crate) fn asked_by(alloc: Global, words: Vec<String>) -> Result<Asked, Mistake>
     ensures { IsTold (map string_bytes words.items) result }
 {
     let is_help = asks_help(&words);
@@ -26,18 +29,18 @@ pub(crate) fn asked_by(words: Vec<String>) -> Result<Asked, Mistake>
     };
     match work_of(first.as_str()) {
         Some(work) if is_help => Ok(Asked::HelpOf(work)),
-        Some(work) => asked_of(work, rest),
+        Some(work) => asked_of(alloc, work, rest),
         None if is_help => Ok(Asked::Help),
         None => asked_itself(first, rest),
     }
 }
 
 // What is asked of a subcommand by the arguments behind it, where they don't ask for help.
-fn asked_of(work: Work, rest: IntoIter<String>) -> Result<Asked, Mistake>
+fn asked_of(alloc: Global, work: Work, rest: IntoIter<String>) -> Result<Asked, Mistake>
     ensures { IsUnhelped (work_word work ∷ map string_bytes (into_iter_items rest)) →
         IsTold (work_word work ∷ map string_bytes (into_iter_items rest)) result }
 {
-    match ordered(work, rest) {
+    match ordered(alloc, work, rest) {
         Ok(order) => Ok(Asked::Run(order)),
         Err(wrong) => Err(Mistake::Behind(work, wrong)),
     }
@@ -135,7 +138,7 @@ fn look_at(word: &str) -> Seen
 {
     match word {
         "-h" | "--help" => Seen::Help,
-        "-o" | "--output" => Seen::Option,
+        "-o" | "--output" | "--section" => Seen::Option,
         "--" => Seen::Ending,
         _ => Seen::Nothing,
     }
@@ -144,10 +147,10 @@ fn look_at(word: &str) -> Seen
 // ---- orders
 
 // The order that the arguments behind a subcommand say.
-fn ordered(work: Work, words: IntoIter<String>) -> Result<Order, Wrong>
+fn ordered(alloc: Global, work: Work, words: IntoIter<String>) -> Result<Order, Wrong>
     ensures { IsOrdered work (map string_bytes (into_iter_items words)) result }
 {
-    let (order, place) = put_all(Order::new(work), words)?;
+    let (order, place) = put_all(Order::new(alloc, work), words)?;
     match lacking(&order, place) {
         Some(wrong) => Err(wrong),
         None => Ok(order),
@@ -156,18 +159,19 @@ fn ordered(work: Work, words: IntoIter<String>) -> Result<Order, Wrong>
 
 // What is missing behind the last argument.
 fn lacking(order: &Order, place: Place) -> Option<Wrong>
-    ensures { result ≡ lacking order.now place }
+    ensures { result ≡ lacking (said order.now) place }
 {
     match place {
-        Place::Output(naming) => Some(Wrong::NoValue(naming)),
+        Place::Value(naming) => Some(Wrong::NoValue(naming)),
         _ if takes_operand(order.work) && order.operand.is_none() => Some(Wrong::OperandMissing),
+        _ if order.work == Work::Strip && !order.asks_gone() => Some(Wrong::NoSection),
         _ => None,
     }
 }
 
 // Puts each of the arguments where it belongs, and answers where a next one would stand.
 fn put_all(order: Order, words: IntoIter<String>) -> Result<(Order, Place), Wrong>
-    ensures { result ≡ put_words order Place.Anywhere (into_iter_items words) }
+    ensures { ArePut (put_words (said order) Place.Anywhere (into_iter_items words)) result }
 {
     let mut left = order;
     let mut place = Place::Anywhere;
@@ -182,18 +186,18 @@ fn put_all(order: Order, words: IntoIter<String>) -> Result<(Order, Place), Wron
 enum Place {
     // Where any may.
     Anywhere,
-    // Behind `-o` or `--output`.
-    Output(Naming),
+    // Behind an option that has a value.
+    Value(Naming),
     // Behind `--`.
     Behind,
 }
 
 // Puts the argument where it belongs, and answers where the next one stands, or why there is no place for it.
 fn put(order: &mut Order, place: Place, word: String) -> Result<Place, Wrong>
-    ensures { IsPut (put_word order.old place word) order.new result }
+    ensures { IsPutOrMemory (put_word (said order.old) place word) order.new result }
 {
     match place {
-        Place::Output(_) => put_output(order, word, None),
+        Place::Value(naming) => put_value(order, naming, word, None),
         Place::Behind => put_plain(order, word, place),
         Place::Anywhere => put_spelled(order, spelling_of(word.as_str()), word),
     }
@@ -206,9 +210,9 @@ enum Spelling {
     Flag(Flag),
     // One that has a value.
     Valued,
-    // The option whose value is the next argument.
-    Output(Naming),
-    // That option and its value.
+    // An option whose value is the next argument.
+    Naming(Naming),
+    // Such an option and its value.
     Joined(Naming),
     // `--`.
     Ending,
@@ -220,13 +224,13 @@ enum Spelling {
 
 // Puts an argument that is spelled so.
 fn put_spelled(order: &mut Order, spelling: Spelling, word: String) -> Result<Place, Wrong>
-    ensures { IsPut (put_spelled order.old spelling word) order.new result }
+    ensures { IsPutOrMemory (put_spelled (said order.old) spelling word) order.new result }
 {
     match spelling {
         Spelling::Flag(flag) => put_flag(order, flag, word),
         Spelling::Valued => Err(Wrong::TakesNoValue(word)),
-        Spelling::Output(naming) => Ok(Place::Output(naming)),
-        Spelling::Joined(naming) => put_output(order, word, Some(naming)),
+        Spelling::Naming(naming) => wait_for(order, naming, word),
+        Spelling::Joined(naming) => put_joined(order, naming, word),
         Spelling::Ending => Ok(Place::Behind),
         Spelling::Unknown => Err(Wrong::UnknownOption(word)),
         Spelling::Plain => put_plain(order, word, Place::Anywhere),
@@ -240,9 +244,17 @@ fn spelling_of(word: &str) -> Spelling
     match word {
         "-" => Spelling::Plain,
         "--" => Spelling::Ending,
-        "-o" => Spelling::Output(Naming::Short),
-        "--output" => Spelling::Output(Naming::Long),
-        _ => spelled_as(flag_of(word), word.as_bytes()),
+        _ => spelled_by(naming_of(word), word),
+    }
+}
+
+// This option with a value, if it is one, and else what the argument is.
+fn spelled_by(naming: Option<Naming>, word: &str) -> Spelling
+    ensures { result ≡ spelled_by naming word.now }
+{
+    match naming {
+        Some(naming) => Spelling::Naming(naming),
+        None => spelled_as(flag_of(word), word.as_bytes()),
     }
 }
 
@@ -262,6 +274,9 @@ fn spelled_otherwise(word: &[u8]) -> Spelling
 {
     if word.starts_with(b"--output=") {
         return Spelling::Joined(Naming::Long);
+    }
+    if word.starts_with(b"--section=") {
+        return Spelling::Joined(Naming::Section);
     }
     if word.starts_with(b"-o") {
         return Spelling::Joined(Naming::Short);
@@ -284,16 +299,65 @@ fn has_value(word: &[u8]) -> bool
         || word.starts_with(b"--no-legacy=")
         || word.starts_with(b"--quiet=")
         || word.starts_with(b"--json=")
+        || word.starts_with(b"--names=")
+        || word.starts_with(b"--producers=")
+        || word.starts_with(b"--debug=")
+        || word.starts_with(b"--all=")
 }
 
-// The file that is to be written, where none was named.
-fn put_output(order: &mut Order, word: String, joined: Option<Naming>) -> Result<Place, Wrong>
-    ensures { IsPut (then_at Place.Anywhere (with_output order.old word joined)) order.new result }
+// The next argument is the value of the option, where the subcommand has that.
+fn wait_for(order: &Order, naming: Naming, word: String) -> Result<Place, Wrong>
+    ensures { IsPut (waiting (said order.now) naming word) order.now result }
+{
+    if !takes_value(order.work, naming) {
+        return Err(Wrong::NotTaken(word));
+    }
+    Ok(Place::Value(naming))
+}
+
+// The value that stands behind the option in one argument, where the subcommand has that.
+fn put_joined(order: &mut Order, naming: Naming, word: String) -> Result<Place, Wrong>
+    ensures { IsPutOrMemory (put_joined (said order.old) naming word) order.new result }
+{
+    if !takes_value(order.work, naming) {
+        return Err(Wrong::NotTaken(word));
+    }
+    put_value(order, naming, word, Some(naming))
+}
+
+// The value of the option.
+fn put_value(
+    order: &mut Order,
+    naming: Naming,
+    word: String,
+    joined: Option<Naming>,
+) -> Result<Place, Wrong>
+    ensures { IsPutOrMemory (put_value (said order.old) naming word joined) order.new result }
 {
     let value = Value {
         argument: word,
         joined,
     };
+    match naming {
+        Naming::Section => put_section(order, value),
+        _ => put_output(order, value),
+    }
+}
+
+// One section more that goes.
+fn put_section(order: &mut Order, value: Value) -> Result<Place, Wrong>
+    ensures { IsPutOrMemory (then_at Place.Anywhere (with_section (said order.old) value)) order.new result }
+{
+    match order.sections.push(value) {
+        Ok(()) => Ok(Place::Anywhere),
+        Err(_) => Err(Wrong::OutOfMemory),
+    }
+}
+
+// The file that is to be written, where none was named.
+fn put_output(order: &mut Order, value: Value) -> Result<Place, Wrong>
+    ensures { IsPut (then_at Place.Anywhere (with_output (said order.old) value)) order.new result }
+{
     if order.output.is_some() {
         return Err(Wrong::SecondOutput(value));
     }
@@ -303,7 +367,7 @@ fn put_output(order: &mut Order, word: String, joined: Option<Naming>) -> Result
 
 // What the subcommand is told to work on, and then the file that is to be read, where none was named.
 fn put_plain(order: &mut Order, word: String, place: Place) -> Result<Place, Wrong>
-    ensures { IsPut (then_at place (with_plain order.old word)) order.new result }
+    ensures { IsPut (then_at place (with_plain (said order.old) word)) order.new result }
 {
     if takes_operand(order.work) && order.operand.is_none() {
         order.operand = Some(word);
@@ -317,7 +381,7 @@ fn put_plain(order: &mut Order, word: String, place: Place) -> Result<Place, Wro
 
 // What the option asks for, where the subcommand has it.
 fn put_flag(order: &mut Order, flag: Flag, word: String) -> Result<Place, Wrong>
-    ensures { IsPut (then_at Place.Anywhere (with_flag order.old flag word)) order.new result }
+    ensures { IsPut (then_at Place.Anywhere (with_flag (said order.old) flag word)) order.new result }
 {
     if !takes(order.work, flag) {
         return Err(Wrong::NotTaken(word));
@@ -328,6 +392,10 @@ fn put_flag(order: &mut Order, flag: Flag, word: String) -> Result<Place, Wrong>
         Flag::NoLegacy => order.wanted.legacy = false,
         Flag::Quiet => order.is_quiet = true,
         Flag::Json => order.is_json = true,
+        Flag::Names => order.gone.names = true,
+        Flag::Producers => order.gone.producers = true,
+        Flag::Debug => order.gone.debug = true,
+        Flag::All => order.is_all = true,
     }
     Ok(Place::Anywhere)
 }

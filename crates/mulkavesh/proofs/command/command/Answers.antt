@@ -13,8 +13,8 @@ returns-in-Ok-clause-runs g c =
     let from : Device = device_of g.R.Source.left g.R.Source.read_failures g.R.Explains.name g.R.Explains.trouble g.R.Explains.is_left c.args.input.now c.carry.new.input in
     let to : Device = device_of g.W.Sink.held g.W.Sink.write_failures g.W.Explains.name g.W.Explains.trouble g.W.Explains.is_left c.args.output.now c.carry.new.output in
     let errors : Stream = stream_of g.E.Sink.held g.E.Sink.write_failures c.args.errors.now c.unaccepted.new.errors in
-    let named = subst (λ (name : List ℕ). Tells errors (unaccepted_text name c.deref.result.now)) c.name.ensures c.unaccepted.ensures.told in
-    let told = subst (λ (note : List ℕ). Tells errors (unaccepted_text from.name note)) c.deref.ensures.value named in
+    let named = subst (λ (name : List ℕ). Tells errors (unaccepted_text c.args.order.now.work name c.deref.result.now)) c.name.ensures c.unaccepted.ensures.told in
+    let told = subst (λ (note : List ℕ). Tells errors (unaccepted_text c.args.order.now.work from.name note)) c.deref.ensures.value named in
     record {
       answer = Ok c.in-Ok.answer;
       ran = c.in-Ok.ensures.headline;

@@ -1,6 +1,7 @@
 use Rattle.std.proofs.Common.{◌≡◌}
 use Rattle.std.specs.Vec.Iter.{into_iter_items}
 use Rattle.mulkavesh.specs.declared.words.Place.TheVariants.{Anywhere}
+use Rattle.mulkavesh.specs.Order.{said}
 use Rattle.mulkavesh.specs.Steps.{put_words}
 use Rattle.mulkavesh.proofs.words.put_all.Given as goal
 
@@ -9,4 +10,4 @@ abbrev pub invariant-words : goal.invariant-words
 invariant-words l =
     (goal.iterator-words).can_next l.word-iterator
     × (goal.iterator-words).is_finite l.word-iterator
-    × (put_words l.left l.place (into_iter_items l.word-iterator) ≡ put_words l.fn.order Anywhere (into_iter_items l.fn.words))
+    × (put_words (said l.left) l.place (into_iter_items l.word-iterator) ≡ put_words (said l.fn.order) Anywhere (into_iter_items l.fn.words))
