@@ -147,6 +147,6 @@ fn chain_of(alloc: Global, bytes: &[u8], operand: &str) -> Result<Chain, Error>
 {
     match operand.parse::<u32>() {
         Ok(index) => why(alloc, bytes, index),
-        Err(_) => why_called(alloc, bytes, operand),
+        Err(_) => Ok(why_called(alloc, bytes, operand)?),
     }
 }
