@@ -1,6 +1,6 @@
 -- What each subcommand makes of the bytes of a module. Left open are what check and sections write for programs, under `--json`, and what is noted by
 -- gc without `--quiet`, by snip and by stub.
-use Rattle.std.specs.Prelude.{ℕ, Bool, true, false, not, List, [], ◌∷◌, ◌++◌, Option, Some, None, Result, Ok, Err, String, codes, flat_map, is_some, string_bytes, ◌≡◌, ◌⊎◌, ⊤}
+use Rattle.std.specs.Prelude.{ℕ, Bool, true, false, not, List, [], ◌++◌, Option, Some, None, Result, Ok, Err, String, codes, flat_map, is_some, string_bytes, ◌≡◌, ◌⊎◌, ⊤}
 use Rattle.std.specs.Global.{Vec}
 use Rattle.std.specs.declared.alloc.Global.{Global}
 use Rattle.std.specs.Str.Parse.{ParsesUnsigned}

@@ -1,6 +1,6 @@
 //! What each subcommand makes of the bytes of a module.
 
-ghost use Rattle.std.specs.Prelude.{◌≡◌, ◌∷◌, [], false};
+ghost use Rattle.std.specs.Prelude.{◌≡◌, false};
 ghost use Rattle.mulkavesh.specs.Chains.{chain_told};
 ghost use Rattle.mulkavesh.specs.Choices.{choices_of};
 ghost use Rattle.mulkavesh.specs.Entries.{listed_told};
