@@ -30,7 +30,8 @@ extern "C" {
 /* The statuses. */
 enum {
   MULKAVESH_DONE = 0,
-  /* The input is no module that keeps the rules; of mulkavesh_strip, mulkavesh_sections and mulkavesh_parts, its framing alone is none. */
+  /* The input is no module that keeps the rules; of mulkavesh_strip and mulkavesh_sections, its framing alone is none; of
+     mulkavesh_parts, it isn't the sections of a module. */
   MULKAVESH_INVALID = 1,
   /* What is to be written has a count or a size past 32 bits. */
   MULKAVESH_TOO_LARGE = 2,

@@ -13,7 +13,7 @@ a process with threads no call may be made (`multiprocessing` with the start met
 
 Each call with a module raises `InvalidModule` where the bytes are no module that keeps the rules, with what is wrong as its `fault`;
 `TooLarge` where what is to be written has a count or a size past 32 bits; and `MemoryError`. `strip`, `why`, `snip` and `stub` also raise
-`NotFound`. `diagnose` never raises `InvalidModule`: it answers the fault; and `strip`, `sections` and `parts` look at the framing alone.
+`NotFound`. `diagnose` never raises `InvalidModule`: it answers the fault; `strip` and `sections` look at the framing alone, and `parts` at no rule.
 """
 import ctypes
 import ctypes.util

@@ -131,7 +131,7 @@ export type Code = 'INVALID' | 'TOO_LARGE' | 'NO_MEMORY' | 'NOT_FOUND' | 'TRAPPE
 export class MulkaveshError extends Error {
   readonly code: Code;
 }
-/** The input is no module that keeps the rules; of `strip`, `sections` and `parts`, its framing is none. */
+/** The input is no module that keeps the rules; of `strip` and `sections`, its framing is none; of `parts`, it isn't the sections of a module. */
 export class InvalidModule extends MulkaveshError {
   /** What `diagnose` tells of it under the same choice of `legacy`; the message says it. Null where memory ran out while it was looked for. */
   readonly fault: Fault | null;

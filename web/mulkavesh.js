@@ -14,7 +14,7 @@ export class MulkaveshError extends Error {
     this.code = code;
   }
 }
-/** The input is no module that keeps the rules (of `strip`, `sections` and `parts`: its framing is none); `fault` is what is wrong with it, as `diagnose` tells it, or null where that could not be found out. */
+/** The input is no module that keeps the rules (of `strip` and `sections`: its framing is none; of `parts`: it isn't the sections of a module); `fault` is what is wrong with it, as `diagnose` tells it, or null where that could not be found out. */
 export class InvalidModule extends MulkaveshError {
   constructor(code, message, fault = null) {
     super(code, fault === null ? message : `${message}: ${fault.text}`);

@@ -36,7 +36,7 @@ Options stand anywhere behind the subcommand; behind -- each argument is a name 
   -V, --version                                the version, without a subcommand
 
 Status 0: done. 1: refused, with one line on standard error; with none where nobody reads the output any more.
-2: the arguments say nothing, and one line on standard error says what is wrong with them; nothing is read.
+2: the arguments say nothing, or a terminal stands where a module is read or written; one line on standard error says so, and nothing is read.
 ";
 
 const GC: &str = "usage: mulkavesh gc [options] [IN] [-o OUT]
@@ -86,7 +86,8 @@ name, or the standard's word and the count of its entries where one stands there
 section stands, standard error says where, and the status is 1.
 
   --all           lists behind a section also what stands in it
-  --json          an array of objects, as {\"id\":10,\"kind\":\"code\",\"name\":null,\"start\":30,\"size\":12,\"entries\":2}
+  --json          an array of objects, as {\"id\":10,\"kind\":\"code\",\"name\":null,\"start\":30,\"size\":12,\"entries\":2};
+                  with --all also {\"kind\":\"function\",\"index\":3,\"start\":33,\"size\":4}
 ";
 
 const STRIP: &str =

@@ -1,7 +1,7 @@
 //! Callers of the library: what linkers, binding generators, instrumenters, stubbers and snippers do with it.
 //! The C interface stands on them. Each goes from bytes to bytes, to a text, or to values.
 //! What each promises follows from what the library promises of its calls.
-//! A file has the name of its call: in `src/tool` those that programs call, in `src/examples` those that none calls.
+//! A file has the name of its call: in `src/tool` tools for programs to call, in `src/examples` callers that show one thing each.
 //!
 //! Read first: `src/tool/gc.rt` (the program's own work) and `src/tool/snip.rt` (a snipper's).
 //! Main clause: `gc` in `src/tool/gc.rt`, with `RunsOn` (walrus): what a run makes of known bytes, or why it refuses them.

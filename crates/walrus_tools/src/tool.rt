@@ -1,4 +1,4 @@
-//! What programs call: `mulkavesh` for its subcommands, and the C interface. A file has the name of its call.
+//! Tools for programs to call, as `mulkavesh` does for its subcommands, and the C interface. A file has the name of its call.
 
 pub mod counts;
 pub mod diagnose;
