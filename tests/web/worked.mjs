@@ -1,6 +1,6 @@
 // Compares what each call from JavaScript answers with answers that were worked out by hand, and the memory behind a large call with that behind a small one.
 // node tests/web/worked.mjs FOLDER, that of mulkavesh.js. tests/web.sh calls it.
-// The modules are those of crates/walrus_tools/src/samples.rt and python/tests/worked.py, for `diagnose` and refusals those of tests/faults.txt. Tried are also
+// The modules are those of crates/walrus_tool_tests/src/samples.rt and python/tests/worked.py, for `diagnose` and refusals those of tests/faults.txt. Tried are also
 // an error of each kind and each way to load. Prints the count and a line for each find.
 import assert from 'node:assert/strict';
 import { readFileSync } from 'node:fs';

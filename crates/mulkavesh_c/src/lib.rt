@@ -12,10 +12,10 @@ mod names;
 ghost use Rattle.std.specs.Prelude.{◌≡◌, ⊤};
 ghost use Rattle.walrus_tools.specs.Diagnosed.{AnswersFault};
 ghost use Rattle.walrus_tools.specs.Handed.{ReportsOn, RunsOn, config_of, defaults};
-ghost use Rattle.walrus_tools.specs.Reasons.{AnswersChain};
+ghost use Rattle.walrus_tools.specs.Reasons.{AnswersChain, WritesChain};
 ghost use Rattle.walrus_tools.specs.Choice.{IsList};
 ghost use Rattle.walrus_tools.specs.Sections.{AnswersSections};
-ghost use Rattle.walrus_tools.specs.Sized.{AnswersListed};
+ghost use Rattle.walrus_tools.specs.Sized.{AnswersFunctions};
 ghost use Rattle.walrus_tools.specs.Snipped.{AnswersSnipped};
 ghost use Rattle.walrus_tools.specs.Stripped.{AnswersStripped};
 ghost use Rattle.walrus_tools.specs.Stubbed.{AnswersStubbed};
@@ -97,7 +97,7 @@ pub extern "C" fn mulkavesh_diagnose(
     put(made, output, length)
 }
 
-/// The functions with a body that stay, with what each costs and its name: `walrus_tools::list`.
+/// The functions with a body that stay, with what each costs and its name: `walrus_tools::function_list`.
 #[unsafe(no_mangle)]
 pub extern "C" fn mulkavesh_list(
     alloc: Global,
@@ -106,13 +106,13 @@ pub extern "C" fn mulkavesh_list(
     output: &mut [u8],
     length: &mut usize,
 ) -> u32
-    ensures { Gives (IsKnown flags) (AnswersListed (config_wanted (wanted flags)) input.now)
+    ensures { Gives (IsKnown flags) (AnswersFunctions (config_wanted (wanted flags)) input.now)
         output.old output.new length.new result }
 {
     let Some(wanted) = wanted_by(flags) else {
         return refused(length, UNKNOWN_FLAG);
     };
-    let made = walrus_tools::list(alloc, input, wanted);
+    let made = walrus_tools::function_list(alloc, input, wanted);
     put(made, output, length)
 }
 
@@ -149,7 +149,7 @@ pub extern "C" fn mulkavesh_sections(
     put(made, output, length)
 }
 
-/// By which references the function of this index stays: `walrus_tools::why`.
+/// By which references the function of this index stays, as a text: `walrus_tools::why` and `chain_lines`.
 #[unsafe(no_mangle)]
 pub extern "C" fn mulkavesh_why(
     alloc: Global,
@@ -158,7 +158,7 @@ pub extern "C" fn mulkavesh_why(
     output: &mut [u8],
     length: &mut usize,
 ) -> u32
-    ensures { Gives ⊤ (AnswersChain (config_of defaults) input.now function (λ text. text.items))
+    ensures { Gives ⊤ (AnswersChain (config_of defaults) input.now function WritesChain)
         output.old output.new length.new result }
 {
     let made = names::reasoned(alloc, input, function);

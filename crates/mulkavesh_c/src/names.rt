@@ -2,23 +2,21 @@
 //! found.
 
 ghost use Rattle.walrus_tools.specs.Handed.{config_of, defaults};
-ghost use Rattle.walrus_tools.specs.Reasons.{AnswersChain};
+ghost use Rattle.walrus_tools.specs.Reasons.{AnswersChain, WritesChain};
 ghost use Rattle.walrus_tools.specs.Snipped.{AnswersSnipped};
 ghost use Rattle.walrus_tools.specs.Stripped.{AnswersStripped};
 ghost use Rattle.walrus_tools.specs.Stubbed.{AnswersStubbed};
 ghost use Rattle.mulkavesh_c.specs.Names.{UnderChoices, UnderName};
 
 use std::alloc::Global;
-use walrus_tools::{Error, read_choices, snip, strip, stub, why};
+use walrus_tools::{Error, chain_lines, read_choices, snip, strip, stub, why};
 
 /// Why the function of this index stays, as bytes.
 pub(crate) fn reasoned(alloc: Global, input: &[u8], function: u32) -> Result<Vec<u8>, Error>
-    ensures { AnswersChain (config_of defaults) input.now function (λ text. text.items) result }
+    ensures { AnswersChain (config_of defaults) input.now function WritesChain result }
 {
-    match why(alloc, input, function) {
-        Ok(text) => Ok(text.into_bytes()),
-        Err(error) => Err(error),
-    }
+    let chain = why(alloc, input, function)?;
+    Ok(chain_lines(alloc, &chain)?.into_bytes())
 }
 
 /// The bytes without the custom sections that go by these choices. Bytes that are no list of choices choose nothing that could be found.

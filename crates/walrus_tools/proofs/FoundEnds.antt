@@ -1,7 +1,6 @@
 -- The function that is meant by a name in what was parsed, from the bytes to its index, or to a chain of it.
 use Rattle.std.proofs.Common.{◌≡◌, ℕ, ◌≤◌, ◌^◌, List, Some, IsSome, refl, subst, sym, ap, ◌∙◌}
-use Rattle.std.specs.Prelude.{Ok, Err, Result, IfErr, IfOk, String, string_bytes}
-use Rattle.std.specs.declared.alloc.Global.{Global}
+use Rattle.std.specs.Prelude.{Ok, Err, Result, IfErr, IfOk}
 use Rattle.walrus_base.specs.Arena.{item_at}
 use Rattle.walrus_base.specs.Id.{place}
 use Rattle.walrus_base.specs.Operators.{function_item}
@@ -25,11 +24,12 @@ use Rattle.walrus.specs.Used.{Searches}
 use Rattle.walrus_tools.specs.Edited.{RefusesEdit}
 use Rattle.walrus_tools.specs.Found.{AnswersFound, FindsCalled, IsFound, LacksCalled}
 use Rattle.walrus_tools.specs.Measured.{IsSame}
-use Rattle.walrus_tools.specs.Reasons.{AnswersChainCalled, IsChainCalled, TellsChain}
+use Rattle.walrus_tools.specs.Reasons.{AnswersChainCalled, ExplainsIn, HoldsChain, TellsCalled}
 use Rattle.walrus_tools.specs.Sized.{RefusesIf}
+use Rattle.walrus_tools.specs.declared.tool.why.Chain.{Chain}
 use Rattle.walrus_tools.proofs.EditEnds.{parsed_whole, plain_read}
 use Rattle.walrus_tools.proofs.MeantThere.{meant_there}
-use Rattle.walrus_tools.proofs.ReasonEnds.{chain_refused, chain_told}
+use Rattle.walrus_tools.proofs.ReasonEnds.{chain_told, search_ended}
 
 module _ {V : Type 0} {O : V → Type 0} (G : (v : V) → Ghosts (O v)) (c : Config) (bytes name : List ℕ) (read : Module (SectionEntry V O)) (parsed : IsParsed c bytes (view G read)) where
   unread : FindsCalled name (functions read.funcs) (exports read.exports) (Err error.NotFound) → RefusesEdit (LacksCalled name) c bytes error.NotFound
@@ -45,7 +45,7 @@ module _ {V : Type 0} {O : V → Type 0} (G : (v : V) → Ghosts (O v)) (c : Con
   none_called error.NotFound h = unread h
   none_called _ h = absurd h
 
-  pub chain_none : (e : Error) → FindsCalled name (functions read.funcs) (exports read.exports) (Err e) → AnswersChainCalled c bytes name (λ (text : String Global). string_bytes text) (Err e)
+  pub chain_none : (e : Error) → FindsCalled name (functions read.funcs) (exports read.exports) (Err e) → AnswersChainCalled c bytes name HoldsChain (Err e)
   chain_none error.NotFound h = unread h
   chain_none _ h = absurd h
 
@@ -67,12 +67,12 @@ module _ {V : Type 0} {O : V → Type 0} (G : (v : V) → Ghosts (O v)) (c : Con
     there : IsSome (item_at (functions read.funcs) (place id))
     there = meant_there c (contents_of read) (parsed_whole G IsSame (LacksCalled name) c bytes read parsed).made name (place id) h
 
-    chain_called : (text : List ℕ) → TellsChain (view G read) (function_item (place id)) text → IsChainCalled c bytes name text
-    chain_called text told = record { function = place id; tells = chain_told G c bytes read parsed (place id) (place id) refl there told.chain told.explains text told.is; is = h }
+    chain_called : (answer : Chain) → ExplainsIn (view G read) (function_item (place id)) answer → TellsCalled c bytes name (HoldsChain answer)
+    chain_called answer told = record { function = place id; tells = chain_told G c bytes read parsed (place id) (place id) refl there answer told; is = h }
 
     -- what the search for a chain answers
-    pub called_answered : (raws : List RawCustomSection) → sections read.customs ≡ raw_sections raws → (r : Result (String Global) Error)
-        → Searches G read (λ (text : String Global). TellsChain (view G read) (function_item (place id)) (string_bytes text)) r → AnswersChainCalled c bytes name (λ (text : String Global). string_bytes text) r
-    called_answered raws are (Ok text) told = chain_called (string_bytes text) told
+    pub called_answered : (raws : List RawCustomSection) → sections read.customs ≡ raw_sections raws → (r : Result Chain Error)
+        → Searches G read (ExplainsIn (view G read) (function_item (place id))) r → AnswersChainCalled c bytes name HoldsChain r
+    called_answered raws are (Ok answer) told = chain_called answer told
     called_answered raws are (Err e) refused =
-        chain_refused G c bytes read parsed (λ (text : String Global). IsChainCalled c bytes name (string_bytes text)) (λ (x : Error). RefusesEdit (LacksCalled name) c bytes x) raws are e refused
+        search_ended G c bytes read parsed Chain (λ (answer : Chain). TellsCalled c bytes name (HoldsChain answer)) (λ (x : Error). RefusesEdit (LacksCalled name) c bytes x) raws are e refused

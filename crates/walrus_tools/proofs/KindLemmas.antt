@@ -108,11 +108,15 @@ module _ {V : Type 0} {O : V → Type 0} (G : (v : V) → Ghosts (O v)) (old new
         kept = read_kinds _ _ _ (kept_read c parsed.module_read (view G old) parsed.parsed plain parsed.holds) (kept_kinds G old new collects);
       }
 
+  -- such are the counts of before and after
+  pub counts_told : (before after : Kinds) → before ≡ kinds_in (contents_of old) → after ≡ kinds_in (contents_of new) → IsCountedOf c bytes before after
+  counts_told before after all kept =
+      subst (λ (k : Kinds). IsCountedOf c bytes k after) (sym all) (subst (λ (k : Kinds). IsCountedOf c bytes (kinds_in (contents_of old)) k) (sym kept) counted_as)
+
   -- what was counted goes with what was written
   pub counted_with : (result : Result Smaller Error) (made : Result (Vec ℕ) Error) (before after : Kinds) → before ≡ kinds_in (contents_of old) → after ≡ kinds_in (contents_of new)
       → MatchResult result (λ s. (made ≡ Ok s.output) × ((s.before ≡ before) × (s.after ≡ after))) (λ e. made ≡ Err e) → IfOk result (λ s. IsCountedOf c bytes s.before s.after)
-  counted_with (Ok s) made before after all kept h =
-      subst (λ (k : Kinds). IsCountedOf c bytes k s.after) (sym (h.1.0 ∙ all)) (subst (λ (k : Kinds). IsCountedOf c bytes (kinds_in (contents_of old)) k) (sym (h.1.1 ∙ kept)) counted_as)
+  counted_with (Ok s) made before after all kept h = counts_told s.before s.after (h.1.0 ∙ all) (h.1.1 ∙ kept)
   counted_with (Err e) made before after all kept h = tt
 
 -- ---- what was written is what is handed on

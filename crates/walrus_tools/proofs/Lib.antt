@@ -1,4 +1,5 @@
 mod Among
+pub mod Answered
 mod BodiesRise
 mod CallBody
 mod CallSound

@@ -48,7 +48,8 @@ use Rattle.walrus_tools.proofs.Finishing.{finished, search_refused}
 use Rattle.walrus_tools.specs.Edited.{AnswersEdited, IsWhole, RefusesEdit, with_customs}
 use Rattle.walrus_tools.specs.Ends.{Answers}
 use Rattle.walrus_tools.specs.Measured.{IsMeasured, IsSame}
-use Rattle.walrus_tools.specs.Reasons.{AnswersChain, AnswersReason, FindsFunction, IsChain, LacksFunction, TellsChain, chain_text, report_text}
+use Rattle.walrus_tools.specs.Reasons.{AnswersChain, AnswersReason, ExplainsIn, FindsFunction, HoldsChain, IsChain, LacksFunction, TellsChain, chain_seen, report_text}
+use Rattle.walrus_tools.specs.declared.tool.why.Chain.{Chain}
 
 module _ {V : Type 0} {O : V → Type 0} (G : (v : V) → Ghosts (O v)) (Refuses : Contents → Error → Type 0) (g : Flags) (plain : g.preserve_code_transform ≡ false) (bytes : List ℕ)
     (read : Module (SectionEntry V O)) (parsed : IsParsed (config_of g) bytes (view G read)) where
@@ -103,14 +104,14 @@ module _ {V : Type 0} {O : V → Type 0} (G : (v : V) → Ghosts (O v)) (Refuses
         }
 
 module _ {V : Type 0} {O : V → Type 0} (G : (v : V) → Ghosts (O v)) (c : Config) (bytes : List ℕ) (read : Module (SectionEntry V O)) (parsed : IsParsed c bytes (view G read)) where
-  -- the search for a chain refuses, for want of memory alone
-  pub chain_refused : (Done : String Global → Type 0) (Refuses : Error → Type 0) (raws : List RawCustomSection) → sections read.customs ≡ raw_sections raws → (e : Error)
-      → RefusesSearch (ReachesUnsound (view G read)) (OneMayRefuse (meanings G read)) e → Answers {X = String Global} c bytes Done ⊥ Refuses (Err e)
-  chain_refused Done Refuses raws are (error.Memory m) h = tt
-  chain_refused Done Refuses raws are error.DeadItem h =
-      absurd (never_dead c (λ (text : String Global). string_bytes text) (λ b o. ⊥) (λ b. ⊥) (OneMayRefuse (meanings G read)) bytes (view G read) error.DeadItem parsed (none_refuses G read raws are) h)
-  chain_refused Done Refuses raws are (error.Caller text) h = absurd (none_refuses G read raws are h)
-  chain_refused Done Refuses raws are _ h = absurd h
+  -- a search refuses, for want of memory alone
+  pub search_ended : (X : Type 0) (Done : X → Type 0) (Refuses : Error → Type 0) (raws : List RawCustomSection) → sections read.customs ≡ raw_sections raws → (e : Error)
+      → RefusesSearch (ReachesUnsound (view G read)) (OneMayRefuse (meanings G read)) e → Answers {X = X} c bytes Done ⊥ Refuses (Err e)
+  search_ended X Done Refuses raws are (error.Memory m) h = tt
+  search_ended X Done Refuses raws are error.DeadItem h =
+      absurd (never_dead c (λ (output : Vec ℕ). output.items) (λ b o. ⊥) (λ b. ⊥) (OneMayRefuse (meanings G read)) bytes (view G read) error.DeadItem parsed (none_refuses G read raws are) h)
+  search_ended X Done Refuses raws are (error.Caller text) h = absurd (none_refuses G read raws are h)
+  search_ended X Done Refuses raws are _ h = absurd h
 
   module _ (function : ℕ) where
     abbrev Lacks : Contents → Error → Type 0
@@ -121,7 +122,7 @@ module _ {V : Type 0} {O : V → Type 0} (G : (v : V) → Ghosts (O v)) (c : Con
     function_lacks error.NotFound h = edit_refused G IsSame Lacks c bytes read parsed (λ k d. d) (λ d. d) error.NotFound h
     function_lacks _ h = absurd h
 
-    pub chain_lacks : (e : Error) → FindsFunction (functions read.funcs) function (Err e) → AnswersChain c bytes function (λ (text : String Global). string_bytes text) (Err e)
+    pub chain_lacks : (e : Error) → FindsFunction (functions read.funcs) function (Err e) → AnswersChain c bytes function HoldsChain (Err e)
     chain_lacks error.NotFound h = edit_refused G IsSame Lacks c bytes read parsed (λ k d. d) (λ d. d) error.NotFound h
     chain_lacks _ h = absurd h
 
@@ -131,15 +132,13 @@ module _ {V : Type 0} {O : V → Type 0} (G : (v : V) → Ghosts (O v)) (c : Con
         pub explains : Explains (with_customs (view G read).customs (contents_of read)) (function_item function) chain
         explains = subst (λ (v : Abstract). Explains v (function_item function) chain) (plain_read G IsSame Lacks c bytes read parsed) (subst (λ (k : ℕ). Explains (view G read) (function_item k) chain) n_is found)
 
-        abbrev pub chain_told : (text : List ℕ) → text ≡ chain_text (function_item n) chain → IsChain c bytes function text
-        chain_told text says = record {
+        abbrev pub leads : IsChain c bytes function chain
+        leads = record {
           customs = (view G read).customs;
           module_parsed = contents_of read;
           parsed = subst (λ (v : Abstract). IsParsed c bytes v) (plain_read G IsSame Lacks c bytes read parsed) parsed;
           there = there;
-          chain = chain;
           explains = explains;
-          is = says ∙ ap (λ (k : ℕ). chain_text (function_item k) chain) n_is;
         }
 
         pub reason_told : (u : Abstract) (x : Transform) (m : IsMeasured c bytes u x) → m.comes.module_parsed ≡ contents_of read → m.comes.customs ≡ (view G read).customs
@@ -155,9 +154,12 @@ module _ {V : Type 0} {O : V → Type 0} (G : (v : V) → Ghosts (O v)) (c : Con
           is = says ∙ ap (λ (k : ℕ). report_text (function_item k) chain x) n_is;
         }
 
+      -- what was found is an answer
+      abbrev pub chain_told : (answer : Chain) → ExplainsIn (view G read) (function_item n) answer → TellsChain c bytes function (HoldsChain answer)
+      chain_told answer h = record { chain = chain_seen answer; leads = leads (chain_seen answer) h.1; told = (h.0 ∙ ap function_item n_is, refl) }
+
       -- what the search for a chain answers
-      pub chain_answered : (raws : List RawCustomSection) → sections read.customs ≡ raw_sections raws → (r : Result (String Global) Error)
-          → Searches G read (λ (text : String Global). TellsChain (view G read) (function_item n) (string_bytes text)) r → AnswersChain c bytes function (λ (text : String Global). string_bytes text) r
-      chain_answered raws are (Ok text) told = chain_told told.chain told.explains (string_bytes text) told.is
-      chain_answered raws are (Err e) refused =
-          chain_refused (λ (text : String Global). IsChain c bytes function (string_bytes text)) (λ (x : Error). RefusesEdit Lacks c bytes x) raws are e refused
+      pub chain_answered : (raws : List RawCustomSection) → sections read.customs ≡ raw_sections raws → (r : Result Chain Error)
+          → Searches G read (ExplainsIn (view G read) (function_item n)) r → AnswersChain c bytes function HoldsChain r
+      chain_answered raws are (Ok answer) h = chain_told answer h
+      chain_answered raws are (Err e) refused = search_ended Chain (λ (answer : Chain). TellsChain c bytes function (HoldsChain answer)) (λ (x : Error). RefusesEdit Lacks c bytes x) raws are e refused

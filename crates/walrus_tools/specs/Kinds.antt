@@ -1,5 +1,5 @@
 -- How many items of each kind a module has, and how many of them gc keeps ("Structure > Modules > Indices").
-use Rattle.std.specs.Prelude.{ℕ, List, Option, count_by, is_some, length}
+use Rattle.std.specs.Prelude.{ℕ, List, Option, Result, count_by, is_some, length}
 use Rattle.std.specs.List.{range_with_len}
 use Rattle.walrus_base.specs.Arena.{item_at}
 use Rattle.walrus_base.specs.Operators.{Item, Functions, Tables, Memories, Tags, Globals, Elements, DataSegments}
@@ -18,6 +18,9 @@ use Rattle.walrus_model.specs.Live.{IsLive}
 use Rattle.walrus_model.specs.Rules.{Holds}
 use Rattle.walrus_theorem.specs.Headline.{ReadsModule}
 use Rattle.walrus_theorem.specs.Report.{Counts}
+use Rattle.walrus_items.specs.declared.error.Error.{Error}
+use Rattle.walrus_tools.specs.Ends.{Answers}
+use Rattle.walrus_tools.specs.declared.tool.counts.Counted.{Counted}
 use Rattle.walrus_tools.specs.declared.tool.gc_counted.Kinds.{Kinds}
 
 -- of each kind so many items are those of which P holds
@@ -37,6 +40,10 @@ pub record IsCountedOf (c : Config) (bytes : List ℕ) (before after : Kinds) : 
   pub holds : Holds module_read
   pub all : CountsKinds (IsLive module_read) before
   pub kept : CountsKinds (Kept module_read) after
+
+-- such counts, or a refusal with its cause: memory ran out, or the bytes aren't accepted
+abbrev pub AnswersCounted : Config → (bytes : List ℕ) → Result Counted Error → Type 0
+AnswersCounted c bytes result = Answers c bytes (λ (r : Counted). IsCountedOf c bytes r.before r.after) ⊥ (λ e. ⊥) result
 
 -- ---- in memory
 

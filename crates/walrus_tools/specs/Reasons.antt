@@ -1,18 +1,21 @@
 -- Why a function of a module stays, and what each function costs that does, as a text ("Structure > Modules > Indices", "Binary Format > Code
 -- Section").
-use Rattle.std.specs.Prelude.{ℕ, ◌-◌, List, ◌++◌, Option, Some, None, IsSome, Result, Ok, Err, String, codes, decimal, flat_map, string_bytes, ◌≡◌}
+use Rattle.std.specs.Prelude.{ℕ, ◌-◌, List, ◌++◌, Option, Some, None, IsSome, Result, Ok, Err, String, codes, decimal, flat_map, option_map, string_bytes, ◌≡◌}
+use Rattle.std.specs.Global.{Vec}
 use Rattle.std.specs.declared.alloc.Global.{Global}
 use Rattle.walrus_base.specs.Arena.{item_at}
 use Rattle.walrus_base.specs.Id.{place}
 use Rattle.walrus_base.specs.declared.id.Id.{Id}
 use Rattle.walrus_base.specs.declared.keys.FunctionKey.{FunctionKey}
 use Rattle.walrus_base.specs.Operators.{Space, Types, Functions, Tables, Memories, Tags, Globals, Elements, DataSegments, Item, function_item}
+use Rattle.walrus_code.specs.Code.{item_of}
 use Rattle.walrus_code.specs.Transform.{Transform}
 use Rattle.walrus_model.specs.Abstract.{Abstract, Custom}
 use Rattle.walrus_model.specs.Config.{Config}
 use Rattle.walrus_items.specs.declared.error.Error.{Error}
 use Rattle.walrus_items.specs.declared.error.Error.TheVariants.{NotFound}
 use Rattle.walrus_items.specs.Functions.{FunctionValue, functions}
+use Rattle.walrus_contents.specs.Named.{items_in}
 use Rattle.walrus_contents.specs.declared.parts.Contents.{Contents}
 use Rattle.walrus_module.specs.Parsed.{IsParsed}
 use Rattle.walrus.specs.Why.{Explains}
@@ -20,6 +23,7 @@ use Rattle.walrus_tools.specs.Edited.{AnswersEdited, RefusesEdit, with_customs}
 use Rattle.walrus_tools.specs.Ends.{Answers, IfNotFound}
 use Rattle.walrus_tools.specs.Found.{LacksCalled, meant}
 use Rattle.walrus_tools.specs.Measured.{IsMeasured, IsSame}
+use Rattle.walrus_tools.specs.declared.tool.why.Chain.{Chain}
 
 -- ---- the text
 
@@ -80,37 +84,53 @@ abbrev pub AnswersReason : Config → (bytes : List ℕ) → (function : ℕ) �
 AnswersReason c bytes function (Ok text) = IsReason c bytes function (string_bytes text)
 AnswersReason c bytes function (Err e) = AnswersEdited IsSame (LacksFunction function) c bytes (Err e)
 
--- The bytes are those of a module with this function, to which this chain leads, or none; and the text says so.
-pub record IsChain (c : Config) (bytes : List ℕ) (function : ℕ) (text : List ℕ) : Type 0 where
+-- ---- from bytes to the chain
+
+-- what an answer holds: a chain, or none
+abbrev pub chain_seen : Chain → Option (List Item)
+chain_seen answer = option_map items_in answer.links
+
+-- the answer is of this item, and holds this chain
+abbrev pub HoldsChain : Chain → Item → Option (List Item) → Type 0
+HoldsChain answer x chain = (item_of answer.item ≡ x) × (chain_seen answer ≡ chain)
+
+-- the bytes of an answer are the text of this chain to this item
+abbrev pub WritesChain : Vec ℕ → Item → Option (List Item) → Type 0
+WritesChain text x chain = text.items ≡ chain_text x chain
+
+-- the bytes are those of a module with this function, to which this chain leads, or none
+pub record IsChain (c : Config) (bytes : List ℕ) (function : ℕ) (chain : Option (List Item)) : Type 0 where
   pub customs : List Custom
   pub module_parsed : Contents
   pub parsed : IsParsed c bytes (with_customs customs module_parsed)
   pub there : IsSome (item_at (functions module_parsed.funcs) function)
-  pub chain : Option (List Item)
   pub explains : Explains (with_customs customs module_parsed) (function_item function) chain
-  pub is : text ≡ chain_text (function_item function) chain
 
--- the text, or a refusal with its cause: the bytes aren't accepted, or there is no such function
-abbrev pub AnswersChain : {X : Type 0} → Config → (bytes : List ℕ) → (function : ℕ) → (X → List ℕ) → Result X Error → Type 0
-AnswersChain c bytes function view result = Answers c bytes (λ text. IsChain c bytes function (view text)) ⊥ (RefusesEdit (LacksFunction function) c bytes) result
+-- such a chain is told so
+pub record TellsChain (c : Config) (bytes : List ℕ) (function : ℕ) (Tells : Item → Option (List Item) → Type 0) : Type 0 where
+  pub chain : Option (List Item)
+  pub leads : IsChain c bytes function chain
+  pub told : Tells (function_item function) chain
 
--- The bytes are those of a module in which a function is meant by this name, to which this chain leads, or none; and the text says so.
-pub record IsChainCalled (c : Config) (bytes name text : List ℕ) : Type 0 where
+-- a chain to the function of this index, told so, or a refusal with its cause: the bytes aren't accepted, or there is no such function
+abbrev pub AnswersChain : {X : Type 0} → Config → (bytes : List ℕ) → (function : ℕ) → (X → Item → Option (List Item) → Type 0) → Result X Error → Type 0
+AnswersChain c bytes function Tells result = Answers c bytes (λ x. TellsChain c bytes function (Tells x)) ⊥ (RefusesEdit (LacksFunction function) c bytes) result
+
+-- a chain to the function that is meant by this name is told so
+pub record TellsCalled (c : Config) (bytes name : List ℕ) (Tells : Item → Option (List Item) → Type 0) : Type 0 where
   pub function : ℕ
-  pub tells : IsChain c bytes function text
-  pub is : meant name tells.module_parsed ≡ Some function
+  pub tells : TellsChain c bytes function Tells
+  pub is : meant name tells.leads.module_parsed ≡ Some function
 
--- the text, or a refusal with its cause: the bytes aren't accepted, or no function is meant
-abbrev pub AnswersChainCalled : {X : Type 0} → Config → (bytes name : List ℕ) → (X → List ℕ) → Result X Error → Type 0
-AnswersChainCalled c bytes name view result = Answers c bytes (λ text. IsChainCalled c bytes name (view text)) ⊥ (RefusesEdit (LacksCalled name) c bytes) result
+-- such a chain, told so, or a refusal with its cause: the bytes aren't accepted, or no function is meant
+abbrev pub AnswersChainCalled : {X : Type 0} → Config → (bytes name : List ℕ) → (X → Item → Option (List Item) → Type 0) → Result X Error → Type 0
+AnswersChainCalled c bytes name Tells result = Answers c bytes (λ x. TellsCalled c bytes name (Tells x)) ⊥ (RefusesEdit (LacksCalled name) c bytes) result
 
 -- ---- of what a module holds
 
--- a chain leads to this item of the module, or none does; and the text says so
-pub record TellsChain (v : Abstract) (x : Item) (text : List ℕ) : Type 0 where
-  pub chain : Option (List Item)
-  pub explains : Explains v x chain
-  pub is : text ≡ chain_text x chain
+-- the answer is of this item, to which its chain leads, or none does
+abbrev pub ExplainsIn : Abstract → Item → Chain → Type 0
+ExplainsIn v x answer = (item_of answer.item ≡ x) × Explains v x (chain_seen answer)
 
 -- the function of this index, or that there is none
 abbrev pub FindsFunction : List (Option FunctionValue) → ℕ → Result (Id FunctionKey) Error → Type 0

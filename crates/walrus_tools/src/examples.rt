@@ -1,7 +1,6 @@
 //! Callers that no program calls, each an example with its proof: docs/CALLING.md leads to them. A file has the name of its call.
 
 pub mod count_calls;
-pub mod find;
 pub mod keep_listed;
 pub mod moves;
 pub mod rename_export;

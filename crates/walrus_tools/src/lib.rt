@@ -1,5 +1,5 @@
 //! Callers of the library: what linkers, binding generators, instrumenters, stubbers and snippers do with it.
-//! The C interface stands on them. Each goes from bytes to bytes, or to a text.
+//! The C interface stands on them. Each goes from bytes to bytes, to a text, or to values.
 //! What each promises follows from what the library promises of its calls.
 //! A file has the name of its call: in `src/tool` those that programs call, in `src/examples` those that none calls.
 //!
@@ -8,12 +8,8 @@
 #![tactic(auto)]
 
 mod beginnings;
-#[cfg(test)]
-mod beginnings_tests;
 mod calls;
 mod choice;
-#[cfg(test)]
-mod choice_samples;
 mod examples;
 mod finish;
 mod fits;
@@ -21,10 +17,6 @@ mod functions;
 mod law;
 mod lines;
 mod numbers;
-#[cfg(test)]
-mod samples;
-#[cfg(test)]
-mod section_samples;
 mod tool;
 mod traps;
 mod wanted;
@@ -32,7 +24,6 @@ mod wanted;
 pub use beginnings::{Beginning, beginning_of, has_one_beginning};
 pub use choice::{Choice, are_choices, goes, read_choices};
 pub use examples::count_calls::count_calls;
-pub use examples::find::find;
 pub use examples::keep_listed::keep_listed;
 pub use examples::moves::moves;
 pub use examples::rename_export::rename_export;
@@ -42,21 +33,24 @@ pub use examples::with_export::with_export;
 pub use examples::with_metadata::with_metadata;
 pub use examples::with_places::with_places;
 pub use law::moves_once;
+pub use lines::{chain_lines, item_index, item_word};
 pub use numbers::NO_NAME;
+pub use tool::counts::{Counted, counts};
 pub use tool::diagnose::{diagnose, fault, fault_words};
+pub use tool::find::find;
 pub use tool::gc::gc;
 pub use tool::gc_counted::{Kinds, Smaller, gc_counted};
-pub use tool::list::list;
+pub use tool::list::{Listed, function_list, list};
 pub use tool::report::report;
 pub use tool::sections::{section_list, sections};
 pub use tool::snip::snip;
 pub use tool::strip::strip;
 pub use tool::stub::stub;
-pub use tool::why::{why, why_called};
+pub use tool::why::{Chain, why, why_called};
 pub use walrus::tool::{
     DeviceFailed, FromWrite, ReadAllError, Sink, Source, ToolError, read_all, write_all,
 };
-pub use walrus::{Error, ErrorKind};
+pub use walrus::{Error, ErrorKind, ItemId, Result};
 pub use walrus_reading::Fault;
 pub use wanted::Wanted;
 pub use wasm_frames::{Pieced, RawPiece};

@@ -1,12 +1,12 @@
 //! The lines of a report on a function: a chain of references, and what functions cost.
 
-ghost use Rattle.std.specs.Prelude.{◌≡◌, ◌++◌, IfOk, OnOk, codes, decimal, flat_map, map, option_map, string_bytes};
+ghost use Rattle.std.specs.Prelude.{◌≡◌, ◌++◌, IfOk, OnOk, codes, decimal, flat_map, map, string_bytes};
 ghost use Rattle.walrus_base.specs.Id.{place};
 ghost use Rattle.walrus_code.specs.Code.{item_of};
-ghost use Rattle.walrus_contents.specs.Named.{items_in};
 ghost use Rattle.walrus_items.specs.Transform.{range_of, transform_of};
-ghost use Rattle.walrus_tools.specs.Reasons.{chain_text, item_line, item_text, report_text, size_line, size_text, word_of};
+ghost use Rattle.walrus_tools.specs.Reasons.{chain_seen, chain_text, item_line, item_text, report_text, size_line, size_text, word_of};
 
+use crate::tool::why::Chain;
 use std::alloc::{AllocError, Global};
 use std::ops::Range;
 use std::result;
@@ -15,30 +15,29 @@ use walrus::{CodeTransform, FunctionId, ItemId};
 /// The lines of the chain, or the one that the item isn't reached, and then those of the functions.
 pub(crate) fn report(
     alloc: Global,
-    item: ItemId,
-    chain: Option<Vec<ItemId>>,
+    chain: &Chain,
     transform: &CodeTransform,
 ) -> result::Result<String, AllocError>
-    ensures { IfOk result (λ text. string_bytes text ≡ report_text (item_of item)
-        (option_map items_in chain) (transform_of transform.now)) }
+    ensures { IfOk result (λ text. string_bytes text ≡ report_text (item_of chain.now.item)
+        (chain_seen chain.now) (transform_of transform.now)) }
 {
-    let mut text = chain_lines(alloc, item, chain)?;
+    let mut text = chain_lines(alloc, chain)?;
     add_sizes(alloc, &mut text, transform.function_ranges.as_slice())?;
     Ok(text)
 }
 
-/// The lines of the chain, or the one that the item isn't reached.
-pub(crate) fn chain_lines(
-    alloc: Global,
-    item: ItemId,
-    chain: Option<Vec<ItemId>>,
-) -> result::Result<String, AllocError>
-    ensures { IfOk result (λ text. string_bytes text ≡ chain_text (item_of item)
-        (option_map items_in chain)) }
+/// A line for each item of the chain, as `function 3`, a root first; or one that the item isn't reached.
+///
+/// # Errors
+///
+/// Where memory runs out, and never else.
+pub fn chain_lines(alloc: Global, chain: &Chain) -> result::Result<String, AllocError>
+    ensures { IfOk result (λ text. string_bytes text
+        ≡ chain_text (item_of chain.now.item) (chain_seen chain.now)) }
 {
-    match chain {
+    match &chain.links {
         Some(items) => lines_of(alloc, items.as_slice()),
-        None => line_of(alloc, item, " isn't reached\n"),
+        None => line_of(alloc, chain.item, " isn't reached\n"),
     }
 }
 
@@ -84,7 +83,7 @@ fn size_of(alloc: Global, function: FunctionId, bytes: usize) -> result::Result<
 fn line_of(alloc: Global, item: ItemId, end: &str) -> result::Result<String, AllocError>
     ensures { IfOk result (λ text. string_bytes text ≡ item_text (item_of item) ++ end.now) }
 {
-    line(alloc, word(item), index(item), end)
+    line(alloc, item_word(item), item_index(item), end)
 }
 
 // A word, a number behind it, and what follows.
@@ -96,8 +95,8 @@ fn line(alloc: Global, word: &str, number: usize, end: &str) -> result::Result<S
     format!(in alloc; "{word} {number}{end}")
 }
 
-// The kind of the item.
-fn word(item: ItemId) -> &'static str
+/// The kind of the item, as a word.
+pub fn item_word(item: ItemId) -> &'static str
     ensures { result.now ≡ word_of (item_of item).0 }
 {
     match item {
@@ -112,8 +111,8 @@ fn word(item: ItemId) -> &'static str
     }
 }
 
-// Its index.
-fn index(item: ItemId) -> usize
+/// Its index in the bytes that were read.
+pub fn item_index(item: ItemId) -> usize
     ensures { result ≡ (item_of item).1 }
 {
     match item {

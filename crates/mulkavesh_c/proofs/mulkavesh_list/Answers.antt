@@ -1,5 +1,5 @@
 use Rattle.std.proofs.Common.{sym, ◌∙◌}
-use Rattle.walrus_tools.specs.Sized.{AnswersListed}
+use Rattle.walrus_tools.specs.Sized.{AnswersFunctions}
 use Rattle.walrus_tools.specs.Wanted.{config_wanted}
 use Rattle.walrus_tools.specs.declared.wanted.Wanted.{Wanted}
 use Rattle.mulkavesh_c.specs.Answer.{Answer}
@@ -8,4 +8,4 @@ use Rattle.mulkavesh_c.proofs.mulkavesh_list.Goals as goal
 
 pub returns : goal.returns
 returns c =
-    gives_wanted (λ (w : Wanted) (r : Answer). AnswersListed (config_wanted w) c.args.input.now r) c.args.flags c.in-Some.wanted (sym c.in-Some.is ∙ c.wanted_by.ensures) c.list-made.result _ _ _ _ c.list-made.ensures c.put.ensures
+    gives_wanted (λ (w : Wanted) (r : Answer). AnswersFunctions (config_wanted w) c.args.input.now r) c.args.flags c.in-Some.wanted (sym c.in-Some.is ∙ c.wanted_by.ensures) c.function_list-made.result _ _ _ _ c.function_list-made.ensures c.put.ensures

@@ -5,6 +5,7 @@ ghost use Rattle.walrus_tools.specs.Reasons.{AnswersReason};
 
 use crate::functions::function_at;
 use crate::lines::report;
+use crate::tool::why::Chain;
 use std::alloc::Global;
 use walrus::passes::gc;
 use walrus::passes::why::chain_to;
@@ -23,9 +24,9 @@ pub fn why_with_sizes(alloc: Global, bytes: &[u8], function: u32) -> Result<Stri
 {
     let mut module = Module::from_buffer(alloc, bytes)?;
     let item = ItemId::Function(function_at(&module.funcs, function)?);
-    let chain = chain_to(alloc, &module, item)?;
+    let links = chain_to(alloc, &module, item)?;
     gc::run(alloc, &mut module)?;
     let (output, transform) = module.emit_wasm_with_transform(alloc)?;
     drop(output);
-    Ok(report(alloc, item, chain, &transform)?)
+    Ok(report(alloc, &Chain { item, links }, &transform)?)
 }

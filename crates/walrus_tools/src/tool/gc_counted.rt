@@ -55,8 +55,8 @@ fn count<K, T: Item>(all: &Items<K, T>) -> usize
         .count()
 }
 
-// How many items of each kind the module has.
-fn kinds_of(module: &Module) -> Kinds
+/// How many items of each kind the module has.
+pub(crate) fn kinds_of(module: &Module) -> Kinds
     ensures { result ≡ kinds_in (contents_of «module».now) }
 {
     Kinds {

@@ -1,81 +1,94 @@
 //! What a developer asks of a module that is too large: which functions stay, under which names, and what each costs.
 
+ghost use Rattle.std.specs.Option.{option_to_list};
 ghost use Rattle.std.specs.Prelude.{◌≡◌, ◌++◌, IfErr, IfOk, OnOk, flat_map, map};
-ghost use Rattle.walrus_base.specs.Arena.{item_at};
 ghost use Rattle.walrus_base.specs.Id.{place};
-ghost use Rattle.walrus_contents.specs.View.{name_at};
 ghost use Rattle.walrus_items.specs.Functions.{functions};
+ghost use Rattle.walrus_items.specs.Seen.{text_of};
 ghost use Rattle.walrus_items.specs.Transform.{range_of};
-ghost use Rattle.walrus_tools.specs.Sized.{AnswersListed, HasLong, IsLongEntry, IsLongName, NoneLong, RefusesIf, entry_bytes, entry_of, name_bytes, names_in};
+ghost use Rattle.walrus_tools.specs.Sized.{AnswersFunctions, AnswersListed, HasLong, IsLong, IsLongName, NoneLong, RefusesIf, listed_bytes, listed_of, listed_seen, name_bytes, names_in};
 ghost use Rattle.walrus_tools.specs.Wanted.{config_wanted};
 
 use crate::numbers::{NO_NAME, add_number, add_text, narrow};
 use crate::wanted::Wanted;
-use std::alloc::Global;
+use std::alloc::{AllocError, Global};
 use std::ops::Range;
+use std::result;
 use walrus::passes::gc;
 use walrus::{FunctionId, ModuleConfig, ModuleFunctions, Result};
 
-// Puts the length of the function's name and the name behind the bytes, or what says that it has none.
-fn add_name(to: &mut Vec<u8>, all: &ModuleFunctions, id: FunctionId) -> Result<()>
-    ensures value { OnOk result (to.new.items ≡ to.old.items
-        ++ name_bytes (names_in (functions all.now) (place id))) }
-    ensures fits { OnOk result (IsLongName (names_in (functions all.now) (place id)) → ⊥) }
-    ensures refused { IfErr result (RefusesIf (IsLongName (names_in (functions all.now) (place id)))) }
+/// A function with a body that stays.
+#[derive(Drop)]
+pub struct Listed {
+    /// Its index in the bytes that were read.
+    pub index: usize,
+    /// How many bytes its body has in the module that is left.
+    pub size: usize,
+    /// Its name, if it has one.
+    pub name: Option<String>,
+}
+
+// ---- the list
+
+// The name of a function, if it has one.
+fn name_of(
+    alloc: Global,
+    all: &ModuleFunctions,
+    id: FunctionId,
+) -> result::Result<Option<String>, AllocError>
+    ensures { IfOk result (λ name. option_to_list (text_of name)
+        ≡ names_in (functions all.now) (place id)) }
 {
     if all.contains(id) {
         if let Some(name) = &all.get(id).name {
-            return add_text(to, name);
+            return Ok(Some(String::from_str(alloc, name.as_str())?));
         }
     }
-    Ok(add_number(to, NO_NAME)?)
+    Ok(None)
 }
 
-// Puts a function behind the bytes: its index, how many bytes its body has, and its name.
-fn add_entry(to: &mut Vec<u8>, all: &ModuleFunctions, id: FunctionId, size: usize) -> Result<()>
-    ensures value { OnOk result (to.new.items ≡ to.old.items
-        ++ entry_bytes (place id) size (names_in (functions all.now) (place id))) }
-    ensures fits { OnOk result (IsLongEntry (place id) size
-        (names_in (functions all.now) (place id)) → ⊥) }
-    ensures refused { IfErr result (RefusesIf
-        (IsLongEntry (place id) size (names_in (functions all.now) (place id)))) }
+// A function with this body.
+fn listed_of(
+    alloc: Global,
+    all: &ModuleFunctions,
+    body: &(FunctionId, Range<usize>),
+) -> result::Result<Listed, AllocError>
+    ensures { IfOk result (λ f. listed_seen f
+        ≡ listed_of (names_in (functions all.now)) (range_of body.now)) }
 {
-    let index = narrow(id.index())?;
-    let bytes = narrow(size)?;
-    add_number(to, index)?;
-    add_number(to, bytes)?;
-    add_name(to, all, id)
+    let name = name_of(alloc, all, body.0)?;
+    Ok(Listed {
+        index: body.0.index(),
+        size: body.1.end.saturating_sub(body.1.start),
+        name,
+    })
 }
 
 // The functions with these bodies.
-fn entries(
+fn all_listed(
     alloc: Global,
     all: &ModuleFunctions,
-    ranges: &[(FunctionId, Range<usize>)],
-) -> Result<Vec<u8>>
-    ensures value { IfOk result (λ list. list.items
-        ≡ flat_map (entry_of (names_in (functions all.now))) (map range_of ranges.now)) }
-    ensures fits { OnOk result (NoneLong (names_in (functions all.now)) (map range_of ranges.now)) }
-    ensures refused { IfErr result (RefusesIf
-        (HasLong (names_in (functions all.now)) (map range_of ranges.now))) }
+    bodies: &[(FunctionId, Range<usize>)],
+) -> result::Result<Vec<Listed>, AllocError>
+    ensures { IfOk result (λ list. map listed_seen list.items
+        ≡ map (listed_of (names_in (functions all.now))) (map range_of bodies.now)) }
 {
     let mut list = Vec::new(alloc);
-    for function in ranges {
-        let size = function.1.end.saturating_sub(function.1.start);
-        add_entry(&mut list, all, function.0, size)?;
+    for body in bodies {
+        let function = listed_of(alloc, all, body)?;
+        list.push(function)?;
     }
     Ok(list)
 }
 
-/// What stays of the functions with a body where what nothing reaches goes, by rising index: of each its index in the bytes, how many bytes
-/// its body has in the module that is left, and the length of its name, [`NO_NAME`] for none, as three numbers of 32 bits, the lowest byte
-/// first; and then its name. What is written of names and producers changes nothing.
+/// What stays of the functions with a body where what nothing reaches goes, by rising index. What is written of names and producers changes
+/// nothing.
 ///
 /// # Errors
 ///
-/// `InvalidWasm` only where the bytes are no module that keeps the rules, `TooLarge` only where what is kept or listed has a count or a size
-/// past 32 bits, and `Memory`.
-pub fn list(alloc: Global, bytes: &[u8], wanted: Wanted) -> Result<Vec<u8>>
+/// `InvalidWasm` only where the bytes are no module that keeps the rules, `TooLarge` only where what is kept has a count or a size past
+/// 32 bits, and `Memory`.
+pub fn list(alloc: Global, bytes: &[u8], wanted: Wanted) -> Result<Vec<Listed>>
     ensures { AnswersListed (config_wanted wanted) bytes.now result }
 {
     let mut made = ModuleConfig::new();
@@ -87,5 +100,60 @@ pub fn list(alloc: Global, bytes: &[u8], wanted: Wanted) -> Result<Vec<u8>>
     gc::run(alloc, &mut module)?;
     let (output, transform) = module.emit_wasm_with_transform(alloc)?;
     drop(output);
-    entries(alloc, &module.funcs, &transform.function_ranges)
+    Ok(all_listed(alloc, &module.funcs, &transform.function_ranges)?)
+}
+
+// ---- the list as bytes
+
+// Puts the length of the name and the name behind the bytes, or what says that there is none.
+fn add_name(to: &mut Vec<u8>, name: &Option<String>) -> Result<()>
+    ensures value { OnOk result (to.new.items ≡ to.old.items
+        ++ name_bytes (option_to_list (text_of name.now))) }
+    ensures fits { OnOk result (IsLongName (option_to_list (text_of name.now)) → ⊥) }
+    ensures refused { IfErr result (RefusesIf (IsLongName (option_to_list (text_of name.now)))) }
+{
+    match name {
+        Some(text) => add_text(to, text.as_str()),
+        None => Ok(add_number(to, NO_NAME)?),
+    }
+}
+
+// Puts a function behind the bytes: its index, how many bytes its body has, and its name.
+fn add_function(to: &mut Vec<u8>, function: &Listed) -> Result<()>
+    ensures value { OnOk result (to.new.items ≡ to.old.items ++ listed_bytes (listed_seen function.now)) }
+    ensures fits { OnOk result (IsLong (listed_seen function.now) → ⊥) }
+    ensures refused { IfErr result (RefusesIf (IsLong (listed_seen function.now))) }
+{
+    let index = narrow(function.index)?;
+    let size = narrow(function.size)?;
+    add_number(to, index)?;
+    add_number(to, size)?;
+    add_name(to, &function.name)
+}
+
+// The bytes of these functions.
+fn spelled(alloc: Global, functions: &[Listed]) -> Result<Vec<u8>>
+    ensures value { IfOk result (λ list. list.items
+        ≡ flat_map listed_bytes (map listed_seen functions.now)) }
+    ensures fits { OnOk result (NoneLong (map listed_seen functions.now)) }
+    ensures refused { IfErr result (RefusesIf (HasLong (map listed_seen functions.now))) }
+{
+    let mut list = Vec::new(alloc);
+    for function in functions {
+        add_function(&mut list, function)?;
+    }
+    Ok(list)
+}
+
+/// The same as bytes, for callers of other languages: of each function its index, how many bytes its body has, and the length of its name,
+/// [`NO_NAME`] for none, as three numbers of 32 bits, the lowest byte first; and then its name.
+///
+/// # Errors
+///
+/// Those of [`list`], and `TooLarge` also where what is listed has a number or a name past 32 bits.
+pub fn function_list(alloc: Global, bytes: &[u8], wanted: Wanted) -> Result<Vec<u8>>
+    ensures { AnswersFunctions (config_wanted wanted) bytes.now result }
+{
+    let functions = list(alloc, bytes, wanted)?;
+    spelled(alloc, &functions)
 }

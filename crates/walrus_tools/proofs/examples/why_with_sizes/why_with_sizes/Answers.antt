@@ -16,11 +16,11 @@ returns-in_err-function_at c =
     let p = err_from_is_err_and c.from_residual-in_err-function_at.result c.from_residual-in_err-function_at.ensures.1 in
     rw (p.1, p.2) (function_lacks _ (config_of defaults) c.args.bytes.now c.in_ok-module.module c.in_ok-module.ensures.found c.args.function _ c.in_err-function_at.ensures)
 
-pub returns-in_err-chain : goal.returns-in_err-chain
-returns-in_err-chain c =
-    let p = err_from_is_err_and c.from_residual-in_err-chain.result c.from_residual-in_err-chain.ensures.1 in
+pub returns-in_err-links : goal.returns-in_err-links
+returns-in_err-links c =
+    let p = err_from_is_err_and c.from_residual-in_err-links.result c.from_residual-in_err-links.ensures.1 in
     rw (p.1, p.2) (search_lacks _ (LacksFunction c.args.function) defaults refl c.args.bytes.now c.in_ok-module.module c.in_ok-module.ensures.found c.in_ok-module.ensures.kept.raws c.in_ok-module.ensures.kept.are
-    c.in_ok-module.ensures.configured _ c.in_err-chain.ensures)
+    c.in_ok-module.ensures.configured _ c.in_err-links.ensures)
 
 pub returns-in_err-run : goal.returns-in_err-run
 returns-in_err-run c =
@@ -52,4 +52,4 @@ returns c =
     let m = measured _ (LacksFunction c.args.function) defaults refl c.args.bytes.now read c.in_ok-module.ensures.found raw.raws raw.are c.in_ok-module.ensures.configured kept ran.collected ran.others.customs left same
     wrote.emits.left (settings kept) (ran.others.settings ∙ c.in_ok-module.ensures.configured) c.in_ok-output.output c.in_ok-output.transform wrote.emits.well_made (wrote.transform (inr refl)) in
     reason_told _ (config_of defaults) c.args.bytes.now read c.in_ok-module.ensures.found c.args.function (place c.in_ok-function_at.field-0) c.in_ok-function_at.ensures.0 c.in_ok-function_at.ensures.1
-    (option_map items_in c.in_ok-chain.chain) c.in_ok-chain.ensures _ _ m refl refl c.in_ok-report.field-0 c.in_ok-report.ensures
+    (option_map items_in c.in_ok-links.links) c.in_ok-links.ensures _ _ m refl refl c.in_ok-report.field-0 c.in_ok-report.ensures

@@ -1,6 +1,6 @@
 use Rattle.std.proofs.Common.{ap, refl, ◌∙◌, subst, inr}
 use Rattle.std.proofs.lemmas.Result.{err_from_is_err_and}
-use Rattle.std.specs.Prelude.{Err, map}
+use Rattle.std.specs.Prelude.{Err, Ok, map}
 use Rattle.walrus_items.specs.Functions.{functions}
 use Rattle.walrus_items.specs.Transform.{range_of}
 use Rattle.walrus_module.specs.Customs.{sections}
@@ -9,7 +9,7 @@ use Rattle.walrus_module.specs.Settings.{settings}
 use Rattle.walrus_module.proofs.RawStays.{all_raw}
 use Rattle.walrus_tools.specs.Sized.{AnswersListed, names_in}
 use Rattle.walrus_tools.proofs.ReasonEnds.{emission_lacks, measured, search_lacks}
-use Rattle.walrus_tools.proofs.SizeEnds.{Never, list_answers, way_refused}
+use Rattle.walrus_tools.proofs.SizeEnds.{Never, list_told, way_refused}
 use Rattle.walrus_tools.proofs.WantedLemmas.{asked}
 use Rattle.walrus_tools.proofs.tool.list.list.Goals as goal
 
@@ -49,5 +49,5 @@ returns c =
     let m = measured _ Never (flags c.legacy_exceptions-config.result.now) (ap (λ (f : Flags). f.preserve_code_transform) same) c.args.bytes.now read c.in_ok-module.ensures.found
     raw.raws raw.are c.in_ok-module.ensures.configured kept ran.collected ran.others.customs left stay wrote.emits.left (settings kept) (ran.others.settings ∙ c.in_ok-module.ensures.configured) c.in_ok-output.output c.in_ok-output.transform
     wrote.emits.well_made (wrote.transform (inr refl)) in
-    subst (λ (f : Flags). AnswersListed (config_of f) c.args.bytes.now c.entries.result) same
-    (list_answers _ c.args.bytes.now _ _ m (names_in (functions left.funcs)) refl c.entries.result _ (ap (map range_of) c.deref.ensures.value) c.entries.ensures.value c.entries.ensures.fits c.entries.ensures.refused)
+    subst (λ (f : Flags). AnswersListed (config_of f) c.args.bytes.now (Ok c.in_ok-all_listed.field-0)) same
+    (list_told _ c.args.bytes.now _ _ m (names_in (functions left.funcs)) refl _ (ap (map range_of) c.deref.ensures.value) c.in_ok-all_listed.field-0 c.in_ok-all_listed.ensures)

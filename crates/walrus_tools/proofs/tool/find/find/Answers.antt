@@ -1,7 +1,7 @@
 use Rattle.std.proofs.lemmas.Result.{err_from_is_err_and}
 use Rattle.walrus_module.specs.Flags.{config_of, defaults}
 use Rattle.walrus_tools.proofs.FoundEnds.{index_told, none_called}
-use Rattle.walrus_tools.proofs.examples.find.find.Goals as goal
+use Rattle.walrus_tools.proofs.tool.find.find.Goals as goal
 
 pub returns-in_err-id : goal.returns-in_err-id
 returns-in_err-id c =

@@ -1,6 +1,8 @@
 //! The beginnings of bytes, at what each is known by.
 
-use crate::beginnings::{Beginning, beginning_number, beginning_of, beginning_words};
+use std::test::Fail;
+use test_support::{demand, is_text};
+use walrus_tools::{Beginning, Fault, beginning_of, fault_words};
 
 // Whether the bytes begin so.
 fn is(bytes: &[u8], wanted: Beginning) -> bool {
@@ -44,11 +46,13 @@ fn text(rt: HostRuntime) {
 }
 
 #[test]
-fn told(rt: HostRuntime) {
-    assert!(rt;
-        beginning_words(Beginning::Text)
-            == "the bytes don't begin as a WebAssembly module: they are WebAssembly text, not binary"
-    );
-    assert!(rt; beginning_number(Beginning::OtherVersion) == 10);
-    assert!(rt; beginning_number(Beginning::Other) == 0);
+fn told(rt: HostRuntime) -> Result<(), Fail> {
+    let words = fault_words(rt.alloc(), Fault::Header, b"(module)")?;
+    demand(
+        is_text(
+            words.as_str(),
+            "the bytes don't begin as a WebAssembly module: they are WebAssembly text, not binary",
+        ),
+        "the words of a text",
+    )
 }

@@ -1,28 +1,13 @@
 //! Each caller on a small module, whose bytes were worked out by hand.
 
-use crate::examples::count_calls::count_calls;
-use crate::examples::find::find;
-use crate::examples::keep_listed::keep_listed;
-use crate::examples::moves::moves;
-use crate::examples::rename_export::rename_export;
-use crate::examples::shrink::shrink;
-use crate::examples::why_with_sizes::why_with_sizes;
-use crate::examples::with_export::with_export;
-use crate::examples::with_metadata::with_metadata;
-use crate::examples::with_places::with_places;
-use crate::tool::diagnose::fault;
-use crate::tool::gc::gc;
-use crate::tool::list::list;
-use crate::tool::report::report;
-use crate::tool::snip::snip;
-use crate::tool::stub::stub;
-use crate::tool::why::{why, why_called};
-use crate::wanted::Wanted;
 use std::alloc::Global;
 use std::test::Fail;
-use test_support::{bytes_of, demand, demand_bytes, is_text};
-use walrus::{Module, Result};
-use walrus_module::emitted_twice;
+use test_support::{bytes_of, demand, demand_bytes, is_name, is_text};
+use walrus_tools::{
+    Chain, Kinds, Listed, Result, Wanted, chain_lines, count_calls, counts, fault, find,
+    function_list, gc, item_index, item_word, keep_listed, list, moves, rename_export, report,
+    shrink, snip, stub, why, why_called, why_with_sizes, with_export, with_metadata, with_places,
+};
 
 // Fails where a caller refused, or answered with other bytes than these.
 fn demand_output(
@@ -55,20 +40,7 @@ fn one_of_two_functions_is_left(rt: HostRuntime) -> std::result::Result<(), Fail
     demand_output(rt.alloc(), shrink(rt.alloc(), &bytes), ONE)
 }
 
-// The module as a first and as a second emission write it.
-fn emitted(alloc: Global, bytes: &[u8]) -> Result<(Vec<u8>, Vec<u8>)> {
-    let mut module = Module::from_buffer(alloc, bytes)?;
-    emitted_twice(alloc, &mut module)
-}
-
-#[test]
-fn a_second_emission_writes_the_same(rt: HostRuntime) -> std::result::Result<(), Fail> {
-    let (first, second) = emitted(rt.alloc(), &bytes_of(rt.alloc(), ONE)?)?;
-    demand_bytes(rt.alloc(), &first, ONE, "a first emission")?;
-    demand_bytes(rt.alloc(), &second, ONE, "a second emission")
-}
-
-// ---- gc, report and list under flags
+// ---- gc, report, counts and list under flags
 
 fn no_producers() -> Wanted {
     Wanted {
@@ -105,13 +77,64 @@ fn one_of_two_is_reported(rt: HostRuntime) -> std::result::Result<(), Fail> {
     )
 }
 
+// So many functions, and nothing else.
+fn functions(count: usize) -> Kinds {
+    Kinds {
+        functions: count,
+        tables: 0,
+        memories: 0,
+        tags: 0,
+        globals: 0,
+        elements: 0,
+        data_: 0,
+    }
+}
+
+#[test]
+fn one_of_two_is_counted(rt: HostRuntime) -> std::result::Result<(), Fail> {
+    let bytes = bytes_of(rt.alloc(), TWO)?;
+    let counted = counts(rt.alloc(), &bytes, no_producers())?;
+    demand(
+        counted.before == functions(2),
+        "the functions that were read",
+    )?;
+    demand(counted.after == functions(1), "the functions that are left")
+}
+
+// The same two functions, of which the exported one is called `g`.
+const TWO_NAMED: &str =
+    "00 61 73 6D 01 00 00 00 01 04 01 60 00 00 03 03 02 00 00 07 05 01 01 66 00 01 0A 08 02 03 00 01 0B 02 00 0B 00 0B 04 6E 61 6D 65 01 04 01 01 01 67";
+
+// Whether function 1, with a body of 2 bytes and this name, is the only one.
+fn is_one(all: &[Listed], name: &str) -> bool {
+    match all.get(0) {
+        Some(listed) => {
+            all.len() == 1 && listed.index == 1 && listed.size == 2 && is_name(&listed.name, name)
+        }
+        None => false,
+    }
+}
+
 #[test]
 fn one_of_two_is_listed(rt: HostRuntime) -> std::result::Result<(), Fail> {
+    let bytes = bytes_of(rt.alloc(), TWO_NAMED)?;
+    let functions = list(rt.alloc(), &bytes, no_producers())?;
+    demand(is_one(&functions, "g"), "function 1")
+}
+
+#[test]
+fn one_of_two_is_listed_in_bytes(rt: HostRuntime) -> std::result::Result<(), Fail> {
     let bytes = bytes_of(rt.alloc(), TWO)?;
     demand_output(
         rt.alloc(),
-        list(rt.alloc(), &bytes, no_producers()),
+        function_list(rt.alloc(), &bytes, no_producers()),
         "01 00 00 00 02 00 00 00 FF FF FF FF",
+    )?;
+    let named = bytes_of(rt.alloc(), TWO_NAMED)?;
+    demand_output(
+        rt.alloc(),
+        function_list(rt.alloc(), &named, no_producers()),
+        "01 00 00 00 02 00 00 00 01 00 00 00 67",
     )
 }
 
@@ -408,17 +431,39 @@ fn no_function_calls_it(rt: HostRuntime) -> std::result::Result<(), Fail> {
     demand_text(why_with_sizes(rt.alloc(), &bytes, 0), ALONE)
 }
 
+// The lines of a chain.
+fn told(alloc: Global, chain: Result<Chain>) -> Result<String> {
+    Ok(chain_lines(alloc, &chain?)?)
+}
+
 #[test]
 fn a_chain_stands_alone(rt: HostRuntime) -> std::result::Result<(), Fail> {
-    let bytes = bytes_of(rt.alloc(), TWO)?;
-    demand_text(why(rt.alloc(), &bytes, 1), "function 1\n")?;
-    demand_text(why(rt.alloc(), &bytes, 0), "function 0 isn't reached\n")
+    let alloc = rt.alloc();
+    let bytes = bytes_of(alloc, TWO)?;
+    demand_text(told(alloc, why(alloc, &bytes, 1)), "function 1\n")?;
+    demand_text(
+        told(alloc, why(alloc, &bytes, 0)),
+        "function 0 isn't reached\n",
+    )
+}
+
+#[test]
+fn a_chain_leads_from_a_root(rt: HostRuntime) -> std::result::Result<(), Fail> {
+    let alloc = rt.alloc();
+    let bytes = bytes_of(alloc, CALLS)?;
+    demand_text(
+        told(alloc, why(alloc, &bytes, 1)),
+        "function 0\nfunction 1\n",
+    )
 }
 
 #[test]
 fn a_chain_stands_under_a_name(rt: HostRuntime) -> std::result::Result<(), Fail> {
-    let bytes = bytes_of(rt.alloc(), TWO)?;
-    demand_text(why_called(rt.alloc(), &bytes, "f"), "function 1\n")
+    let alloc = rt.alloc();
+    let bytes = bytes_of(alloc, TWO)?;
+    let chain = why_called(alloc, &bytes, "f")?;
+    demand(is_text(item_word(chain.item), "function"), "a function")?;
+    demand(item_index(chain.item) == 1, "its index")
 }
 
 // ---- find
@@ -431,11 +476,13 @@ fn a_function_is_found_by_its_export(rt: HostRuntime) -> std::result::Result<(),
 
 // ---- diagnose
 
-// What is asked, and the two numbers of what is wrong with it: nothing; no header, but the front of what gzip writes; behind the types, at byte 14,
-// an id that is no section's; in function 0 an operator that isn't known.
-const FAULTS: [(&str, &str); 4] = [
+// What is asked, and the two numbers of what is wrong with it: nothing; no header, but the front of what gzip writes, the header of another
+// version, or none of what is known; behind the types, at byte 14, an id that is no section's; in function 0 an operator that isn't known.
+const FAULTS: [(&str, &str); 6] = [
     (TWO, "00 00 00 00 00 00 00 00"),
     ("1F 8B 08 00", "01 00 00 00 03 00 00 00"),
+    ("00 61 73 6D 02 00 00 00", "01 00 00 00 0A 00 00 00"),
+    ("68 65", "01 00 00 00 00 00 00 00"),
     (
         "00 61 73 6D 01 00 00 00 01 04 01 60 00 00 0E 00",
         "02 00 00 00 0E 00 00 00",

@@ -1,12 +1,9 @@
 //! The callers that read no more than where sections stand, on small modules whose bytes were worked out by hand.
 
-use crate::choice::Choice;
-use crate::tool::sections::section_list;
-use crate::tool::strip::strip;
 use std::alloc::Global;
 use std::test::Fail;
 use test_support::{bytes_of, demand, demand_bytes, is_text};
-use walrus_items::Result;
+use walrus_tools::{Choice, Result, section_list, strip};
 
 // Fails where a caller refused, or answered with other bytes than these.
 fn demand_output(

@@ -1,9 +1,9 @@
 //! What no clause says: that the definitions mean what people take them for.
 
-use crate::choice::{Choice, are_choices, goes, read_choices};
-use crate::fits::fits;
 use std::alloc::Global;
 use std::test::Fail;
+use test_support::demand;
+use walrus_tools::{Choice, are_choices, goes, read_choices};
 
 // A name, a text, and whether they fit.
 const FITTING: [(&[u8], &[u8], bool); 26] = [
@@ -35,9 +35,13 @@ const FITTING: [(&[u8], &[u8], bool); 26] = [
     (b"**", b"ab", true),
 ];
 
-// Fails a test where this doesn't hold.
-fn demand(holds: bool, what: &str) -> Result<(), Fail> {
-    if holds { Ok(()) } else { Err(Fail::new(what)) }
+// Whether the text goes where this name alone is chosen.
+fn fits(name: &[u8], text: &[u8]) -> bool {
+    let chosen = Choice {
+        is_kept: false,
+        name,
+    };
+    goes(&[chosen], text)
 }
 
 // The number of the first row that is wrong.

@@ -1,0 +1,9 @@
+use Rattle.std.proofs.Common.{◌≡◌, map, take}
+use Rattle.walrus_items.specs.Functions.{functions}
+use Rattle.walrus_items.specs.Transform.{range_of}
+use Rattle.walrus_tools.specs.Sized.{listed_of, listed_seen, names_in}
+use Rattle.walrus_tools.proofs.tool.list.all_listed.Given as goal
+
+-- the functions with the bodies before
+abbrev pub invariant-loop-body : goal.invariant-loop-body
+invariant-loop-body l = map listed_seen l.list.items ≡ map (listed_of (names_in (functions l.all))) (map range_of (take l.body-index l.bodies))
