@@ -55,5 +55,4 @@ mod StubStep
 mod StubTurn
 mod TrapBody
 mod TrapSound
-mod WantedLemmas
 pub use Rattle.walrus.proofs.DeviceLemmas
