@@ -11,14 +11,14 @@ loop-function-init c = (c.new-list.ensures.items, λ f at long. absurd (Contains
 
 pub loop-function-preserved : goal.loop-function-preserved
 loop-function-preserved c = (
-  bytes_more c.args.functions.now c.loop-function.function-index _ c.loop-function-test.true _ _ c.loop-function.invariant.0 c.in_ok-add_function.ensures.value,
-  none_more c.args.functions.now c.loop-function.function-index _ c.loop-function-test.true c.loop-function.invariant.1 c.in_ok-add_function.ensures.fits,
+  bytes_more c.args.functions.now c.loop-function.function-index c.function-item.result c.loop-function-test.true c.function-item.is _ _ c.loop-function.invariant.0 c.in_ok-add_function.ensures.value,
+  none_more c.args.functions.now c.loop-function.function-index c.function-item.result c.loop-function-test.true c.function-item.is c.loop-function.invariant.1 c.in_ok-add_function.ensures.fits,
 )
 
 pub returns-in_err-add_function-clause-refused : goal.returns-in_err-add_function-clause-refused
 returns-in_err-add_function-clause-refused c =
     let p = err_from_is_err_and c.from_residual.result c.from_residual.ensures.1 in
-    rw (p.1, p.2) (one_long c.args.functions.now c.loop-function.function-index _ c.loop-function-test.true _ c.in_err-add_function.ensures.refused)
+    rw (p.1, p.2) (one_long c.args.functions.now c.loop-function.function-index c.function-item.result c.loop-function-test.true c.function-item.is _ c.in_err-add_function.ensures.refused)
 
 pub returns-clause-value : goal.returns-clause-value
 returns-clause-value c = c.loop-function.invariant.0 ∙ ap (λ (xs : List Listed). flat_map listed_bytes (map listed_seen xs)) (take_all c.loop-function.function-index c.args.functions.now c.loop-function-test.false)
