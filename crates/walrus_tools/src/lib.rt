@@ -1,5 +1,5 @@
 //! Callers of the library: what linkers, binding generators, instrumenters, stubbers and snippers do with it.
-//! The C interface stands on them. Each goes from bytes to bytes, or to a text.
+//! The C interface stands on them. Each goes from bytes to bytes, to a text, or to values.
 //! What each promises follows from what the library promises of its calls.
 //! A file has the name of its call: in `src/tool` those that programs call, in `src/examples` those that none calls.
 //!
