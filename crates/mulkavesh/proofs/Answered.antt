@@ -1,36 +1,13 @@
 -- What subcommands answer, by what the library answered.
-use Rattle.std.proofs.Common.{◌≡◌, ℕ, Bool, true, false, List, inl, sym, subst}
-use Rattle.std.specs.Prelude.{Result, Ok, Err}
-use Rattle.walrus_tools.specs.Handed.{Config, Error}
-use Rattle.walrus_tools.specs.Reasons.{IsChain, IsChainCalled}
+use Rattle.std.proofs.Common.{◌≡◌, ℕ, false, List, sym, subst}
+use Rattle.std.specs.Prelude.{Result, Ok}
+use Rattle.walrus_tools.specs.Handed.{Error}
 use Rattle.std.specs.Global.{Vec}
 use Rattle.walrus_tools.specs.Wanted.{config_wanted}
 use Rattle.mulkavesh.specs.declared.subcommands.Made.{Made}
 use Rattle.mulkavesh.specs.declared.order.Order.{Order}
 use Rattle.mulkavesh.specs.declared.order.Work.{Work}
-use Rattle.mulkavesh.specs.Subcommands.{Answer, AnswersOrder, AnswersWhy, AnswersWork, ForPeople, IsIndex, NotesNothing, WritesAlone, name, operand_bytes}
-
--- what is so is so for people
-pub for_people : (is_json : Bool) (P : Type 0) → P → ForPeople is_json P
-for_people true P p = tt
-for_people false P p = p
-
-pub for_programs : (is_json : Bool) (P : Type 0) → is_json ≡ true → ForPeople is_json P
-for_programs true P is = tt
-for_programs false P is = absurd (cc)
-
--- the chain of the function that a word means that says no index
-pub by_name : (c : Config) (bytes word : List ℕ) → ((i : ℕ) → IsIndex word i → ⊥) → (text : List ℕ) (made : Vec ℕ) → made.items ≡ text → IsChainCalled c bytes word text → AnswersWhy c bytes word (Ok made)
-by_name c bytes word none text made same called = inl (
-  called.function,
-  name none (record {
-    customs = called.tells.customs;
-    module_parsed = called.tells.module_parsed;
-    parsed = called.tells.parsed;
-    is = called.is;
-  }),
-  subst (λ (b : List ℕ). IsChain c bytes called.function b) (sym same) called.tells,
-)
+use Rattle.mulkavesh.specs.Subcommands.{Answer, AnswersOrder, AnswersWork, NotesNothing, WritesAlone, operand_bytes}
 
 -- by the subcommand of an order
 pub by_work : (o : Order) (bytes : List ℕ) (w : Work) (r : Result Made Error) → o.work ≡ w → AnswersWork w (config_wanted o.wanted) o.is_quiet o.is_json (operand_bytes o.operand) bytes r → AnswersOrder o bytes r

@@ -1,8 +1,10 @@
 mod Answered
 mod CauseLemmas
 mod Complete
+mod Escaping
 mod Help
 mod Itself
+mod JsonLists
 mod Lines
 mod Ordered
 mod Pieces

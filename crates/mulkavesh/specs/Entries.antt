@@ -1,58 +1,34 @@
--- The functions that stay, as a text for people.
-use Rattle.std.specs.Prelude.{ℕ, Bool, true, false, List, [], ◌∷◌, ◌++◌, Option, Some, None, All, codes, decimal, flat_map, length, ◌^◌, ◌<◌, ◌≡◌}
-use Rattle.std.specs.Borrow.{Bor}
-use Rattle.walrus_tools.specs.Sized.{entry_bytes, no_name, number_bytes}
-use Rattle.mulkavesh.specs.declared.entries.Entry.{Entry}
+-- The functions that stay, as a text.
+use Rattle.std.specs.Prelude.{ℕ, Bool, true, false, List, [], ◌∷◌, ◌++◌, codes, decimal, flat_map, map}
+use Rattle.std.specs.Global.{Vec}
+use Rattle.walrus_tools.specs.Sized.{ListedFunction, listed_seen}
+use Rattle.walrus_tools.specs.declared.tool.list.Listed.{Listed}
+use Rattle.mulkavesh.specs.Json.{separated, string_json}
 use Rattle.mulkavesh.specs.Visible.{shown}
 
--- a function: its index, how many bytes its body has, and its name, if it has one
-pub record Listed : Type 0 where
-  pub index : ℕ
-  pub size : ℕ
-  pub name : List (List ℕ)
-
--- the name is shorter than what stands for none
-abbrev pub IsShort : List ℕ → Type 0
-IsShort name = length name < no_name
-
--- its numbers have 32 bits
-pub record Fits (f : Listed) : Type 0 where
-  pub index_fits : f.index < 2 ^ 32
-  pub size_fits : f.size < 2 ^ 32
-  pub name_fits : All IsShort f.name
-
-abbrev pub listed_bytes : Listed → List ℕ
-listed_bytes f = entry_bytes f.index f.size f.name
-
--- ---- the text
-
+-- the name, if there is one, as people see it
 abbrev pub name_text : List (List ℕ) → List ℕ
 name_text [] = []
 name_text (name ∷ others) = codes " " ++ shown name
 
--- how many bytes its body has, its index, and its name, as people see it
-abbrev pub listed_line : Listed → List ℕ
+-- for people: how many bytes its body has, its index, and its name
+abbrev pub listed_line : ListedFunction → List ℕ
 listed_line f = decimal f.size ++ codes " " ++ decimal f.index ++ name_text f.name ++ codes "\n"
 
--- where the list says these functions, each of which fits, the text has a line for each
-abbrev pub TellsList : (list text : List ℕ) → Type 0
-TellsList list text = (functions : List Listed) → All Fits functions → list ≡ flat_map listed_bytes functions → text ≡ flat_map listed_line functions
+-- the name, if there is one, as a string
+abbrev pub name_json : List (List ℕ) → List ℕ
+name_json [] = codes "null"
+name_json (name ∷ others) = string_json name
 
--- ---- reading the list
+-- the same for programs
+abbrev pub listed_object : ListedFunction → List ℕ
+listed_object f = codes "{\"index\":" ++ decimal f.index ++ codes ",\"size\":" ++ decimal f.size ++ codes ",\"name\":" ++ name_json f.name ++ codes "}"
 
-abbrev pub names_if : Bool → List ℕ → List (List ℕ)
-names_if true name = name ∷ []
-names_if false name = []
+-- for people a line for each of the functions, and for programs a list of objects
+abbrev pub listed_text : (is_json : Bool) → List ListedFunction → List ℕ
+listed_text false functions = flat_map listed_line functions
+listed_text true functions = codes "[" ++ separated (codes ",\n ") (map listed_object functions) ++ codes "]\n"
 
-abbrev pub listed_of : Entry → Listed
-listed_of e = record { index = e.index; size = e.size; name = names_if e.is_named e.name.now }
-
--- the number that stands in front of the bytes, and what is behind it; none where there are too few
-abbrev pub FindsNumber : List ℕ → Option (ℕ × Bor (List ℕ)) → Type 0
-FindsNumber bytes (Some r) = (bytes ≡ number_bytes r.0 ++ r.1.now) × (r.0 < 2 ^ 32)
-FindsNumber bytes None = length bytes < 4
-
--- the function that stands in front of the list, and what is behind it; or none does
-abbrev pub FindsFirst : List ℕ → Option (Entry × Bor (List ℕ)) → Type 0
-FindsFirst list (Some r) = (list ≡ listed_bytes (listed_of r.0) ++ r.1.now) × Fits (listed_of r.0)
-FindsFirst list None = (f : Listed) (rest : List ℕ) → Fits f → list ≡ listed_bytes f ++ rest → ⊥
+-- the same of an answer
+abbrev pub listed_told : (is_json : Bool) → Vec Listed → List ℕ
+listed_told is_json functions = listed_text is_json (map listed_seen functions.items)

@@ -1,9 +1,12 @@
 pub mod Cause
+pub mod Chains
 pub mod Command
 pub mod Entries
+pub mod Json
 pub mod Message
 pub mod Mistakes
 pub mod Order
+pub mod Reports
 pub mod Sections
 pub mod Steps
 pub mod Subcommands

@@ -1,5 +1,5 @@
--- What each subcommand makes of the bytes of a module. Left open are what is written for programs, under `--json`, and what is noted by gc
--- without `--quiet`, by snip and by stub.
+-- What each subcommand makes of the bytes of a module. Left open are what check and sections write for programs, under `--json`, and what is noted by
+-- gc without `--quiet`, by snip and by stub.
 use Rattle.std.specs.Prelude.{ℕ, Bool, true, false, not, List, [], ◌∷◌, ◌++◌, Option, Some, None, Result, Ok, Err, String, codes, flat_map, is_some, string_bytes, ◌≡◌, ◌⊎◌, ⊤}
 use Rattle.std.specs.Global.{Vec}
 use Rattle.std.specs.declared.alloc.Global.{Global}
@@ -7,7 +7,8 @@ use Rattle.std.specs.Str.Parse.{ParsesUnsigned}
 use Rattle.walrus_tools.specs.Diagnosed.{Finds, WordsFault}
 use Rattle.walrus_tools.specs.Found.{AnswersFound, IsFound}
 use Rattle.walrus_tools.specs.Handed.{Config, Error, Fault, InvalidWasm, Memory, ReportsOn, RunsOn, config_of, defaults}
-use Rattle.walrus_tools.specs.Reasons.{AnswersChain}
+use Rattle.walrus_tools.specs.Kinds.{AnswersCounted}
+use Rattle.walrus_tools.specs.Reasons.{AnswersChain, HoldsChain}
 use Rattle.walrus_tools.specs.Choice.{Choice}
 use Rattle.walrus_tools.specs.Sections.{LacksHeader, Piece, StandUpTo}
 use Rattle.walrus_tools.specs.Sized.{AnswersListed}
@@ -15,11 +16,14 @@ use Rattle.walrus_tools.specs.Snipped.{AnswersSnipped}
 use Rattle.walrus_tools.specs.Stripped.{AnswersStripped}
 use Rattle.walrus_tools.specs.Stubbed.{AnswersStubbed}
 use Rattle.walrus_tools.specs.Wanted.{config_wanted}
+use Rattle.walrus_tools.specs.declared.tool.why.Chain.{Chain}
 use Rattle.mulkavesh.specs.declared.subcommands.Made.{Made}
 use Rattle.mulkavesh.specs.declared.order.Order.{Order}
 use Rattle.mulkavesh.specs.declared.order.Work.{Work}
 use Rattle.mulkavesh.specs.declared.order.Work.TheVariants as work
-use Rattle.mulkavesh.specs.Entries.{TellsList}
+use Rattle.mulkavesh.specs.Chains.{chain_told}
+use Rattle.mulkavesh.specs.Entries.{listed_told}
+use Rattle.mulkavesh.specs.Reports.{counted_json}
 use Rattle.mulkavesh.specs.Sections.{section_line, stop_text}
 
 -- what a call of the library answers: bytes, or why not
@@ -28,6 +32,11 @@ Answer = Result (Vec ℕ) Error
 
 abbrev pub vec_bytes : Vec ℕ → List ℕ
 vec_bytes b = b.items
+
+-- memory ran out
+abbrev pub IsMemory : Error → Type 0
+IsMemory (Memory e) = ⊤
+IsMemory _ = ⊥
 
 -- for people this is so; for programs it is left open
 abbrev pub ForPeople : (is_json : Bool) → Type 0 → Type 0
@@ -55,17 +64,17 @@ abbrev pub WritesQuietly : (is_quiet : Bool) → (Answers : Answer → Type 0) �
 WritesQuietly true Answers = WritesAlone Answers
 WritesQuietly false Answers = Writes Answers
 
--- a text that tells that answer so
-abbrev pub AnswersText : (is_json : Bool) → (Tells : List ℕ → List ℕ → Type 0) → (Answers : Answer → Type 0) → Answer → Type 0
-AnswersText is_json Tells Answers (Ok text) = (answer : Vec ℕ) × (Answers (Ok answer) × ForPeople is_json (Tells answer.items text.items))
-AnswersText is_json Tells Answers (Err e) = Answers (Err e)
+-- ---- report, list and why
 
-abbrev pub WritesText : (is_json : Bool) → (Tells : List ℕ → List ℕ → Type 0) → (Answers : Answer → Type 0) → Result Made Error → Type 0
-WritesText is_json Tells Answers = WritesAlone (AnswersText is_json Tells Answers)
+-- this text of what a call answers, or the call's refusal
+abbrev pub Told : {X : Type 0} → (text_of : X → List ℕ) → (Answers : Result X Error → Type 0) → Answer → Type 0
+Told {X = X} text_of Answers (Ok text) = (answer : X) × (Answers (Ok answer) × (text.items ≡ text_of answer))
+Told text_of Answers (Err e) = Answers (Err e)
 
--- word for word
-abbrev pub IsSame : List ℕ → List ℕ → Type 0
-IsSame bytes text = text ≡ bytes
+-- for people the report, and for programs the counts of it
+abbrev pub Reports : (is_json : Bool) → Config → (bytes : List ℕ) → Answer → Type 0
+Reports false c bytes = ReportsOn c bytes vec_bytes
+Reports true c bytes = Told counted_json (AnswersCounted c bytes)
 
 -- ---- check
 
@@ -119,13 +128,13 @@ pub data Means (c : Config) (bytes word : List ℕ) (function : ℕ) : Type 0 wh
   name : ((i : ℕ) → IsIndex word i → ⊥) → IsFound c bytes word function → Means c bytes word function
 
 -- the word says no index, and no function is meant by it
-abbrev pub MeansNone : Config → (bytes word : List ℕ) → Answer → Type 0
-MeansNone c bytes word (Ok answer) = ⊥
+abbrev pub MeansNone : Config → (bytes word : List ℕ) → Result Chain Error → Type 0
+MeansNone c bytes word (Ok chain) = ⊥
 MeansNone c bytes word (Err e) = ((i : ℕ) → IsIndex word i → ⊥) × AnswersFound c bytes word (Err e)
 
 -- the chain to the function that is meant
-abbrev pub AnswersWhy : Config → (bytes word : List ℕ) → Answer → Type 0
-AnswersWhy c bytes word answer = ((function : ℕ) × Means c bytes word function × AnswersChain c bytes function vec_bytes answer) ⊎ MeansNone c bytes word answer
+abbrev pub AnswersWhy : Config → (bytes word : List ℕ) → Result Chain Error → Type 0
+AnswersWhy c bytes word answer = ((function : ℕ) × Means c bytes word function × AnswersChain c bytes function HoldsChain answer) ⊎ MeansNone c bytes word answer
 
 -- ---- each subcommand
 
@@ -140,14 +149,14 @@ named operand = record { is_kept = false; name = operand }
 
 abbrev pub AnswersWork : Work → Config → (is_quiet is_json : Bool) → (operand bytes : List ℕ) → Result Made Error → Type 0
 AnswersWork work.Gc c is_quiet is_json operand bytes = WritesQuietly is_quiet (RunsOn c bytes vec_bytes)
-AnswersWork work.Report c is_quiet is_json operand bytes = WritesText is_json IsSame (ReportsOn c bytes vec_bytes)
-AnswersWork work.List c is_quiet is_json operand bytes = WritesText is_json TellsList (AnswersListed c bytes)
+AnswersWork work.Report c is_quiet is_json operand bytes = WritesAlone (Reports is_json c bytes)
+AnswersWork work.List c is_quiet is_json operand bytes = WritesAlone (Told (listed_told is_json) (AnswersListed c bytes))
 AnswersWork work.Check c is_quiet is_json operand bytes = Checks c bytes is_json
 AnswersWork work.Sections c is_quiet is_json operand bytes = TellsSections bytes is_json
 AnswersWork work.Strip c is_quiet is_json operand bytes = WritesAlone (AnswersStripped bytes (named operand ∷ []))
 AnswersWork work.Snip c is_quiet is_json operand bytes = Writes (AnswersSnipped (config_of defaults) bytes operand)
 AnswersWork work.Stub c is_quiet is_json operand bytes = Writes (AnswersStubbed (config_of defaults) bytes operand)
-AnswersWork work.Why c is_quiet is_json operand bytes = WritesText is_json IsSame (AnswersWhy (config_of defaults) bytes operand)
+AnswersWork work.Why c is_quiet is_json operand bytes = WritesAlone (Told (chain_told is_json) (AnswersWhy (config_of defaults) bytes operand))
 
 -- what an order makes of the bytes
 abbrev pub AnswersOrder : Order → (bytes : List ℕ) → Result Made Error → Type 0

@@ -1,52 +1,16 @@
 //! The functions that stay, as a text: for people a line each, for programs an array of objects.
 
-ghost use Rattle.std.specs.Prelude.{◌≡◌, ◌++◌, IfOk, OnOk};
-ghost use Rattle.mulkavesh.specs.Entries.{FindsFirst, FindsNumber, TellsList, listed_line, listed_of};
+ghost use Rattle.std.specs.Prelude.{◌≡◌, ◌++◌, IfOk, OnOk, codes, flat_map, map, true};
+ghost use Rattle.mulkavesh.specs.Entries.{listed_line, listed_object, listed_text};
+ghost use Rattle.mulkavesh.specs.Json.{separated};
 ghost use Rattle.mulkavesh.specs.Visible.{shown};
+ghost use Rattle.walrus_tools.specs.Sized.{listed_seen};
 
-use crate::json::add_string;
+use crate::json::{add_comma, add_string};
 use crate::numbers::add_decimal;
 use crate::visible::front_shown;
 use std::alloc::{AllocError, Global};
-use walrus_tools::NO_NAME;
-
-/// A function that stays. Without a name, that is empty.
-#[derive(Clone, Copy)]
-struct Entry<'a> {
-    index: u32,
-    size: u32,
-    is_named: bool,
-    name: &'a [u8],
-}
-
-// The number that stands in front of the bytes, its lowest byte first, and the bytes behind it.
-fn number(bytes: &[u8]) -> Option<(u32, &[u8])>
-    ensures { FindsNumber bytes.now result }
-{
-    let [a, b, c, d, rest @ ..] = bytes else {
-        return None;
-    };
-    Some((u32::from_le_bytes([*a, *b, *c, *d]), rest))
-}
-
-// The function that stands in front of the list, and the list behind it.
-fn first(list: &[u8]) -> Option<(Entry<'_>, &[u8])>
-    ensures { FindsFirst list.now result }
-{
-    let (index, rest) = number(list)?;
-    let (size, rest) = number(rest)?;
-    let (length, rest) = number(rest)?;
-    let is_named = length != NO_NAME;
-    let count = if is_named { length as usize } else { 0 };
-    let (name, behind) = rest.split_at_checked(count)?;
-    let entry = Entry {
-        index,
-        size,
-        is_named,
-        name,
-    };
-    Some((entry, behind))
-}
+use walrus_tools::Listed;
 
 /// Puts a name behind the text, as people see it.
 pub(crate) fn add_name(to: &mut Vec<u8>, name: &[u8]) -> Result<(), AllocError>
@@ -62,62 +26,80 @@ pub(crate) fn add_name(to: &mut Vec<u8>, name: &[u8]) -> Result<(), AllocError>
 }
 
 // Puts the line of a function behind the text: how many bytes its body has, its index, and its name.
-fn add_line(alloc: Global, to: &mut Vec<u8>, entry: Entry<'_>) -> Result<(), AllocError>
-    ensures { OnOk result (to.new.items ≡ to.old.items ++ listed_line (listed_of entry.entry)) }
+fn add_line(alloc: Global, to: &mut Vec<u8>, function: &Listed) -> Result<(), AllocError>
+    ensures { OnOk result (to.new.items ≡ to.old.items ++ listed_line (listed_seen function.now)) }
 {
-    add_decimal(alloc, to, entry.size as u64)?;
+    add_decimal(alloc, to, function.size as u64)?;
     to.push(b' ')?;
-    add_decimal(alloc, to, entry.index as u64)?;
-    if entry.is_named {
+    add_decimal(alloc, to, function.index as u64)?;
+    if let Some(name) = &function.name {
         to.push(b' ')?;
-        add_name(to, entry.name)?;
+        add_name(to, name.as_bytes())?;
     }
     Ok(to.push(b'\n')?)
 }
 
-/// A line for each function of the list.
-pub(crate) fn text(alloc: Global, list: &[u8]) -> Result<Vec<u8>, AllocError>
-    ensures { IfOk result (λ text. TellsList list.now text.items) }
+// A line for each of the functions.
+fn text(alloc: Global, functions: &[Listed]) -> Result<Vec<u8>, AllocError>
+    ensures { IfOk result (λ text. text.items
+        ≡ flat_map listed_line (map listed_seen functions.now)) }
 {
     let mut text = Vec::new(alloc);
-    let mut rest = list;
-    'functions: while let Some((entry, behind)) = first(rest) {
-        add_line(alloc, &mut text, entry)?;
-        rest = behind;
+    for function in functions {
+        add_line(alloc, &mut text, function)?;
     }
     Ok(text)
 }
 
 // Puts the object of a function behind the text.
-fn add_object(alloc: Global, to: &mut Vec<u8>, entry: Entry<'_>) -> Result<(), AllocError> {
+fn add_object(alloc: Global, to: &mut Vec<u8>, function: &Listed) -> Result<(), AllocError>
+    ensures { OnOk result (to.new.items ≡ to.old.items ++ listed_object (listed_seen function.now)) }
+{
     to.extend_from_slice(b"{\"index\":")?;
-    add_decimal(alloc, to, entry.index as u64)?;
+    add_decimal(alloc, to, function.index as u64)?;
     to.extend_from_slice(b",\"size\":")?;
-    add_decimal(alloc, to, entry.size as u64)?;
+    add_decimal(alloc, to, function.size as u64)?;
     to.extend_from_slice(b",\"name\":")?;
-    if entry.is_named {
-        add_string(to, entry.name)?;
-    } else {
-        to.extend_from_slice(b"null")?;
+    match &function.name {
+        Some(name) => add_string(to, name.as_bytes())?,
+        None => to.extend_from_slice(b"null")?,
     }
     Ok(to.push(b'}')?)
 }
 
-/// An array of the functions of the list, an object each.
-pub(crate) fn json(alloc: Global, list: &[u8]) -> Result<Vec<u8>, AllocError> {
-    let mut text = Vec::new(alloc);
-    let mut rest = list;
-    text.push(b'[')?;
-    for _turn in 0..list.len() {
-        let Some((entry, behind)) = first(rest) else {
-            break;
-        };
-        if text.len() > 1 {
-            text.extend_from_slice(b",\n ")?;
-        }
-        add_object(alloc, &mut text, entry)?;
-        rest = behind;
+// Puts the objects of functions behind the text.
+fn add_objects(alloc: Global, to: &mut Vec<u8>, functions: &[Listed]) -> Result<(), AllocError>
+    ensures { OnOk result (to.new.items ≡ to.old.items
+        ++ separated (codes ",\n ") (map listed_object (map listed_seen functions.now))) }
+{
+    for (place, function) in functions.iter().enumerate() {
+        add_comma(to, ",\n ", place)?;
+        add_object(alloc, to, function)?;
     }
+    Ok(())
+}
+
+// A list of the functions, an object each.
+fn json(alloc: Global, functions: &[Listed]) -> Result<Vec<u8>, AllocError>
+    ensures { IfOk result (λ text. text.items ≡ listed_text true (map listed_seen functions.now)) }
+{
+    let mut text = Vec::new(alloc);
+    text.push(b'[')?;
+    add_objects(alloc, &mut text, functions)?;
     text.extend_from_slice(b"]\n")?;
     Ok(text)
+}
+
+/// The functions, for people or for programs.
+pub(crate) fn told(
+    alloc: Global,
+    is_json: bool,
+    functions: &[Listed],
+) -> Result<Vec<u8>, AllocError>
+    ensures { IfOk result (λ text. text.items ≡ listed_text is_json (map listed_seen functions.now)) }
+{
+    if is_json {
+        return json(alloc, functions);
+    }
+    text(alloc, functions)
 }

@@ -1,4 +1,7 @@
-//! Strings as programs read them, in JSON.
+//! Strings and lists as programs read them, in JSON.
+
+ghost use Rattle.std.specs.Prelude.{◌≡◌, ◌++◌, OnOk};
+ghost use Rattle.mulkavesh.specs.Json.{byte_json, code_of, comma_at, digit, escape, string_json};
 
 use crate::visible::hidden_length;
 use std::alloc::AllocError;
@@ -6,7 +9,9 @@ use std::alloc::AllocError;
 const HEXADECIMAL: &[u8; 16] = b"0123456789abcdef";
 
 // Puts a byte of a string behind the text, behind a backslash where it has to be.
-fn add_byte(to: &mut Vec<u8>, byte: u8) -> Result<(), AllocError> {
+fn add_byte(to: &mut Vec<u8>, byte: u8) -> Result<(), AllocError>
+    ensures { OnOk result (to.new.items ≡ to.old.items ++ byte_json byte) }
+{
     if byte == b'"' || byte == b'\\' {
         to.push(b'\\')?;
     }
@@ -17,25 +22,38 @@ fn add_byte(to: &mut Vec<u8>, byte: u8) -> Result<(), AllocError> {
 const PUNCTUATION: u32 = 8192;
 
 // The number of a character that people don't see, of its bytes.
-fn code_of(character: &[u8]) -> u32 {
+fn code_of(character: &[u8]) -> u32
+    ensures { result ≡ code_of character.now }
+{
     match character {
         [byte] | [_, byte] => *byte as u32,
-        [_, middle, last] => PUNCTUATION | (*middle as u32 & 63) << 6 | *last as u32 & 63,
+        [_, middle, last] => PUNCTUATION + *middle as u32 % 64 * 64 + *last as u32 % 64,
         _ => 0,
     }
 }
 
+// The last hexadecimal digit of a number.
+fn digit(number: u32) -> u8
+    ensures { result ≡ digit number }
+{
+    HEXADECIMAL[(number % 16) as usize]
+}
+
 // Puts the escape of the character with this number behind the text.
-fn add_escape(to: &mut Vec<u8>, code: u32) -> Result<(), AllocError> {
+fn add_escape(to: &mut Vec<u8>, code: u32) -> Result<(), AllocError>
+    ensures { OnOk result (to.new.items ≡ to.old.items ++ escape code) }
+{
     to.extend_from_slice(b"\\u")?;
-    for shift in [12, 8, 4, 0] {
-        to.push(HEXADECIMAL[(code >> shift & 15) as usize])?;
-    }
-    Ok(())
+    to.push(digit(code / 4096))?;
+    to.push(digit(code / 256))?;
+    to.push(digit(code / 16))?;
+    Ok(to.push(digit(code))?)
 }
 
 /// Puts a string behind the text, whose bytes are UTF-8. A character that people don't see is escaped.
-pub(crate) fn add_string(to: &mut Vec<u8>, string: &[u8]) -> Result<(), AllocError> {
+pub(crate) fn add_string(to: &mut Vec<u8>, string: &[u8]) -> Result<(), AllocError>
+    ensures { OnOk result (to.new.items ≡ to.old.items ++ string_json string.now) }
+{
     to.push(b'"')?;
     let mut rest = string;
     'characters: while let [first, others @ ..] = rest {
@@ -50,4 +68,14 @@ pub(crate) fn add_string(to: &mut Vec<u8>, string: &[u8]) -> Result<(), AllocErr
         }
     }
     Ok(to.push(b'"')?)
+}
+
+/// Puts the comma behind the text that stands in front of the item at this place of a list: none in front of the first.
+pub(crate) fn add_comma(to: &mut Vec<u8>, comma: &str, place: usize) -> Result<(), AllocError>
+    ensures { OnOk result (to.new.items ≡ to.old.items ++ comma_at comma.now place) }
+{
+    if place == 0 {
+        return Ok(());
+    }
+    to.extend_from_slice(comma.as_bytes())
 }

@@ -1,15 +1,32 @@
 //! What is said of what was dropped: items, bytes, and debug information among them.
 
+ghost use Rattle.std.specs.Prelude.{IfErr};
+ghost use Rattle.mulkavesh.specs.Subcommands.{IsMemory};
+
 use crate::numbers::add_grouped;
 use std::alloc::{AllocError, Global};
-use walrus_tools::Smaller;
+use walrus_tools::{Error, Pieced, RawPiece, Smaller, sections};
 
-/// What was dropped of a module whose bytes these are, in a line: `2,073 bytes become 1,991; dropped: 1 of 20 functions`.
-pub(crate) fn note_of(alloc: Global, bytes: &[u8], made: &Smaller) -> Result<Vec<u8>, AllocError> {
+/// What was dropped of a module whose bytes these are, in a line: `2,073 bytes become 1,991; dropped: 1 of 20 functions`. `Memory` is the only error.
+pub(crate) fn note_of(alloc: Global, bytes: &[u8], made: &Smaller) -> Result<Vec<u8>, Error>
+    ensures { IfErr result IsMemory }
+{
+    let debug = debug_dropped(alloc, bytes)?;
     let mut note = Vec::new(alloc);
     add_sizes(alloc, &mut note, bytes.len(), made.output.len())?;
-    add_dropped(alloc, &mut note, made, debug_bytes(bytes))?;
+    add_dropped(alloc, &mut note, made, debug)?;
     Ok(note)
+}
+
+// How many bytes of debug information stand in the bytes, which are all dropped. `Memory` is the only error.
+fn debug_dropped(alloc: Global, bytes: &[u8]) -> Result<u64, Error>
+    ensures { IfErr result IsMemory }
+{
+    Ok(match sections(alloc, bytes)? {
+        Pieced::Whole(pieces) => debug_bytes(&pieces),
+        Pieced::NoHeader => 0,
+        Pieced::Until(pieces, _place) => debug_bytes(&pieces),
+    })
 }
 
 // Puts behind the text how many bytes become how many.
@@ -110,57 +127,20 @@ fn add_debug(alloc: Global, to: &mut Vec<u8>, count: u64, begin: usize) -> Resul
 }
 
 // How many bytes the custom sections have whose names begin with `.debug`, their headers among them.
-fn debug_bytes(bytes: &[u8]) -> u64 {
+fn debug_bytes(pieces: &[RawPiece<'_>]) -> u64 {
     let mut count = 0u64;
-    let mut rest = bytes.get(8..).unwrap_or(b"");
-    for _turn in 0..bytes.len() {
-        let Some((section, behind)) = next_section(rest) else {
-            break;
-        };
-        if is_debug(section) {
-            count = count.saturating_add(rest.len().saturating_sub(behind.len()) as u64);
+    for piece in pieces {
+        if is_debug(*piece) {
+            count = count.saturating_add(piece.bytes.len() as u64);
         }
-        rest = behind;
     }
     count
 }
 
-// The section that stands in front of the bytes, from its number on, with nothing of its size, and what stands behind it.
-fn next_section(bytes: &[u8]) -> Option<(Section<'_>, &[u8])> {
-    let (number, rest) = bytes.split_first()?;
-    let (size, rest) = size(rest)?;
-    let (content, behind) = rest.split_at_checked(size)?;
-    let number = *number;
-    Some((Section { number, content }, behind))
-}
-
-// A section of a module.
-#[derive(Clone, Copy)]
-struct Section<'a> {
-    number: u8,
-    content: &'a [u8],
-}
-
 // Whether it is a custom section with debug information.
-fn is_debug(section: Section<'_>) -> bool {
-    if section.number != 0 {
-        return false;
-    }
-    match size(section.content) {
-        Some((_, name)) => name.starts_with(b".debug"),
+fn is_debug(piece: RawPiece<'_>) -> bool {
+    match piece.name {
+        Some(name) => name.starts_with(".debug"),
         None => false,
     }
-}
-
-// The size that stands in front of the bytes, seven bits a byte, and what stands behind it.
-fn size(bytes: &[u8]) -> Option<(usize, &[u8])> {
-    let mut size = 0usize;
-    for at in 0..5 {
-        let byte = *bytes.get(at)?;
-        size |= ((byte & 127) as usize) << (7 * at);
-        if byte < 128 {
-            return Some((size, bytes.get(at + 1..)?));
-        }
-    }
-    None
 }

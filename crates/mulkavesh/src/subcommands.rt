@@ -1,9 +1,12 @@
 //! What each subcommand makes of the bytes of a module.
 
 ghost use Rattle.std.specs.Prelude.{◌≡◌, ◌∷◌, [], false};
-ghost use Rattle.mulkavesh.specs.Entries.{TellsList};
-ghost use Rattle.mulkavesh.specs.Subcommands.{AnswersOrder, AnswersText, AnswersWhy, IsSame, NotesNothing, Writes, WritesQuietly, named, operand_bytes, vec_bytes};
-ghost use Rattle.walrus_tools.specs.Handed.{ReportsOn, RunsOn, config_of, defaults};
+ghost use Rattle.mulkavesh.specs.Chains.{chain_told};
+ghost use Rattle.mulkavesh.specs.Entries.{listed_told};
+ghost use Rattle.mulkavesh.specs.Reports.{counted_json};
+ghost use Rattle.mulkavesh.specs.Subcommands.{AnswersOrder, AnswersWhy, NotesNothing, Reports, Told, Writes, WritesQuietly, named, operand_bytes, vec_bytes};
+ghost use Rattle.walrus_tools.specs.Handed.{RunsOn, config_of, defaults};
+ghost use Rattle.walrus_tools.specs.Kinds.{AnswersCounted};
 ghost use Rattle.walrus_tools.specs.Sized.{AnswersListed};
 ghost use Rattle.walrus_tools.specs.Stripped.{AnswersStripped};
 ghost use Rattle.walrus_tools.specs.Wanted.{config_wanted};
@@ -13,7 +16,8 @@ use crate::order::{Order, Work};
 use crate::{chains, entries, reports, sections, verdicts};
 use std::alloc::Global;
 use walrus_tools::{
-    Choice, Error, Wanted, gc, gc_counted, list, report, snip, strip, stub, why, why_called,
+    Chain, Choice, Error, Wanted, counts, gc, gc_counted, list, report, snip, strip, stub, why,
+    why_called,
 };
 
 /// What a subcommand makes.
@@ -94,26 +98,29 @@ fn noted(alloc: Global, wanted: Wanted, bytes: &[u8]) -> Result<Made, Error>
 
 // How many items are kept and dropped.
 fn reported(alloc: Global, order: &Order, bytes: &[u8]) -> Result<Vec<u8>, Error>
-    ensures { AnswersText order.now.is_json IsSame
-        (ReportsOn (config_wanted order.now.wanted) bytes.now vec_bytes) result }
+    ensures { Reports order.now.is_json (config_wanted order.now.wanted) bytes.now result }
 {
-    let text = report(alloc, bytes, order.wanted)?;
     if order.is_json {
-        return Ok(reports::json(alloc, &text)?);
+        return counted(alloc, order.wanted, bytes);
     }
-    Ok(text)
+    report(alloc, bytes, order.wanted)
+}
+
+// The counts of a report, for programs.
+fn counted(alloc: Global, wanted: Wanted, bytes: &[u8]) -> Result<Vec<u8>, Error>
+    ensures { Told counted_json (AnswersCounted (config_wanted wanted) bytes.now) result }
+{
+    let counted = counts(alloc, bytes, wanted)?;
+    Ok(reports::json(alloc, &counted)?)
 }
 
 // Which functions stay.
 fn listed(alloc: Global, order: &Order, bytes: &[u8]) -> Result<Vec<u8>, Error>
-    ensures { AnswersText order.now.is_json TellsList
+    ensures { Told (listed_told order.now.is_json)
         (AnswersListed (config_wanted order.now.wanted) bytes.now) result }
 {
-    let list = list(alloc, bytes, order.wanted)?;
-    if order.is_json {
-        return Ok(entries::json(alloc, &list)?);
-    }
-    Ok(entries::text(alloc, &list)?)
+    let functions = list(alloc, bytes, order.wanted)?;
+    Ok(entries::told(alloc, order.is_json, &functions)?)
 }
 
 // What is left without the custom sections of this name.
@@ -129,22 +136,19 @@ fn stripped(alloc: Global, bytes: &[u8], operand: &str) -> Result<Vec<u8>, Error
 
 // Why a function stays.
 fn reasoned(alloc: Global, order: &Order, bytes: &[u8], operand: &str) -> Result<Vec<u8>, Error>
-    ensures { AnswersText order.now.is_json IsSame
+    ensures { Told (chain_told order.now.is_json)
         (AnswersWhy (config_of defaults) bytes.now operand.now) result }
 {
-    let text = chain_of(alloc, bytes, operand)?;
-    if order.is_json {
-        return Ok(chains::json(alloc, &text)?);
-    }
-    Ok(text)
+    let chain = chain_of(alloc, bytes, operand)?;
+    Ok(chains::told(alloc, order.is_json, &chain)?)
 }
 
 // A chain to the function that is meant: by its index, or else by a name, its own or that of an export.
-fn chain_of(alloc: Global, bytes: &[u8], operand: &str) -> Result<Vec<u8>, Error>
+fn chain_of(alloc: Global, bytes: &[u8], operand: &str) -> Result<Chain, Error>
     ensures { AnswersWhy (config_of defaults) bytes.now operand.now result }
 {
     match operand.parse::<u32>() {
-        Ok(index) => Ok(why(alloc, bytes, index)?.into_bytes()),
-        Err(_) => Ok(why_called(alloc, bytes, operand)?.into_bytes()),
+        Ok(index) => why(alloc, bytes, index),
+        Err(_) => why_called(alloc, bytes, operand),
     }
 }

@@ -2,7 +2,6 @@
 use Rattle.std.proofs.Common.{◌≡◌, ℕ, ◌+◌, suc, Bool, true, false, cond, append-nil, List, [], ◌∷◌, ◌++◌, map, length, filter, None, Some, refl, sym, ap, ap₂, ◌∙◌, subst, inl, inr, arith, ⊎_elim}
 use Rattle.std.specs.Prelude.{All, Option, IfErr, IfOk, Result, Ok, Err}
 use Rattle.std.specs.List.{AllZip}
-use Rattle.std.specs.Global.{Vec as Bytes}
 use Rattle.std.specs.Str.{IsUtf8}
 use Rattle.std.proofs.lemmas.List.Elements.{All-append, All-filter, All-head, All-map, All-tail, All-weaker, filter-append, filter_passes}
 use Rattle.wasm_frames.specs.Record.{Custom}
@@ -104,10 +103,10 @@ transform_refused A c choices p names ms dylinks (Err e) h chosen same texts =
     cause_asked (Unit {0}) A c (with_sections (parts_view p) ms) (refusal_of e)
     (h c (with_sections (parts_view p) ms) (all_asked names ms) chosen (asks p names ms (all_asked names ms) refl (texts_asked names ms texts)) (group_asked names ms ∙ sym same))
 
-pub spells_as : {E : Type 0} (p : Parts) (names : Lookup) (ch ds : Choices) (cs es : List Custom) → ch ≡ ds → cs ≡ es → (result : Result (Bytes ℕ) E)
-    → IfOk result (λ bytes. Spells p (task ch names cs) bytes.items) → IfOk result (λ bytes. Spells p (task ds names es) bytes.items)
-spells_as p names ch ds cs es choices same result h =
-    subst (λ (x : Choices). IfOk result (λ bytes. Spells p (task x names es) bytes.items)) choices (subst (λ (l : List Custom). IfOk result (λ bytes. Spells p (task ch names l) bytes.items)) same h)
+pub spells_as : {X E : Type 0} (view : X → List ℕ) (p : Parts) (names : Lookup) (ch ds : Choices) (cs es : List Custom) → ch ≡ ds → cs ≡ es → (result : Result X E)
+    → IfOk result (λ x. Spells p (task ch names cs) (view x)) → IfOk result (λ x. Spells p (task ds names es) (view x))
+spells_as view p names ch ds cs es choices same result h =
+    subst (λ (c : Choices). IfOk result (λ x. Spells p (task c names es) (view x))) choices (subst (λ (l : List Custom). IfOk result (λ x. Spells p (task ch names l) (view x))) same h)
 
 pub if_ok_always : {X E : Type 0} (P : Type 0) (result : Result X E) → P → IfOk result (λ _. P)
 if_ok_always P (Ok x) h = h
@@ -116,17 +115,9 @@ if_ok_always P (Err e) h = tt
 -- ---- sections that followed
 
 -- under the plan by which it was told
-pub told_so : (p : Parts) (c : Config) (prepared : Prepared) (dylinks : List Custom) (t : CodeTransform) (keeps : Bool) → keeps ≡ true → IsPrepared p prepared
-    → TellsTransform p (choices_of c) (index_of prepared.indices) dylinks keeps t → IsToldOf c (lent p) dylinks (transform_of t)
-told_so p c prepared dylinks t keeps on planned tells = record {
-  parts = p;
-  holds = refl;
-  prepared = prepared;
-  planned = planned;
-  transform = t;
-  is = refl;
-  tells = subst (λ (b : Bool). TellsTransform p (choices_of c) (index_of prepared.indices) dylinks b t) on tells;
-}
+pub told_so : (p : Parts) (c : Config) (prepared : Prepared) (dylinks : List Custom) (t : CodeTransform) → IsPrepared p prepared
+    → TellsTransform p (choices_of c) (index_of prepared.indices) dylinks true t → IsToldOf c (lent p) dylinks (transform_of t)
+told_so p c prepared dylinks t planned tells = record { parts = p; holds = refl; prepared = prepared; planned = planned; transform = t; is = refl; tells = tells }
 
 module _ {V : Type 0} {O : V → Type 0} (G : (v : V) → Ghosts (O v)) where
   -- where none was handed the transform
@@ -157,26 +148,14 @@ module _ {V : Type 0} {O : V → Type 0} (G : (v : V) → Ghosts (O v)) where
   followed_or_not x (Some s) (Some t) h = (h.0, inl h.1)
 
   -- where what comes behind it is refused
-  pub left_anyway : {X Y E : Type 0} (hands : Bool) (Tells : X → Transform → Type 0) (Other : Y → Transform → Type 0) (Told : Transform → Type 0) (old new : ModuleCustomSections (SectionEntry V O)) (r : X) (e : E)
-      → (hands ≡ true → (x : Transform) → Tells r x → Told x) → LeavesCustoms G {E = E} hands Tells Told old new (Ok r) → LeavesCustoms G hands Other Told old new (Err e)
-  left_anyway false Tells Other Told old new r e through h = h
-  left_anyway true Tells Other Told old new r e through (x, (is, all)) = inr (x, (through refl x is, record { places = all.places; comes = λ i. followed_or_not x _ _ (all.comes i) }))
-
-  -- where one refuses
-  pub left_midway : {X E : Type 0} (hands : Bool) (Tells : X → Transform → Type 0) (Told : Transform → Type 0) (old new : ModuleCustomSections (SectionEntry V O)) (e : E) (x : Transform) → hands ≡ true → Told x
-      → EachComes G (MayFollow x) (sections old) (sections new) → LeavesCustoms G hands Tells Told old new (Err e)
-  left_midway false Tells Told old new e x on told all = absurd (cc)
-  left_midway true Tells Told old new e x on told all = inr (x, (told, all))
+  pub left_anyway : {X : Type 0} (E : Type 0) (Tells : X → Transform → Type 0) (Told : Transform → Type 0) (old new : ModuleCustomSections (SectionEntry V O)) (r : X) (e : E)
+      → ((x : Transform) → Tells r x → Told x) → LeavesCustoms G {E = E} true Tells Told old new (Ok r) → LeavesCustoms G {E = E} true Tells Told old new (Err e)
+  left_anyway E Tells Told old new r e through (x, (is, all)) = inr (x, (through x is, record { places = all.places; comes = λ i. followed_or_not x _ _ (all.comes i) }))
 
   pub left_err : {X Y E : Type 0} (hands : Bool) (Tells : X → Transform → Type 0) (Other : Y → Transform → Type 0) (Told : Transform → Type 0) (old new : ModuleCustomSections (SectionEntry V O)) (e : E)
       → LeavesCustoms G hands Tells Told old new (Err e) → LeavesCustoms G hands Other Told old new (Err e)
   left_err false Tells Other Told old new e h = h
   left_err true Tells Other Told old new e h = h
-
-  pub left_ok : {X Y : Type 0} (E : Type 0) (hands : Bool) (Tells : X → Transform → Type 0) (Other : Y → Transform → Type 0) (Told : Transform → Type 0) (old new : ModuleCustomSections (SectionEntry V O)) (r : X) (s : Y)
-      → ((x : Transform) → Tells r x → Other s x) → LeavesCustoms G {E = E} hands Tells Told old new (Ok r) → LeavesCustoms G {E = E} hands Other Told old new (Ok s)
-  left_ok E false Tells Other Told old new r s through h = h
-  left_ok E true Tells Other Told old new r s through (x, (is, all)) = (x, (through x is, all))
 
   pub left_told : {X Y : Type 0} (E : Type 0) (hands : Bool) (Tells : X → Transform → Type 0) (Other : Y → Transform → Type 0) (Told : Transform → Type 0) (old new : ModuleCustomSections (SectionEntry V O)) (r : X) (s : Y)
       → (hands ≡ true → (x : Transform) → Tells r x → Other s x) → LeavesCustoms G {E = E} hands Tells Told old new (Ok r) → LeavesCustoms G {E = E} hands Other Told old new (Ok s)

@@ -46,6 +46,10 @@ defaults = record {
   preserve_code_transform = false;
 }
 
+-- these flags, with three that are chosen
+abbrev pub with_choices : (names producers legacy : Bool) → Flags → Flags
+with_choices names producers legacy f = record f { generate_name_section = names; generate_producers_section = producers; legacy_exceptions = legacy }
+
 -- asking for debug information asks for the code transform too; asking for none leaves that flag
 abbrev pub with_dwarf : Bool → Flags → Flags
 with_dwarf true f = record f { generate_dwarf = true; preserve_code_transform = true }

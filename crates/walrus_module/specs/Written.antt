@@ -1,5 +1,5 @@
 -- What parts of a module and its custom sections are written as, and what custom sections are told of the code ("Binary Format > Modules").
-use Rattle.std.specs.Prelude.{ℕ, Bool, true, All, IfErr, IfOk, Result, Err, ◌≡◌, ◌⊎◌}
+use Rattle.std.specs.Prelude.{ℕ, Bool, true, false, All, IfErr, IfOk, Result, Err, ◌≡◌, ◌⊎◌}
 use Rattle.std.specs.Global.{Vec}
 use Rattle.std.specs.Str.{IsUtf8}
 use Rattle.walrus_code.specs.Names.{Lookup}
@@ -28,26 +28,28 @@ module _ {V : Type 0} {O : V → Type 0} (G : (v : V) → Ghosts (O v)) (f : Fla
   abbrev pub module_with : ModuleCustomSections (SectionEntry V O) → Abstract
   module_with customs = with_sections (parts_view parts) (meant G customs)
 
-  -- the bytes of these parts with these sections, each asked for its data under these indices
-  module _ (indices : Lookup) (customs : ModuleCustomSections (SectionEntry V O)) where
-    pub record WritesSections (answer : Result (Vec ℕ) Error) : Type 0 where
+  -- the bytes of these parts with these sections, each asked for its data under these indices, and where that is asked for their transform
+  module _ (indices : Lookup) (asked : Bool) (customs : ModuleCustomSections (SectionEntry V O)) where
+    pub record WritesSections (answer : Result (Vec ℕ × CodeTransform) Error) : Type 0 where
       -- the bytes are the one spelling of what the module is written as
-      pub emitted : IfOk answer (λ bytes. IsEmitted (config_of f) (module_with customs) bytes.items)
+      pub emitted : IfOk answer (λ r. IsEmitted (config_of f) (module_with customs) r.0.items)
       -- a refusal has its cause, and where a cause stands it is refused
       pub refused : RefusesToWrite (OneAskedMayRefuse (meant G customs)) (config_of f) (module_with customs) (told answer)
       -- they are spelled under these indices, with what the sections answered
-      pub spells : IfOk answer (λ bytes. Spells parts (task (choices_of (config_of f)) indices (all_asked indices (meant G customs))) bytes.items)
+      pub spells : IfOk answer (λ r. Spells parts (task (choices_of (config_of f)) indices (all_asked indices (meant G customs))) r.0.items)
       -- the names of the sections are UTF-8
       pub texts : IfOk answer (λ _. All (λ c. IsUtf8 c.name) (all_asked indices (meant G customs)))
+      -- where it is asked for, and a module of indices can say the sections, the transform is that of the bytes, without locations
+      pub transform : asked ≡ true
+          → IfOk answer (λ r. IsSayable (module_with customs) → IsTransformOf (config_of f) false (locations_at parts) (module_with customs) r.0.items (transform_of r.1))
 
-  -- where the code comes to stand, where that is asked for or the sections are to follow it; and these have followed it, where they are to
-  module _ (indices : Lookup) (asked : Bool) (old new : ModuleCustomSections (SectionEntry V O)) where
+  -- where the code comes to stand, with the locations of operators; and the sections have followed it
+  module _ (indices : Lookup) (old new : ModuleCustomSections (SectionEntry V O)) where
     pub record FollowsCode (answer : Result CodeTransform Error) : Type 0 where
       -- on Ok: the transform of whatever bytes are written under these indices with the same sections of dynamic linking
-      pub told : (f.preserve_code_transform ≡ true) ⊎ (asked ≡ true)
-          → IfOk answer (TellsTransform parts (choices_of (config_of f)) indices (asked_first (meant G old)) f.preserve_code_transform)
-      -- custom sections are as they were, or each has followed it
-      pub customs : LeavesCustoms G f.preserve_code_transform (λ t x. x ≡ transform_of t) (IsToldOf (config_of f) (lent parts) (asked_first (meant G old))) old new answer
+      pub told : IfOk answer (TellsTransform parts (choices_of (config_of f)) indices (asked_first (meant G old)) true)
+      -- each custom section has followed it
+      pub customs : LeavesCustoms G true (λ t x. x ≡ transform_of t) (IsToldOf (config_of f) (lent parts) (asked_first (meant G old))) old new answer
       -- a refusal has its cause
       pub refused : IfErr answer (λ e. RefusesToWrite {X = Unit {0}} (OneAskedMayRefuse (meant G old)) (config_of f) (module_with new) (Err (refusal_of e)))
       pub raw : AreRaw (sections old) → new ≡ old

@@ -60,7 +60,7 @@ impl fmt::Debug for ModuleConfig {
 }
 
 impl ModuleConfig {
-    ghost use Rattle.walrus_module.specs.Flags.{defaults, with_dwarf};
+    ghost use Rattle.walrus_module.specs.Flags.{defaults, with_choices, with_dwarf};
     ghost use Rattle.walrus_module.specs.Located.{IsHooked};
 
     /// The default configuration.
@@ -70,6 +70,22 @@ impl ModuleConfig {
     {
         ModuleConfig {
             switches: Switches::new(),
+            on_instr_loc: None,
+        }
+    }
+
+    /// The default configuration but for three choices: whether the name section is written, whether the producers section is, and whether
+    /// legacy exception handling is read.
+    pub fn of_choices(names: bool, producers: bool, legacy: bool) -> ModuleConfig
+        ensures value { flags result ≡ with_choices names producers legacy defaults }
+        ensures hook { HasNoHook result }
+    {
+        let mut switches = Switches::new();
+        switches.generate_name_section = names;
+        switches.generate_producers_section = producers;
+        switches.legacy_exceptions = legacy;
+        ModuleConfig {
+            switches,
             on_instr_loc: None,
         }
     }

@@ -1,5 +1,5 @@
 //! The bytes of a module's parts with custom sections of its own, which follow the code before, where that is asked for.
-ghost use Rattle.std.specs.Prelude.{IfErr, IfOk, Err};
+ghost use Rattle.std.specs.Prelude.{IfErr, IfOk, Err, true};
 ghost use Rattle.walrus_code.specs.Indices.{index_of};
 ghost use Rattle.walrus_contents.specs.View.{parts_view};
 ghost use Rattle.walrus_model.specs.Dead.{HasDead};
@@ -36,8 +36,7 @@ impl ModuleCustomSections {
         requires planned { IsPrepared parts prepared.now }
         ensures told { IfOk result (TellsTransform parts.entry
             (choices_of (config_of (flags_of switches))) (index_of prepared.now.indices)
-            (asked_first (meant ⟦<dyn CustomSection as CustomSection>⟧ self.now))
-            switches.preserve_code_transform) }
+            (asked_first (meant ⟦<dyn CustomSection as CustomSection>⟧ self.now)) true) }
         ensures refused { IfErr result (λ e. RefusesToWrite {X = Unit {0}}
             (OneAskedMayRefuse (meant ⟦<dyn CustomSection as CustomSection>⟧ self.now))
             (config_of (flags_of switches))
@@ -53,23 +52,23 @@ impl ModuleCustomSections {
             prepared,
             dylinks.as_slice(),
             &switches.choices(),
-            switches.preserve_code_transform,
         )
     }
 
-    // The bytes of these parts with these sections.
+    // The bytes of these parts with these sections, and where the code stands in them, where that is asked for.
     fn written(
         &self,
         alloc: Global,
         parts: Parts<'_>,
         prepared: Prepared,
         switches: Switches,
-    ) -> Result<Vec<u8>>
+        tells: bool,
+    ) -> Result<(Vec<u8>, CodeTransform)>
         requires there { HasDead (parts_view parts) → ⊥ }
         requires declared { NothingUndeclared (parts_view parts) }
         requires planned { IsPrepared parts prepared }
         ensures { WritesSections ⟦<dyn CustomSection as CustomSection>⟧ (flags_of switches) parts.entry
-            (index_of prepared.indices) self.now result }
+            (index_of prepared.indices) tells self.now result }
     {
         let asked = self.asked(alloc, &prepared.indices)?;
         let customs = raw_customs(alloc, asked.as_slice())?;
@@ -79,49 +78,33 @@ impl ModuleCustomSections {
             prepared,
             customs.as_slice(),
             &switches.choices(),
+            tells,
         )
     }
 
-    // Where the code comes to stand, where that is asked for or these sections are to follow it; and has them follow it, where they are to.
+    // Where the code comes to stand, behind which these sections have followed it.
     fn followed(
         &mut self,
         alloc: Global,
         parts: Parts<'_>,
         prepared: &Prepared,
         switches: Switches,
-        tells: bool,
     ) -> Result<CodeTransform>
         requires there { HasDead (parts_view parts) → ⊥ }
         requires declared { NothingUndeclared (parts_view parts) }
         requires planned { IsPrepared parts prepared.now }
         ensures { FollowsCode ⟦<dyn CustomSection as CustomSection>⟧ (flags_of switches) parts.entry
-            (index_of prepared.now.indices) tells self.old self.new result }
+            (index_of prepared.now.indices) self.old self.new result }
     {
-        let keeps = switches.preserve_code_transform;
-        if !keeps && !tells {
-            return Ok(untold(alloc));
-        }
         let transform = self.transform(alloc, parts, prepared, switches)?;
-        if !keeps {
-            return Ok(transform);
-        }
         self.follow(&transform)?;
         Ok(transform)
     }
 }
 
-// No places: the transform of bytes that aren't asked about.
-fn untold(alloc: Global) -> CodeTransform {
-    CodeTransform {
-        function_ranges: Vec::new(alloc),
-        code_section_start: 0,
-        instruction_map: Vec::new(alloc),
-    }
-}
-
 // The bytes of parts in which nothing dead is named and nothing is undeclared, with these sections, and where the code stands in them, where that
 // is asked for or these sections are to follow it. Under that flag each section is handed the transform before it is asked for its data, but those
-// of dynamic linking and debug information.
+// of dynamic linking and debug information; so it is told before the bytes are written. Else it is told of the records that are written.
 pub(crate) fn write_parts(
     alloc: Global,
     parts: Parts<'_>,
@@ -135,7 +118,11 @@ pub(crate) fn write_parts(
         customs.old customs.new result }
 {
     let prepared = prepare(alloc, parts)?;
-    let transform = customs.followed(alloc, parts, &prepared, switches, tells)?;
-    let bytes = customs.written(alloc, parts, prepared, switches)?;
+    if !switches.preserve_code_transform {
+        return customs.written(alloc, parts, prepared, switches, tells);
+    }
+    let transform = customs.followed(alloc, parts, &prepared, switches)?;
+    let (bytes, untold) = customs.written(alloc, parts, prepared, switches, false)?;
+    drop(untold);
     Ok((bytes, transform))
 }

@@ -10,7 +10,6 @@ use Rattle.walrus_model.specs.Abstract.{Abstract, Custom}
 use Rattle.walrus_model.specs.Customs.{written_customs}
 use Rattle.walrus_model.specs.Sections.{custom_of}
 use Rattle.walrus_theorem.specs.Text.{sections_of}
-use Rattle.std.specs.Global.{Vec}
 use Rattle.walrus_contents.specs.View.{parts_view}
 use Rattle.walrus_contents.specs.declared.parts.Parts.{Parts}
 use Rattle.walrus_model.specs.Config.{Config}
@@ -86,6 +85,6 @@ module _ (c : Config) (p : Parts) (lives : HasDead (parts_view p) → ⊥) (decl
       subst (λ (x : Choices). (bytes : List ℕ) → Spells p (task x names sections) bytes → PassesLimits c W → ⊥) (sym (chosen_so c choices with)) (small_with (exact choices with))
 
   -- what is written is what emission promises
-  pub emitted_ok : (choices : Choices) → IsWrittenWith c choices → (result : Result (Vec ℕ) Error) → IfOk result (λ bytes. Spells p (task choices names sections) bytes.items) → IfOk result (λ bytes. IsEmitted c W bytes.items)
-  emitted_ok choices with (Ok bytes) s = emitted c p (task choices names sections) with declared own roots asked texts bytes.items s
-  emitted_ok choices with (Err e) s = tt
+  pub emitted_ok : (choices : Choices) → IsWrittenWith c choices → {X : Type 0} (view : X → List ℕ) (result : Result X Error) → IfOk result (λ x. Spells p (task choices names sections) (view x)) → IfOk result (λ x. IsEmitted c W (view x))
+  emitted_ok choices with view (Ok x) s = emitted c p (task choices names sections) with declared own roots asked texts (view x) s
+  emitted_ok choices with view (Err e) s = tt

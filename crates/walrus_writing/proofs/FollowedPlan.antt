@@ -14,7 +14,7 @@ use Rattle.walrus_writing.specs.Records.{FollowPlan, IsMade}
 use Rattle.walrus_writing.specs.declared.write.Choices.{Choices}
 use Rattle.walrus_writing.specs.declared.write.Made.{Made}
 
-pub followed : (p : Parts) (prepared : Prepared) → IsPrepared p prepared → (choices : Choices) (functions : List ℕ) (made : Made) (order : List (Id FunctionKey))
+abbrev pub followed : (p : Parts) (prepared : Prepared) → IsPrepared p prepared → (choices : Choices) (functions : List ℕ) (made : Made) (order : List (Id FunctionKey))
     → map Some functions ≡ map (λ id. option_and_then (type_index (index_of prepared.indices)) ((parts_view p).functions (place id))) order → order ≡ prepared.plan.own_functions.items
     → IsMade p prepared choices made → FollowPlan p prepared.indices prepared.data_count choices functions made
 followed p prepared planned choices functions made order functions_are same are_made = record {

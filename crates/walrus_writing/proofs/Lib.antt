@@ -1,4 +1,5 @@
 pub mod Bare
+pub mod BodiesTold
 pub mod CarriedOver
 pub mod ChosenFlags
 pub mod CountStands
@@ -28,6 +29,7 @@ pub mod NamesStand
 pub mod NoCauseAll
 pub mod NoCauseBodies
 pub mod NoCauseHeaps
+pub mod OffsetsThere
 pub mod OneRecords
 pub mod OneTransform
 pub mod OperatorsStand

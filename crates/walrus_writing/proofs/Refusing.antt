@@ -44,6 +44,7 @@ use Rattle.walrus_items.specs.Tags.{TagValue, tags}
 use Rattle.walrus_contents.specs.View.{data_of, element_of, export_of, global_of, memory_of, parts_view, table_of, tag_of}
 use Rattle.walrus_contents.specs.declared.parts.Parts.{Parts}
 use Rattle.walrus_base.proofs.Lookups.{as_long}
+use Rattle.walrus_model.proofs.PlacedTypes.{zip_length}
 use Rattle.walrus_model.proofs.Slots.{stands_at}
 use Rattle.walrus_model.specs.Abstract.{DataSegment, Element, Memory, ProducerField}
 use Rattle.walrus_model.specs.Plan.{AreNumbered, IsPlan}
@@ -52,6 +53,7 @@ use Rattle.walrus_model.specs.Sections as said
 use Rattle.walrus_base.proofs.Lists.{map-map, map-same_on}
 use Rattle.walrus_items.specs.Errors.{error_of_wire}
 use Rattle.walrus_items.specs.declared.error.Error.{Error}
+use Rattle.walrus_items.specs.declared.transform.CodeTransform.{CodeTransform}
 use Rattle.walrus_items.specs.declared.error.Error.TheVariants as Parts_error
 use Rattle.walrus_theorem.specs.Spelling.{IsCount}
 use Rattle.walrus_theorem.specs.Text.{NameText, raw_field}
@@ -61,20 +63,20 @@ use Rattle.wasm_writer.specs.Spelling.{SectionFits, count_place, range_of}
 use Rattle.wasm_writer.specs.declared.places.CodePlaces.{CodePlaces}
 use Rattle.wasm_wire.specs.declared.written.CustomGroup.TheVariants.{Dylink}
 use Rattle.walrus_groups.proofs.OneList.{All-front}
-use Rattle.walrus_writing.specs.Located.{ArePlaces}
+use Rattle.walrus_writing.specs.Located.{ArePlaces, TellsBodies, TellsItems}
 use Rattle.walrus_writing.specs.Customs.{Task, chosen_producers, sections_made}
 use Rattle.walrus_writing.specs.Bodies.{AreBodies}
-use Rattle.walrus_writing.specs.Parts.{BodySeen, export_with_index, memory_limits, tag_index, type_index, unplaced}
+use Rattle.walrus_writing.specs.Parts.{BodySeen, HasBytes, export_with_index, memory_limits, tag_index, type_index, unplaced}
 use Rattle.walrus_plan.specs.Brought.{import_numbers, own_of, own_places, places_brought}
 use Rattle.walrus_writing.specs.Imported.{IsEntryAt}
 use Rattle.walrus_plan.specs.Places.{places, places_own}
-use Rattle.walrus_writing.specs.Records.{IsModuleOf, Records, Spells, customs_written, module_of, names_written, sections_with}
+use Rattle.walrus_writing.specs.Records.{DoesNotFit, IsModuleOf, Records, Spells, customs_written, module_of, names_written, sections_with}
 use Rattle.walrus_writing.specs.Elements.{ChoosesFlag, IsSpelledElement, RefusesElements}
 use Rattle.walrus_writing.specs.Globals.{IsSpelledGlobal, RefusesGlobals}
 use Rattle.walrus_writing.specs.Segments.{IsSpelledData, RefusesData}
 use Rattle.walrus_writing.proofs.DataRecords.{all_own}
 use Rattle.walrus_plan.specs.Reads.{ReadsInOrder}
-use Rattle.walrus_writing.specs.Refusals.{ABody, AType, ATable, AGlobal, AnElement, ASegment, RefusesBodies, RefusesItems, RefusesTypes}
+use Rattle.walrus_writing.specs.Refusals.{ABody, AType, ATable, AGlobal, AnElement, ASegment, RefusesBodies, RefusesItems, RefusesModule, RefusesTypes}
 use Rattle.walrus_writing.specs.Tables.{IsSpelledTable, RefusesTables}
 use Rattle.walrus_plan.specs.declared.plan.Plan.{Plan}
 use Rattle.walrus_writing.proofs.OwnPlaces.{defined_own, parted_own, seen_by_own}
@@ -125,14 +127,37 @@ module _ (p : Parts) (job : Task) (X : Type 0) where
 
 -- ---- the module
 
-module _ (p : Parts) (job : Task) (m : wire.Module) (made : IsModuleOf p job m) where
+module _ (p : Parts) (job : Task) (order : List ℕ) (m : wire.Module) (made : IsModuleOf p job order m) where
   pub module_written : (bytes : List ℕ) → bytes ≡ module_bytes m → ModuleFits m → Spells p job bytes
   module_written bytes are fit = record { records = made.records; names_are = made.names_are; fit = subst ModuleFits made.is fit; are = are ∙ ap module_bytes made.is }
+
+  unfit : (ModuleFits m → ⊥) → DoesNotFit p job
+  unfit refused = record { records = made.records; names_are = made.names_are; too_large = λ fit. refused (subst ModuleFits (sym made.is) fit) }
 
   pub module_refused : (X : Type 0) (e : WireError) → WritesModule (Err e) m → RefusesItems {X = X} p job (Err (error_of_wire e))
   module_refused X Wire.Malformed refused = absurd refused
   module_refused X (Wire.Memory e) refused = tt
-  module_refused X Wire.TooLarge refused = inr (record { records = made.records; names_are = made.names_are; too_large = λ fit. refused (subst ModuleFits (sym made.is) fit) })
+  module_refused X Wire.TooLarge refused = inr (unfit refused)
+
+  pub measure_refused : (X : Type 0) (e : Error) → RefusesModule m e → RefusesItems {X = X} p job (Err e)
+  measure_refused X (Parts_error.Memory e) refused = tt
+  measure_refused X Parts_error.TooLarge refused = inr (unfit refused)
+  measure_refused X _ refused = absurd refused
+
+  -- each function has a body
+  pub as_many_bodies : length order ≡ length m.bodies
+  as_many_bodies =
+      ap length (sym made.order_is)
+      ∙ zip_length (HasBytes p made.records.names job.choices.features) (made.records.own Functions) made.records.bodies made.records.bodies_are
+      ∙ sym (length-map made.records.bodies unplaced)
+      ∙ ap (λ (x : wire.Module). length x.bodies) (sym made.is)
+
+  pub items_told : (x : CodeTransform) → TellsBodies m order x → TellsItems p job x
+  items_told x told = record {
+    records = made.records;
+    names_are = made.names_are;
+    told = subst (λ (z : wire.Module). TellsBodies z (made.records.own Functions) x) made.is (subst (λ (l : List ℕ). TellsBodies m l x) (sym made.order_is) told);
+  }
 
 -- ---- the records
 
@@ -307,8 +332,8 @@ module _ (p : Parts) (job : Task) (names : Lookup) (named : names ≡ job.names)
         ∙ ap (λ (all : List wire.Body). with_rest all customs) codes
         ∙ ap (with_rest (map unplaced (map (λ (b : BodySeen). b.bytes) bodies))) (customs_are ∙ ap (λ (names : NameText). job.sections ++ sections_made names producers_chosen) names_same)
 
-    pub records_made : IsModuleOf p job m
-    records_made = record { records = records_of; names_are = named; is = module_is }
+    pub records_made : IsModuleOf p job (map place plan.own_functions.items) m
+    records_made = record { records = records_of; names_are = named; order_is = refl; is = module_is }
 
   -- the module of these sections with other custom sections: those of dynamic linking alone
   module _ (order : List ℕ) (code : List wire.Body) (customs dylinks : List wire.Custom) (none : order ≡ []) (codes : code ≡ map unplaced (map (λ (b : BodySeen). b.bytes) bodies)) (customs_are : customs ≡ dylinks) where

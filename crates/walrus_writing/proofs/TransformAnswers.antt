@@ -1,5 +1,5 @@
 -- What the call that tells the transform promises, from what its steps do.
-use Rattle.std.proofs.Common.{◌≡◌, ℕ, ◌+◌, ◌≤◌, Bool, List, [], ◌∷◌, length, map, sym, ap, ◌∙◌, subst}
+use Rattle.std.proofs.Common.{◌≡◌, ℕ, ◌+◌, ◌≤◌, true, List, [], ◌∷◌, length, map, sym, ap, ◌∙◌, subst}
 use Rattle.std.specs.Prelude.{All, Err, zip}
 use Rattle.std.specs.List.{AllZip}
 use Rattle.std.specs.declared.ops.Range.{Range}
@@ -30,7 +30,6 @@ use Rattle.walrus_model.specs.WellMade.{ImportsMatch}
 use Rattle.walrus_items.specs.Transform as parts
 use Rattle.walrus_items.specs.Transform.{location_of, transform_of}
 use Rattle.walrus_items.specs.declared.error.Error.{Error}
-use Rattle.walrus_items.specs.declared.error.Error.TheVariants.{Memory, NotWritable, TooLarge}
 use Rattle.walrus_items.specs.declared.transform.CodeTransform.{CodeTransform}
 use Rattle.walrus_plan.specs.Reads.{ReadsInOrder}
 use Rattle.walrus_theorem.specs.Refused as causes
@@ -47,7 +46,7 @@ use Rattle.walrus_writing.proofs.Emitting.{small, unfit}
 use Rattle.walrus_writing.proofs.LocatedBodies.{Located, bytes_of, moved_within, offsets_of, offsets_told, operators_within}
 use Rattle.walrus_writing.proofs.RefusesAll.{items_refused}
 use Rattle.walrus_writing.proofs.Refusing.{refuses_any}
-use Rattle.walrus_writing.proofs.TransformTold.{Offsets, is_transform_of, placed_many}
+use Rattle.walrus_writing.proofs.TransformTold.{Offsets, placed_many, told_before}
 
 -- ---- operators stand within the ranges of their bodies
 
@@ -75,7 +74,8 @@ module _ (p : Parts) (names : Lookup) (features : Features) where
     pub many_bodies : length bs ≡ length places.bodies.items
     many_bodies =
         sym (length-map bs (bytes_of p names features))
-        ∙ placed_many base (map (bytes_of p names features) bs)
+        ∙ sym (length-map (map (bytes_of p names features) bs) unplaced)
+        ∙ placed_many base (map unplaced (map (bytes_of p names features) bs))
         ∙ sym (length-map (placed_bodies base (map unplaced (map (bytes_of p names features) bs))) range_of)
         ∙ ap length (sym ranges_are)
 
@@ -105,15 +105,15 @@ module _ (p : Parts) (lives : HasDead (parts_view p) → ⊥) (declared : Nothin
         subst (λ (l : List ℕ). Offsets p l at.records.bodies rest) (sym at.order_is)
         (subst (λ (l : List (List ℕ)). Offsets p (map place ids) l rest) (sym at.bodies_are) (offsets_told p names choices.features ids bs located))
 
-    pub tells : (keeps : Bool) (x : CodeTransform) → x.code_section_start ≡ places.count → AreSorted by_ends (zip (map place ids) (map ends_of places.bodies.items)) (map parts.range_of x.function_ranges.items)
-        → LastPlaces keeps (all_placed_from (map (λ (r : Range ℕ). r.start) places.bodies.items) rest) (map location_of x.instruction_map.items) → TellsTransform p choices names dylinks keeps x
-    tells keeps x count sorted last = λ c v sections bytes with asked sayable same spells.
-        subst (λ (z : Abstract). IsTransformOf c keeps (locations_at p) z bytes (transform_of x)) (sym asked.parts)
-        (is_transform_of c p (task choices names sections) with lives declared v.customs v.section_roots asked.asked asked.texts (subst IsSayable asked.parts sayable) at.records at.names_are dylinks same rest rest_many told
-        bytes spells keeps (transform_of x) (count ∙ at.count)
+    pub tells : (x : CodeTransform) → x.code_section_start ≡ places.count → AreSorted by_ends (zip (map place ids) (map ends_of places.bodies.items)) (map parts.range_of x.function_ranges.items)
+        → LastPlaces true (all_placed_from (map (λ (r : Range ℕ). r.start) places.bodies.items) rest) (map location_of x.instruction_map.items) → TellsTransform p choices names dylinks true x
+    tells x count sorted last = λ c v sections bytes with asked sayable same spells.
+        subst (λ (z : Abstract). IsTransformOf c true (locations_at p) z bytes (transform_of x)) (sym asked.parts)
+        (told_before c p (task choices names sections) with lives declared v.customs v.section_roots asked.asked asked.texts (subst IsSayable asked.parts sayable) at.records at.names_are dylinks same rest rest_many told
+        bytes spells true (transform_of x) (count ∙ at.count)
         (subst (λ (l : List ℕ). AreSorted by_ends (zip l (map ends_of (map range_of (as_written (module_of at.records dylinks)).bodies))) (map parts.range_of x.function_ranges.items)) (sym at.order_is)
         (subst (λ (l : List (Range ℕ)). AreSorted by_ends (zip (map place ids) (map ends_of l)) (map parts.range_of x.function_ranges.items)) at.ranges sorted))
-        (subst (λ (l : List (Range ℕ)). LastPlaces keeps (all_placed_from (map (λ (r : Range ℕ). r.start) l) rest) (map location_of x.instruction_map.items)) at.ranges last))
+        (subst (λ (l : List (Range ℕ)). LastPlaces true (all_placed_from (map (λ (r : Range ℕ). r.start) l) rest) (map location_of x.instruction_map.items)) at.ranges last))
 
   -- ---- why it is refused
 

@@ -6,7 +6,7 @@ use Rattle.std.specs.Str.{IsUtf8}
 use Rattle.std.specs.declared.ops.Range.{Range}
 use Rattle.std.proofs.lemmas.List.Elements.{filter-append}
 use Rattle.std.proofs.lemmas.List.Sorted.{length_permutation}
-use Rattle.std.proofs.lemmas.List.{nil_from_length}
+use Rattle.std.proofs.lemmas.List.{length-map, nil_from_length}
 use Rattle.wasm_frames.specs.Record as wire
 use Rattle.wasm_frames.specs.Frames.{CustomSection, Frames, header}
 use Rattle.wasm_frames.specs.Spelling.{body_bytes}
@@ -93,9 +93,9 @@ placed_at n [] k b e = absurd (cc)
 placed_at n (x ∷ bs) zero b e = ap (λ (z : wire.Body). Some z.bytes) (some_inj _ b e)
 placed_at n (x ∷ bs) (suc k) b e = placed_at (n + length (body_bytes (unplaced x))) bs k b e
 
-pub placed_many : (n : ℕ) (bs : List (List ℕ)) → length bs ≡ length (placed_bodies n (map unplaced bs))
+pub placed_many : (n : ℕ) (bs : List wire.Body) → length bs ≡ length (placed_bodies n bs)
 placed_many n [] = refl
-placed_many n (x ∷ bs) = ap suc (placed_many (n + length (body_bytes (unplaced x))) bs)
+placed_many n (b ∷ bs) = ap suc (placed_many (n + length (body_bytes b)) bs)
 
 -- ---- nothing of nothing
 
@@ -156,19 +156,9 @@ module _ (c : Config) (p : Parts) (job : Task) (with : IsWrittenWith c job.choic
       ∙ sym (number_is r Functions f index (planned_index r.numbered r.is_plan Functions f index stands))
 
   as_many : length order ≡ length raw.bodies
-  as_many = zip_length (HasBytes p r.names job.choices.features) order r.bodies r.bodies_are ∙ placed_many (first_body (code_place M) (map unplaced r.bodies)) r.bodies
+  as_many = zip_length (HasBytes p r.names job.choices.features) order r.bodies r.bodies_are ∙ sym (length-map r.bodies unplaced) ∙ placed_many (first_body (code_place M) (map unplaced r.bodies)) (map unplaced r.bodies)
 
-  module _ (dylinks : List wire.Custom) (dylinks_are : group_of Dylink job.sections ≡ dylinks) (rest : List (List Pair)) (rest_many : length rest ≡ length order) (told : Offsets p order r.bodies rest) where
-    abbrev part : wire.Module
-    part = module_of r dylinks
-
-    code_same : code_place M ≡ code_place part
-    code_same = ap (λ (cs : List wire.Custom). length header + length (all_spelled (map CustomSection cs)) + length (all_spelled (before_code part)))
-        (dylinks_same job.sections (names_written r job.choices) (chosen_producers p job.choices) ∙ ap (group_of Dylink) dylinks_are)
-
-    bodies_same : (as_written part).bodies ≡ raw.bodies
-    bodies_same = ap (λ (n : ℕ). placed_bodies (first_body n (map unplaced r.bodies)) (map unplaced r.bodies)) (sym code_same)
-
+  module _ (rest : List (List Pair)) (rest_many : length rest ≡ length order) (told : Offsets p order r.bodies rest) where
     abbrev offsets : ℕ → List Pair
     offsets f = offsets_in order rest f
 
@@ -192,21 +182,12 @@ module _ (c : Config) (p : Parts) (job : Task) (with : IsWrittenWith c job.choic
         (at_place at.0 f b.bytes (got_where order f at) (placed_at (first_body (code_place M) (map unplaced r.bodies)) r.bodies at.0 b there)).stand
 
     module _ (bytes : List ℕ) (s : Spells p job bytes) (keeps : Bool) (x : Transform)
-        (count : x.code_section_start ≡ count_place (code_place part) part.bodies)
-        (sorted : AreSorted by_ends (zip order (map ends_of (map range_of (as_written part).bodies))) x.function_ranges)
-        (last : LastPlaces keeps (all_placed_from (map (λ (y : Range ℕ). y.start) (map range_of (as_written part).bodies)) rest) x.instruction_map) where
-      count_here : x.code_section_start ≡ count_place (code_place M) M.bodies
-      count_here = count ∙ ap (λ (n : ℕ). count_place n (map unplaced r.bodies)) (sym code_same)
-
-      sorted_here : AreSorted by_ends (zip order (map ends_of (map range_of raw.bodies))) x.function_ranges
-      sorted_here = subst (λ (bs : List wire.Body). AreSorted by_ends (zip order (map ends_of (map range_of bs))) x.function_ranges) bodies_same sorted
-
-      last_here : LastPlaces keeps (all_placed_from (map (λ (y : Range ℕ). y.start) (map range_of raw.bodies)) rest) x.instruction_map
-      last_here = subst (λ (bs : List wire.Body). LastPlaces keeps (all_placed_from (map (λ (y : Range ℕ). y.start) (map range_of bs)) rest) x.instruction_map) bodies_same last
-
+        (count : x.code_section_start ≡ count_place (code_place M) M.bodies)
+        (sorted : AreSorted by_ends (zip order (map ends_of (map range_of raw.bodies))) x.function_ranges)
+        (last : LastPlaces keeps (all_placed_from (map (λ (y : Range ℕ). y.start) (map range_of raw.bodies)) rest) x.instruction_map) where
       starts_with : (b : List ℕ) (bs : List (List ℕ)) → r.bodies ≡ b ∷ bs → CountStandsAt bytes x.code_section_start
       starts_with b bs some =
-          subst (λ (n : ℕ). CountStandsAt bytes n) (sym count_here)
+          subst (λ (n : ℕ). CountStandsAt bytes n) (sym count)
           (subst (λ (l : List ℕ). CountStandsAt l (count_place (code_place M) M.bodies)) (sym (bytes_one c p job with lives declared own roots asked texts sayable bytes s r names_are))
           (count_stands M (unplaced b) (map unplaced bs) (ap (map unplaced) some)))
 
@@ -219,16 +200,16 @@ module _ (c : Config) (p : Parts) (job : Task) (with : IsWrittenWith c job.choic
           inl (
             f.0,
             local f.0 (is_there order 0 f.0 f.1),
-            is_transform W R raw (imported_functions raw) order rest local listed (own_distinct r Functions) numbered as_many rest_many keeps bytes x (starts_with b bs some) sorted_here last_here,
+            is_transform W R raw (imported_functions raw) order rest local listed (own_distinct r Functions) numbered as_many rest_many keeps bytes x (starts_with b bs some) sorted last,
           )
       holds_by [] none =
           let no_order : order ≡ [] = nil_from_length order (zip_length (HasBytes p r.names job.choices.features) order r.bodies r.bodies_are ∙ ap length none) in
           inr (
             λ f h. Contains-none f (subst (λ (l : List ℕ). Contains l f) no_order (listed f h)),
             parts_same x no_transform
-                (nil_from_length x.function_ranges (length_permutation _ x.function_ranges sorted_here.moved ∙ ap (λ (l : List ℕ). length (zip l (map ends_of (map range_of raw.bodies)))) no_order))
-                (count_here ∙ ap (λ (l : List (List ℕ)). count_place (code_place M) (map unplaced l)) none)
-                (none_last keeps _ x.instruction_map (ap (λ (l : List (List ℕ)). all_placed_from (map (λ (y : Range ℕ). y.start) (map range_of (placed_bodies (first_body (code_place M) (map unplaced l)) (map unplaced l)))) rest) none) last_here),
+                (nil_from_length x.function_ranges (length_permutation _ x.function_ranges sorted.moved ∙ ap (λ (l : List ℕ). length (zip l (map ends_of (map range_of raw.bodies)))) no_order))
+                (count ∙ ap (λ (l : List (List ℕ)). count_place (code_place M) (map unplaced l)) none)
+                (none_last keeps _ x.instruction_map (ap (λ (l : List (List ℕ)). all_placed_from (map (λ (y : Range ℕ). y.start) (map range_of (placed_bodies (first_body (code_place M) (map unplaced l)) (map unplaced l)))) rest) none) last),
           )
 
       pub is_transform_of : IsTransformOf c keeps (locations_at p) W bytes x
@@ -245,3 +226,25 @@ module _ (c : Config) (p : Parts) (job : Task) (with : IsWrittenWith c job.choic
         no_others = λ f none. offsets_none order rest f (λ at. none (local f at));
         holds = holds_by r.bodies refl;
       }
+
+  -- ---- of places among the records with sections of dynamic linking alone
+
+  module _ (dylinks : List wire.Custom) (dylinks_are : group_of Dylink job.sections ≡ dylinks) where
+    abbrev part : wire.Module
+    part = module_of r dylinks
+
+    code_same : code_place M ≡ code_place part
+    code_same = ap (λ (cs : List wire.Custom). length header + length (all_spelled (map CustomSection cs)) + length (all_spelled (before_code part)))
+        (dylinks_same job.sections (names_written r job.choices) (chosen_producers p job.choices) ∙ ap (group_of Dylink) dylinks_are)
+
+    bodies_same : (as_written part).bodies ≡ raw.bodies
+    bodies_same = ap (λ (n : ℕ). placed_bodies (first_body n (map unplaced r.bodies)) (map unplaced r.bodies)) (sym code_same)
+
+    pub told_before : (rest : List (List Pair)) → length rest ≡ length order → Offsets p order r.bodies rest → (bytes : List ℕ) → Spells p job bytes → (keeps : Bool) (x : Transform)
+        → x.code_section_start ≡ count_place (code_place part) part.bodies → AreSorted by_ends (zip order (map ends_of (map range_of (as_written part).bodies))) x.function_ranges
+        → LastPlaces keeps (all_placed_from (map (λ (y : Range ℕ). y.start) (map range_of (as_written part).bodies)) rest) x.instruction_map → IsTransformOf c keeps (locations_at p) W bytes x
+    told_before rest many told bytes s keeps x count sorted last =
+        is_transform_of rest many told bytes s keeps x
+        (count ∙ ap (λ (n : ℕ). count_place n (map unplaced r.bodies)) (sym code_same))
+        (subst (λ (bs : List wire.Body). AreSorted by_ends (zip order (map ends_of (map range_of bs))) x.function_ranges) bodies_same sorted)
+        (subst (λ (bs : List wire.Body). LastPlaces keeps (all_placed_from (map (λ (y : Range ℕ). y.start) (map range_of bs)) rest) x.instruction_map) bodies_same last)

@@ -1,5 +1,5 @@
 -- How a code transform is made: of the places of bodies and of the operators in them.
-use Rattle.std.specs.Prelude.{ℕ, ◌+◌, Bool, true, false, not, cond, nat_eq, List, [], ◌∷◌, ◌++◌, map, ◌≡◌, IsPermutation, IsSorted}
+use Rattle.std.specs.Prelude.{ℕ, ◌+◌, Bool, true, false, not, cond, nat_eq, List, [], ◌∷◌, ◌++◌, map, zip, ◌≡◌, IsPermutation, IsSorted}
 use Rattle.std.specs.Ordering.{nat_cmp, ordering_then}
 use Rattle.std.specs.declared.cmp.Ordering.{Ordering}
 use Rattle.std.specs.declared.ops.Range.{Range}
@@ -12,7 +12,10 @@ use Rattle.walrus_bodies.specs.declared.features.Features.{Features}
 use Rattle.walrus_contents.specs.declared.parts.Parts.{Parts}
 use Rattle.walrus_model.specs.Transform.{default_location}
 use Rattle.walrus_base.specs.Operators.{Functions}
-use Rattle.walrus_writing.specs.Records.{Records, module_of}
+use Rattle.walrus_items.specs.Transform as parts
+use Rattle.walrus_items.specs.declared.transform.CodeTransform.{CodeTransform}
+use Rattle.walrus_writing.specs.Customs.{Task}
+use Rattle.walrus_writing.specs.Records.{Records, customs_written, module_of}
 use Rattle.walrus_writing.specs.Transform.{OperatorsStandAt, locations_at}
 
 -- ---- bodies
@@ -47,6 +50,18 @@ by_ends x y = ordering_then (nat_cmp x.0 y.0) (by_pair x.1 y.1)
 pub record AreSorted {X : Type 0} (by : X → X → Ordering) (all found : List X) : Type 0 where
   pub moved : IsPermutation all found
   pub sorted : IsSorted by found
+
+-- of these functions, whose bodies are those of the module, the transform tells where these come to stand, and no location
+pub record TellsBodies (m : wire.Module) (order : List ℕ) (x : CodeTransform) : Type 0 where
+  pub count : x.code_section_start ≡ count_place (code_place m) m.bodies
+  pub ranges : AreSorted by_ends (zip order (map ends_of (map range_of (as_written m).bodies))) (map parts.range_of x.function_ranges.items)
+  pub no_locations : x.instruction_map.items ≡ []
+
+-- so it does of the module of records of the parts with its custom sections
+pub record TellsItems (p : Parts) (t : Task) (x : CodeTransform) : Type 0 where
+  pub records : Records p t.choices.features
+  pub names_are : records.names ≡ t.names
+  pub told : TellsBodies (module_of records (customs_written t records)) (records.own Functions) x
 
 -- ---- the places of locations
 

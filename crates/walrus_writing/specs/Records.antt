@@ -181,10 +181,11 @@ pub record FollowPlan (p : Parts) (indices : IdsToIndices) (count : Option ℕ) 
   pub functions_are : map Some functions ≡ map (λ id. option_and_then (type_index (index_of indices)) ((parts_view p).functions (place id))) prepared.plan.own_functions.items
   pub are_made : IsMade p (planned_with prepared indices count) choices made
 
--- the module is that of records with its custom sections
-pub record IsModuleOf (p : Parts) (t : Task) (made : wire.Module) : Type 0 where
+-- the module is that of records with its custom sections, its own functions in this order
+pub record IsModuleOf (p : Parts) (t : Task) (order : List ℕ) (made : wire.Module) : Type 0 where
   pub records : Records p t.choices.features
   pub names_are : records.names ≡ t.names
+  pub order_is : records.own Functions ≡ order
   pub is : made ≡ module_of records (customs_written t records)
 
 -- the bytes are those of the module of records with its custom sections, which fits

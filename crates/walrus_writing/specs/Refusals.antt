@@ -1,5 +1,7 @@
 -- Why items that name nothing dead, and that have a plan, can't be written.
 use Rattle.std.specs.Prelude.{ℕ, List, Option, Some, Contains, ◌≡◌, ◌⊎◌, ⊤, Result, Ok, Err}
+use Rattle.wasm_frames.specs.Record as wire
+use Rattle.wasm_wire.specs.ModuleSpelling.{ModuleFits}
 use Rattle.walrus_base.specs.Arena.{items}
 use Rattle.walrus_base.specs.ModuleTypes.{type_slots}
 use Rattle.walrus_base.specs.TypeDef.{TypeDef}
@@ -67,3 +69,9 @@ RefusesBodies p features (Memory e) = ⊤
 RefusesBodies p features NotWritable = HasBody p features CantBeWritten
 RefusesBodies p features TooLarge = HasBody p features HasTooManyLocals
 RefusesBodies p features _ = ⊥
+
+-- the sections of a module are measured: a count or a size in them passes 32 bits
+abbrev pub RefusesModule : wire.Module → Error → Type 0
+RefusesModule m (Memory e) = ⊤
+RefusesModule m TooLarge = ModuleFits m → ⊥
+RefusesModule m _ = ⊥

@@ -1,6 +1,7 @@
 -- The code transform of a module that is written: where the bodies of its functions, their operators and the count of functions stand in
 -- its bytes.
-use Rattle.std.specs.Prelude.{ℕ, ◌+◌, Bool, List, [], ◌∷◌, ◌++◌, All, length, map, Option, Some, None, Err, ◌≡◌, ◌≢◌}
+use Rattle.std.specs.Prelude.{ℕ, ◌+◌, Bool, true, false, List, [], ◌∷◌, ◌++◌, All, length, map, Option, Some, None, Result, Err, IfOk, ◌≡◌, ◌≢◌}
+use Rattle.std.specs.Global.{Vec}
 use Rattle.wasm_forms.specs.declared.types.RawVal.{RawVal}
 use Rattle.wasm_forms.specs.Grammar.{Is}
 use Rattle.wasm_forms.specs.Spelling.{row_bytes}
@@ -32,7 +33,7 @@ use Rattle.walrus_theorem.specs.Refused.{IsSayable, RefusesToWrite}
 use Rattle.walrus_theorem.specs.Spelling.{IsSpelledAs}
 use Rattle.walrus_writing.specs.declared.write.Choices.{Choices}
 use Rattle.walrus_writing.specs.Customs.{IsAsked, task}
-use Rattle.walrus_writing.specs.Emitted.{IsWrittenWith, refusal_of}
+use Rattle.walrus_writing.specs.Emitted.{IsEmitted, IsWrittenWith, refusal_of, told}
 use Rattle.walrus_writing.specs.Parts.{local_in}
 use Rattle.walrus_writing.specs.Records.{Spells}
 
@@ -104,6 +105,15 @@ TellsTransform p choices names dylinks keeps_locations x =
     (c : Config) (v : Abstract) (sections : List wire.Custom) (bytes : List ℕ) → IsWrittenWith c choices → IsAsked p names sections v → IsSayable v
     → group_of Dylink sections ≡ dylinks → Spells p (task choices names sections) bytes
     → IsTransformOf c keeps_locations (locations_at p) v bytes (transform_of x)
+
+-- what is answered where parts are written, of a module that is seen as them
+pub record EmitsParts (asked : Bool) (c : Config) (p : Parts) (v : Abstract) (answer : Result (Vec ℕ × CodeTransform) Error) : Type 0 where
+  -- the bytes are the one spelling of what the module is written as
+  pub emitted : IfOk answer (λ r. IsEmitted c v r.0.items)
+  -- a refusal has its cause, and where a cause stands it is refused
+  pub refused : RefusesToWrite ⊥ c v (told answer)
+  -- where it is asked for, and a module of indices can say the custom sections, the transform is that of the bytes, without locations
+  pub transform : asked ≡ true → IfOk answer (λ r. IsSayable v → IsTransformOf c false (locations_at p) v r.0.items (transform_of r.1))
 
 -- the error has a cause of its own, of each module that is seen as the parts and asks for such sections
 abbrev pub HasCause : Config → Abstract → Error → Type 0

@@ -2,8 +2,8 @@
 //! That is the records of their sections under a plan of them, their names, and the bytes of these.
 //!
 //! Read first: `src/write.rt` (writing all of it) and `specs/Emitted.antt` (what is written, and when it is refused).
-//! Main clause: `write_prepared` of `src/write.rt` promises `IsEmitted`: the bytes are the one spelling of the module that the parts are written as.
-//! Where it is well made and nothing is undeclared, they read as it.
+//! Main clause: `write_prepared` of `src/write.rt` promises `EmitsParts`: the bytes are the one spelling of the module that the parts are written as.
+//! Where it is well made and nothing is undeclared, they read as it. The code transform, where it is asked for, is that of these bytes.
 #![tactic(auto)]
 
 mod bodies;

@@ -1,5 +1,5 @@
 //! The places of bodies and of the operators in them, put in order ("Binary Format > Modules > Code Section").
-ghost use Rattle.std.specs.Prelude.{◌≡◌, ◌+◌, ◌<◌, ◌≤◌, ◌++◌, All, IfOk, IsOkUnless, OnOk, drop, length, map, zip};
+ghost use Rattle.std.specs.Prelude.{◌≡◌, ◌+◌, ◌<◌, ◌≤◌, ◌++◌, All, IfOk, IsOkUnless, OnOk, drop, length, map, true, zip};
 ghost use Rattle.std.specs.List.{AllZip};
 ghost use Rattle.walrus_base.specs.Id.{place};
 ghost use Rattle.walrus_code.specs.Location.{location};
@@ -156,25 +156,20 @@ fn last_places(alloc: Global, sorted: &[(u32, usize)]) -> Result<Vec<(InstrLocId
     Ok(last)
 }
 
-/// Of each location of an operator of these bodies, which have these ranges, the last of its places, by rising location; of none where they
-/// aren't asked for.
+/// Of each location of an operator of these bodies, which have these ranges, the last of its places, by rising location.
 pub fn instruction_map(
     alloc: Global,
     ranges: &[Range<usize>],
     bodies: &[LocatedBody],
-    asked: bool,
 ) -> Result<Vec<(InstrLocId, usize)>>
     requires as_many { length bodies.now ≡ length ranges.now }
     requires within { AllZip (λ range body. All (λ o. range.start + o.1 ≤ range.end) body.places.items)
         ranges.now bodies.now }
-    ensures value { IfOk result (λ last. LastPlaces asked (all_placed_from
+    ensures value { IfOk result (λ last. LastPlaces true (all_placed_from
         (map (λ r. r.start) ranges.now) (map (λ b. map location_of b.places.items) bodies.now))
         (map location_of last.items)) }
     ensures fails { IsOkUnless result out_of_memory }
 {
-    if !asked {
-        return Ok(Vec::new(alloc));
-    }
     let mut found = all_places(alloc, ranges, bodies)?;
     found.sort_unstable();
     last_places(alloc, found.as_slice())

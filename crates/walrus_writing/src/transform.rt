@@ -1,8 +1,8 @@
 //! Where the parts of the code section stand in the bytes of a module, told before these are written.
-ghost use Rattle.std.specs.Prelude.{◌≡◌, List, IfErr, IfOk, map};
+ghost use Rattle.std.specs.Prelude.{◌≡◌, List, IfErr, IfOk, length, map, true};
 ghost use Rattle.std.specs.List.{AllZip};
 ghost use Rattle.wasm_frames.specs.Record as wire;
-ghost use Rattle.wasm_frames.specs.Record.{custom_record};
+ghost use Rattle.wasm_frames.specs.Record.{custom_record, sections};
 ghost use Rattle.wasm_wire.specs.ModuleSpelling.{group_of};
 ghost use Rattle.wasm_wire.specs.declared.written.CustomGroup.TheVariants.{Dylink};
 ghost use Rattle.walrus_base.specs.Id.{place};
@@ -12,9 +12,9 @@ ghost use Rattle.walrus_model.specs.Dead.{HasDead};
 ghost use Rattle.walrus_model.specs.Declared.{NothingUndeclared};
 ghost use Rattle.walrus_plan.specs.Prepared.{IsPrepared};
 ghost use Rattle.walrus_writing.specs.Customs.{task};
-ghost use Rattle.walrus_writing.specs.Located.{ArePlaces};
+ghost use Rattle.walrus_writing.specs.Located.{ArePlaces, TellsBodies};
 ghost use Rattle.walrus_writing.specs.Parts.{HasBytes};
-ghost use Rattle.walrus_writing.specs.Refusals.{RefusesItems};
+ghost use Rattle.walrus_writing.specs.Refusals.{RefusesItems, RefusesModule};
 ghost use Rattle.walrus_writing.specs.Transform.{RefusesTransform, TellsTransform};
 
 use crate::bodies::Indexed;
@@ -34,6 +34,7 @@ use crate::tags::raw_tags;
 use crate::types::raw_types;
 use crate::write::Choices;
 use std::alloc::Global;
+use walrus_base::FunctionId;
 use walrus_contents::Parts;
 use walrus_items::{CodeTransform, Result};
 use walrus_plan::Prepared;
@@ -99,10 +100,9 @@ fn item_places<'a>(
 }
 
 /// The code transform of a module of these parts, in which nothing dead is named and nothing is undeclared, told before its bytes are
-/// written: where the body of each function stands, behind its size, and where the count of functions; and, where this is asked for, where
-/// the operators stand that have a location ("Binary Format > Modules > Code Section"). It is true of all bytes that
-/// [`write_prepared`](crate::write_prepared) gives under the same plan and choices with custom sections among which those of dynamic
-/// linking are these, since no others stand in front of the code.
+/// written: where the body of each function stands, behind its size, where the count of functions, and where the operators that have a
+/// location ("Binary Format > Modules > Code Section"). It is true of all bytes that [`write_prepared`](crate::write_prepared) gives under
+/// the same plan and choices with custom sections among which those of dynamic linking are these, since no others stand in front of the code.
 ///
 /// # Errors
 ///
@@ -113,13 +113,12 @@ pub fn code_transform<'a>(
     prepared: &Prepared,
     dylinks: &'a [RawCustom<'a>],
     choices: &Choices,
-    keeps_locations: bool,
 ) -> Result<CodeTransform>
     requires there { HasDead (parts_view parts) → ⊥ }
     requires declared { NothingUndeclared (parts_view parts) }
     requires planned { IsPrepared parts prepared.now }
     ensures told { IfOk result (TellsTransform parts.entry choices.now (index_of prepared.now.indices)
-        (map custom_record dylinks.now) keeps_locations) }
+        (map custom_record dylinks.now) true) }
     ensures refused { IfErr result (RefusesTransform parts.entry choices.now (index_of prepared.now.indices)
         (map custom_record dylinks.now)) }
 {
@@ -134,10 +133,45 @@ pub fn code_transform<'a>(
     let places = item_places(alloc, parts, prepared, lent, dylinks, choices)?;
     let ranges = places.bodies.as_slice();
     let by_id = function_ranges(alloc, order, ranges)?;
-    let by_location = instruction_map(alloc, ranges, lent, keeps_locations)?;
+    let by_location = instruction_map(alloc, ranges, lent)?;
     Ok(CodeTransform {
         function_ranges: by_id,
         code_section_start: places.count,
         instruction_map: by_location,
+    })
+}
+
+// A transform of nothing.
+fn untold(alloc: Global) -> CodeTransform {
+    CodeTransform {
+        function_ranges: Vec::new(alloc),
+        code_section_start: 0,
+        instruction_map: Vec::new(alloc),
+    }
+}
+
+/// Where the bodies of these functions, which have these records, come to stand in the bytes of these, where that is asked for. No location is told.
+pub fn bodies_told(
+    alloc: Global,
+    raw: &Raw<'_>,
+    order: Vec<FunctionId>,
+    asked: bool,
+) -> Result<CodeTransform>
+    requires as_many { length order.items ≡ length (sections raw.now).bodies }
+    ensures told { asked ≡ true
+        → IfOk result (TellsBodies (sections raw.now) (map place order.items)) }
+    ensures refused { IfErr result (RefusesModule (sections raw.now)) }
+{
+    if !asked {
+        return Ok(untold(alloc));
+    }
+    let places = code_places(alloc, raw)?;
+    let functions = order.as_slice();
+    let ranges = places.bodies.as_slice();
+    let by_id = function_ranges(alloc, functions, ranges)?;
+    Ok(CodeTransform {
+        function_ranges: by_id,
+        code_section_start: places.count,
+        instruction_map: Vec::new(alloc),
     })
 }

@@ -1,5 +1,5 @@
 //! Writing a module's parts as bytes.
-ghost use Rattle.std.specs.Prelude.{All, IfErr, IfOk, map};
+ghost use Rattle.std.specs.Prelude.{◌≡◌, All, IfErr, IfOk, map, true};
 ghost use Rattle.wasm_frames.specs.Record.{custom_record, sections};
 ghost use Rattle.walrus_base.specs.Id.{place};
 ghost use Rattle.walrus_code.specs.Indices.{index_of};
@@ -7,14 +7,15 @@ ghost use Rattle.walrus_model.specs.Abstract.{Abstract};
 ghost use Rattle.walrus_model.specs.Config.{Config};
 ghost use Rattle.walrus_model.specs.Dead.{HasDead};
 ghost use Rattle.walrus_model.specs.Declared.{NothingUndeclared};
-ghost use Rattle.walrus_theorem.specs.Refused.{RefusesToWrite};
 ghost use Rattle.walrus_contents.specs.View.{parts_view};
 ghost use Rattle.walrus_writing.specs.Customs.{IsAsked, task};
-ghost use Rattle.walrus_writing.specs.Emitted.{IsEmitted, IsWrittenWith, told};
+ghost use Rattle.walrus_writing.specs.Emitted.{IsWrittenWith};
+ghost use Rattle.walrus_writing.specs.Located.{TellsItems};
 ghost use Rattle.walrus_plan.specs.Prepared.{IsPrepared};
 ghost use Rattle.walrus_writing.specs.Parts.{IsIndexed};
 ghost use Rattle.walrus_writing.specs.Records.{FollowPlan, HasPlan, IsMade, IsModuleOf, Spells};
 ghost use Rattle.walrus_writing.specs.Refusals.{RefusesBodies, RefusesItems};
+ghost use Rattle.walrus_writing.specs.Transform.{EmitsParts};
 ghost use Rattle.walrus_writing.specs.declared.write.Choices.{Choices};
 
 use crate::bodies::{Indexed, raw_bodies, written_bodies};
@@ -32,13 +33,15 @@ use crate::producers::producers_payload;
 use crate::start::raw_start;
 use crate::tables::raw_tables;
 use crate::tags::raw_tags;
+use crate::transform::bodies_told;
 use crate::types::raw_types;
 use std::alloc::Global;
+use walrus_base::FunctionId;
 use walrus_bodies::Features;
 use walrus_code::IdsToIndices;
 use walrus_contents::Parts;
-use walrus_items::{Error, Result};
-use walrus_plan::Prepared;
+use walrus_items::{CodeTransform, Error, Result};
+use walrus_plan::{Plan, Prepared};
 use wasm_frames::{Raw, RawCustom};
 use wasm_wire::written_module;
 
@@ -99,9 +102,10 @@ fn raw_items<'a>(
     requires there { HasDead (parts_view parts) → ⊥ }
     requires planned { HasPlan parts indices.now count }
     ensures records { (choices : Choices)
-        → FollowPlan parts.entry indices.now count choices functions.items made.now
+        → (follow : FollowPlan parts.entry indices.now count choices functions.items made.now)
         → IfOk result (λ raw. IsModuleOf parts.entry
-        (task choices (index_of indices.now) (map custom_record own.now)) (sections raw)) }
+        (task choices (index_of indices.now) (map custom_record own.now))
+        (map place follow.prepared.plan.own_functions.items) (sections raw)) }
     ensures refused { (choices : Choices)
         → FollowPlan parts.entry indices.now count choices functions.items made.now
         → RefusesItems parts.entry
@@ -146,6 +150,9 @@ fn raw_items<'a>(
 /// parts asks to be written under the indices ("Binary Format > Modules > Custom Section"): sections of dynamic linking stand before all
 /// others, and the others behind the name section and the producers section, each of which is written where it is chosen and says something.
 ///
+/// With them, where `tells` asks for it, the code transform of the bytes, without locations: where the body of each function stands, behind
+/// its size, and where the count of functions. Else a transform of nothing.
+///
 /// # Errors
 ///
 /// Each with a cause of its own: `NotWritable` where a body isn't well formed, an exact heap type is written, or an initialiser, an offset or
@@ -157,37 +164,46 @@ pub fn write_prepared<'a>(
     prepared: Prepared,
     customs: &'a [RawCustom<'a>],
     choices: &Choices,
-) -> Result<Vec<u8>>
+    tells: bool,
+) -> Result<(Vec<u8>, CodeTransform)>
     requires there { HasDead (parts_view parts) → ⊥ }
     requires declared { NothingUndeclared (parts_view parts) }
     requires planned { IsPrepared parts prepared }
-    ensures spells { IfOk result (λ bytes. Spells parts.entry
-        (task choices.now (index_of prepared.indices) (map custom_record customs.now)) bytes.items) }
+    ensures spells { IfOk result (λ r. Spells parts.entry
+        (task choices.now (index_of prepared.indices) (map custom_record customs.now)) r.0.items) }
     ensures written { (c : Config) (v : Abstract) → IsWrittenWith c choices.now
         → IsAsked parts.entry (index_of prepared.indices) (map custom_record customs.now) v
-        → IfOk result (λ bytes. IsEmitted c v bytes.items) }
-    ensures refused { (c : Config) (v : Abstract) → IsWrittenWith c choices.now
-        → IsAsked parts.entry (index_of prepared.indices) (map custom_record customs.now) v
-        → RefusesToWrite ⊥ c v (told result) }
+        → EmitsParts tells c parts.entry v result }
 {
-    write_items(alloc, parts, prepared, customs, choices)
+    write_items(alloc, parts, prepared, customs, choices, tells)
 }
 
-// The bytes of items that name nothing dead, in the order of their plan, by the indices that it gives. The plan is dropped before the records
-// that don't need it are made, and the indices before the bytes.
+// Of a plan, in which order the module's own functions are written: nothing else is left of it.
+fn own_order(plan: Plan) -> Vec<FunctionId>
+    ensures { result ≡ plan.own_functions }
+{
+    plan.own_functions
+}
+
+// The bytes of items that name nothing dead, in the order of their plan, by the indices that it gives, and where the bodies of functions stand
+// in them, where that is asked for. Of the plan only the order of functions is left before the records that don't need it are made, and the
+// indices are dropped before the bytes.
 fn write_items<'a>(
     alloc: Global,
     parts: Parts<'a>,
     prepared: Prepared,
     own: &'a [RawCustom<'a>],
     choices: &Choices,
-) -> Result<Vec<u8>>
+    tells: bool,
+) -> Result<(Vec<u8>, CodeTransform)>
     requires there { HasDead (parts_view parts) → ⊥ }
     requires planned { IsPrepared parts prepared }
-    ensures spells { IfOk result (λ bytes. Spells parts.entry
-        (task choices.now (index_of prepared.indices) (map custom_record own.now)) bytes.items) }
+    ensures spells { IfOk result (λ r. Spells parts.entry
+        (task choices.now (index_of prepared.indices) (map custom_record own.now)) r.0.items) }
     ensures refused { RefusesItems parts.entry
         (task choices.now (index_of prepared.indices) (map custom_record own.now)) result }
+    ensures told { tells ≡ true → IfOk result (λ r. TellsItems parts.entry
+        (task choices.now (index_of prepared.indices) (map custom_record own.now)) r.1) }
 {
     let made = make(alloc, parts, &prepared, choices)?;
     let order = prepared.plan.own_functions.as_slice();
@@ -197,9 +213,10 @@ fn write_items<'a>(
         indices,
         data_count,
     } = prepared;
-    drop(plan);
+    let left = own_order(plan);
     let raw = raw_items(alloc, parts, &indices, data_count, functions, &made, own)?;
     drop(indices);
+    let transform = bodies_told(alloc, &raw, left, tells)?;
     let bytes = written_module(alloc, &raw)?;
-    Ok(bytes)
+    Ok((bytes, transform))
 }

@@ -1,12 +1,11 @@
-use Rattle.std.proofs.Common.{ℕ, List, sym, subst}
-use Rattle.mulkavesh.specs.Entries.{listed_of}
-use Rattle.mulkavesh.proofs.Lines.{SoFar, ends, next}
+use Rattle.walrus_tools.specs.Sized.{listed_seen}
+use Rattle.mulkavesh.specs.Entries.{listed_line}
+use Rattle.mulkavesh.proofs.Lines.{all_lines, line_more}
 use Rattle.mulkavesh.proofs.entries.text.Goals as goal
 
-pub functions-preserved : goal.functions-preserved
-functions-preserved c =
-    subst (λ (text : List ℕ). SoFar c.args.list.now text c.in-Some.behind.now) (sym c.in_ok-add_line.ensures)
-    (next c.args.list.now c.functions.text.items c.functions.rest.now c.in-Some.behind.now (listed_of c.in-Some.entry) c.in-Some.ensures.0 c.in-Some.ensures.1 c.functions.invariant)
+pub loop-function-preserved : goal.loop-function-preserved
+loop-function-preserved c =
+    line_more listed_line listed_seen c.args.functions.now c.loop-function.function-index _ _ c.loop-function-test.true c.function-item.is _ _ c.loop-function.invariant c.in_ok-add_line.ensures
 
 pub returns : goal.returns
-returns c = ends c.args.list.now c.functions.text.items c.functions.rest.now c.in_default.ensures c.functions.invariant
+returns c = all_lines listed_line listed_seen c.args.functions.now c.loop-function.function-index c.loop-function-test.false _ c.loop-function.invariant

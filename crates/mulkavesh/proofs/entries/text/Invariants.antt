@@ -1,11 +1,8 @@
-use Rattle.std.proofs.Common.{length}
-use Rattle.mulkavesh.proofs.Lines.{SoFar}
+use Rattle.std.proofs.Common.{◌≡◌, flat_map, map, take}
+use Rattle.walrus_tools.specs.Sized.{listed_seen}
+use Rattle.mulkavesh.specs.Entries.{listed_line}
 use Rattle.mulkavesh.proofs.entries.text.Given as goal
 
--- the bytes that are left
-abbrev pub decreases-functions : goal.decreases-functions
-decreases-functions l = length l.rest
-
--- the lines so far, and the bytes behind them
-abbrev pub invariant-functions : goal.invariant-functions
-invariant-functions l = SoFar l.list l.text.items l.rest
+-- the lines of the functions before
+abbrev pub invariant-loop-function : goal.invariant-loop-function
+invariant-loop-function l = l.text.items ≡ flat_map listed_line (map listed_seen (take l.function-index l.functions))

@@ -1,4 +1,4 @@
-use Rattle.std.proofs.Common.{◌∙◌, ℕ, List, length, map, sym, ap, refl, subst}
+use Rattle.std.proofs.Common.{◌∙◌, ℕ, true, List, length, map, sym, ap, refl, subst}
 use Rattle.std.specs.Prelude.{zip}
 use Rattle.std.specs.List.{AllZip}
 use Rattle.std.specs.declared.ops.Range.{Range}
@@ -94,8 +94,8 @@ returns-clause-told c =
     let located = subst (λ (l : List (Id FunctionKey)). AllZip (Located c.args.parts names features) l bs) c.as_slice-order.ensures.value (both_zip c.args.parts names features c.as_slice-order.result.now bs c.in_ok-bodies.ensures.value c.in_ok-bodies.ensures.located) in
     let told = subst (λ (l : List LocatedBody). ArePlaces c.args.parts names features (map place ids) (map (bytes_of c.args.parts names features) l) (map custom_record c.args.dylinks.now) c.in_ok-places.places) c.as_slice-lent.ensures.value c.in_ok-places.ensures.told in
     let x : CodeTransform = record { function_ranges = c.in_ok-by_id.by_id; code_section_start = c.in_ok-places.places.count; instruction_map = c.in_ok-by_location.by_location } in
-    tells c.args.parts c.requires.there c.requires.declared names c.args.choices.now ids bs located (map custom_record c.args.dylinks.now) c.in_ok-places.places told c.args.keeps_locations x refl
+    tells c.args.parts c.requires.there c.requires.declared names c.args.choices.now ids bs located (map custom_record c.args.dylinks.now) c.in_ok-places.places told x refl
     (subst (λ (l : List (Range ℕ)). AreSorted by_ends (zip (map place ids) (map ends_of l)) (map range_of c.in_ok-by_id.by_id.items)) c.as_slice-ranges.ensures.value
     (subst (λ (l : List (Id FunctionKey)). AreSorted by_ends (zip (map place l) (map ends_of c.as_slice-ranges.result.now)) (map range_of c.in_ok-by_id.by_id.items)) c.as_slice-order.ensures.value c.in_ok-by_id.ensures.value))
-    (subst (λ (l : List (Range ℕ)). LastPlaces c.args.keeps_locations (all_placed_from (map (λ (r : Range ℕ). r.start) l) (map (offsets_of c.args.parts names features) bs)) (map location_of c.in_ok-by_location.by_location.items)) c.as_slice-ranges.ensures.value
-    (subst (λ (l : List LocatedBody). LastPlaces c.args.keeps_locations (all_placed_from (map (λ (r : Range ℕ). r.start) c.as_slice-ranges.result.now) (map (offsets_of c.args.parts names features) l)) (map location_of c.in_ok-by_location.by_location.items)) c.as_slice-lent.ensures.value c.in_ok-by_location.ensures.value))
+    (subst (λ (l : List (Range ℕ)). LastPlaces true (all_placed_from (map (λ (r : Range ℕ). r.start) l) (map (offsets_of c.args.parts names features) bs)) (map location_of c.in_ok-by_location.by_location.items)) c.as_slice-ranges.ensures.value
+    (subst (λ (l : List LocatedBody). LastPlaces true (all_placed_from (map (λ (r : Range ℕ). r.start) c.as_slice-ranges.result.now) (map (offsets_of c.args.parts names features) l)) (map location_of c.in_ok-by_location.by_location.items)) c.as_slice-lent.ensures.value c.in_ok-by_location.ensures.value))

@@ -1,4 +1,4 @@
-use Rattle.std.proofs.Common.{List, map, ap, ◌∙◌, subst, IfOk}
+use Rattle.std.proofs.Common.{true, List, map, ap, ◌∙◌, subst, IfOk}
 use Rattle.wasm_frames.specs.Record.{Custom, custom_record}
 use Rattle.walrus_code.specs.Indices.{index_of}
 use Rattle.walrus_writing.specs.Transform.{TellsTransform}
@@ -13,11 +13,10 @@ use Rattle.walrus_module.proofs.written.ModuleCustomSections.transform.Goals as 
 pub returns-clause-told : goal.returns-clause-told
 returns-clause-told g c =
     let names = index_of c.args.prepared.now.indices in
-    let keeps = c.args.switches.preserve_code_transform in
     let ms = meant (λ (i : g.dyn-1.0.I). (g.dyn-1.0.entry i).1) c.args.self.now in
     let same = ap (map custom_record) c.as_slice-2.ensures.value ∙ c.in_ok-dylinks.ensures.value ∙ ap (map section_seen) c.as_slice.ensures.value ∙ c.in_ok-asked.ensures.value in
-    subst (λ (ch : Choices). IfOk c.code_transform.result (TellsTransform c.args.parts ch names (asked_first ms) keeps)) c.choices.ensures
-    (subst (λ (cs : List Custom). IfOk c.code_transform.result (TellsTransform c.args.parts c.choices.result names cs keeps)) same c.code_transform.ensures.told)
+    subst (λ (ch : Choices). IfOk c.code_transform.result (TellsTransform c.args.parts ch names (asked_first ms) true)) c.choices.ensures
+    (subst (λ (cs : List Custom). IfOk c.code_transform.result (TellsTransform c.args.parts c.choices.result names cs true)) same c.code_transform.ensures.told)
 
 pub returns-clause-refused : goal.returns-clause-refused
 returns-clause-refused g c =

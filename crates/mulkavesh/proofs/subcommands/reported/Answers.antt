@@ -1,9 +1,0 @@
-use Rattle.std.proofs.Common.{refl}
-use Rattle.mulkavesh.proofs.Answered.{for_people, for_programs}
-use Rattle.mulkavesh.proofs.subcommands.reported.Goals as goal
-
-pub returns-then-order : goal.returns-then-order
-returns-then-order c = (c.in_ok-text.text, (c.in_ok-text.ensures, for_programs _ _ c.if-order.true))
-
-pub returns : goal.returns
-returns c = (c.in_ok-text.text, (c.in_ok-text.ensures, for_people _ _ refl))
