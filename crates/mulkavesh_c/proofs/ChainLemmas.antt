@@ -1,9 +1,9 @@
 -- A chain as the bytes of its text.
-use Rattle.std.proofs.Common.{◌≡◌, ℕ, List, sym, ap, ap₂, ◌∙◌}
+use Rattle.std.proofs.Common.{◌≡◌, ℕ, List, ap₂, ◌∙◌}
 use Rattle.std.specs.Prelude.{Err, Ok}
 use Rattle.std.specs.Global.{Vec}
 use Rattle.walrus_tools.specs.Handed.{Error, config_of, defaults, item_of}
-use Rattle.walrus_tools.specs.Reasons.{AnswersChain, HoldsChain, LacksFunction, TellsChain, WritesChain, chain_seen, chain_text}
+use Rattle.walrus_tools.specs.Reasons.{AnswersChain, HoldsChain, WritesChain, chain_seen, chain_text}
 use Rattle.walrus_tools.specs.declared.tool.why.Chain.{Chain}
 use Rattle.walrus_tools.proofs.Answered.{chain_so, refused_so}
 

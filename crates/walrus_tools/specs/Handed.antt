@@ -1,9 +1,8 @@
 -- Words of the crates below, for those who stand on this one.
 pub use Rattle.walrus_items.specs.declared.error.Error.{Error}
 pub use Rattle.walrus_items.specs.declared.error.Error.TheVariants.{InvalidWasm, Memory, NotFound, NotReplaceable, TooLarge}
-pub use Rattle.walrus_base.specs.Operators.{Item, function_item}
+pub use Rattle.walrus_base.specs.Operators.{Item}
 pub use Rattle.walrus_code.specs.Code.{item_of}
-pub use Rattle.walrus_contents.specs.Named.{items_in}
 pub use Rattle.walrus_model.specs.Config.{Config}
 pub use Rattle.walrus_module.specs.Flags.{config_of, defaults}
 pub use Rattle.walrus.specs.Headline.{RunsOn}

@@ -1,6 +1,5 @@
 //! What a developer asks before anything is written: how many items of each kind there are, and how many of them stay.
 
-ghost use Rattle.std.specs.Prelude.{◌≡◌};
 ghost use Rattle.walrus_tools.specs.Kinds.{AnswersCounted};
 ghost use Rattle.walrus_tools.specs.Wanted.{config_wanted};
 

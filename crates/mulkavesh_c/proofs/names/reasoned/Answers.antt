@@ -1,4 +1,4 @@
-use Rattle.std.proofs.Common.{sym, ◌∙◌}
+use Rattle.std.proofs.Common.{◌∙◌}
 use Rattle.std.proofs.lemmas.Result.{err_from_is_err_and}
 use Rattle.mulkavesh_c.proofs.ChainLemmas.{chain_refused, chain_written}
 use Rattle.mulkavesh_c.proofs.names.reasoned.Goals as goal
