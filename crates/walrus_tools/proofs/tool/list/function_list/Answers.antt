@@ -1,6 +1,8 @@
+use Rattle.std.proofs.Common.{List, subst, sym}
 use Rattle.std.proofs.lemmas.Result.{err_from_is_err_and}
 use Rattle.std.specs.Prelude.{map}
-use Rattle.walrus_tools.specs.Sized.{listed_seen}
+use Rattle.walrus_tools.specs.Sized.{IsListed, listed_seen}
+use Rattle.walrus_tools.specs.declared.tool.list.Listed.{Listed}
 use Rattle.walrus_tools.specs.Wanted.{config_wanted}
 use Rattle.walrus_tools.proofs.SizeEnds.{functions_told, list_refused}
 use Rattle.walrus_tools.proofs.tool.list.function_list.Goals as goal
@@ -12,4 +14,5 @@ returns-in_err-functions c =
 
 pub returns : goal.returns
 returns c =
-    functions_told (config_wanted c.args.wanted) c.args.bytes.now (map listed_seen c.in_ok-functions.functions.items) c.in_ok-functions.ensures c.spelled.result c.spelled.ensures.value c.spelled.ensures.fits c.spelled.ensures.refused
+    functions_told (config_wanted c.args.wanted) c.args.bytes.now (map listed_seen c.deref.result.now)
+    (subst (λ (fs : List Listed). IsListed (config_wanted c.args.wanted) c.args.bytes.now (map listed_seen fs)) (sym c.deref.ensures.value) c.in_ok-functions.ensures) c.spelled.result c.spelled.ensures.value c.spelled.ensures.fits c.spelled.ensures.refused
