@@ -1,6 +1,6 @@
 -- Sections that follow the code one after another.
 use Rattle.std.proofs.Common.{◌≡◌, ℕ, Bool, true, false, ◌+◌, ◌<◌, ◌≤◌, List, length, refl, sym, ap, subst, ◌∙◌, arith, inl, inr, ⊎_elim}
-use Rattle.std.specs.Prelude.{Contains, Option, Some, None, map, ◌⊎◌}
+use Rattle.std.specs.Prelude.{Option, Some, None, map, ◌⊎◌}
 use Rattle.walrus_base.specs.Arena.{item_at, items}
 use Rattle.walrus_code.specs.Transform.{Transform}
 use Rattle.walrus_items.specs.declared.custom.CustomSection.{Ghosts}

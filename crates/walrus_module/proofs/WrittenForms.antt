@@ -24,10 +24,6 @@ use Rattle.walrus_module.specs.declared.entry.SectionEntry.{SectionEntry}
 use Rattle.walrus_module.proofs.WrittenSections.{refused_then}
 
 module _ {V : Type 0} {O : V → Type 0} (G : (v : V) → Ghosts (O v)) (f : Flags) (parts : Parts) where
-  pub sections_refused : (indices : Lookup) (asked : Bool) (customs : ModuleCustomSections (SectionEntry V O)) (e : Error)
-      → RefusesToWrite {X = Vec ℕ × CodeTransform} (OneAskedMayRefuse (meant G customs)) (config_of f) (module_with G f parts customs) (Err (refusal_of e)) → WritesSections G f parts indices asked customs (Err e)
-  sections_refused indices asked customs e refused = record { emitted = tt; refused = refused; spells = tt; texts = tt; transform = λ on. tt }
-
   pub follow_refused : (indices : Lookup) (old new : ModuleCustomSections (SectionEntry V O)) (e : Error)
       → LeavesCustoms G {X = CodeTransform} true (λ t x. x ≡ transform_of t) (IsToldOf (config_of f) (lent parts) (asked_first (meant G old))) old new (Err e)
       → RefusesToWrite {X = Unit {0}} (OneAskedMayRefuse (meant G old)) (config_of f) (module_with G f parts new) (Err (refusal_of e)) → (AreRaw (sections old) → new ≡ old)

@@ -93,9 +93,6 @@ module _ (A B : Type 0) (through : A → B) (c : Config) (v : Abstract) where
   refused_then X Y Caller h = through h
   refused_then X Y Another h = absurd h
 
-  pub ok_then : {X Y : Type 0} (x : X) (y : Y) → RefusesToWrite {X = X} A c v (Ok x) → RefusesToWrite {X = Y} B c v (Ok y)
-  ok_then x y h = h
-
 pub transform_refused : {X : Type 0} (A : Type 0) (c : Config) (choices : Choices) (p : Parts) (names : Lookup) (ms : List Meaning) (dylinks : List Custom) (result : Result X Error) → IfErr result (RefusesTransform p choices names dylinks)
     → IsWrittenWith c choices → dylinks ≡ asked_first ms → All (λ (s : Meaning). IsUtf8 s.name) ms → IfErr result (λ e. RefusesToWrite {X = Unit {0}} A c (with_sections (parts_view p) ms) (Err (refusal_of e)))
 transform_refused A c choices p names ms dylinks (Ok x) h chosen same texts = tt
