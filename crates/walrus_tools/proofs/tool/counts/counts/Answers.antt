@@ -13,7 +13,7 @@ returns-in_err-run c =
     let p = err_from_is_err_and c.from_residual-in_err-run.result c.from_residual-in_err-run.ensures.1 in
     let same = c.of_choices-config.ensures.value in
     rw (p.1, p.2) (subst (λ (f : Flags). AnswersCounted (config_of f) c.args.bytes.now (Err c.in_err-run.field-0.0)) same
-    (search_ended _ _ c.args.bytes.now c.in_ok-module.module c.in_ok-module.ensures.found Counted (λ (r : Counted). IsCountedOf (config_of (flags c.legacy_exceptions-config.result.now)) c.args.bytes.now r.before r.after) (λ e. ⊥)
+    (search_ended _ _ c.args.bytes.now c.in_ok-module.module c.in_ok-module.ensures.found Counted (λ (r : Counted). IsCountedOf (config_of (flags c.of_choices-config.result)) c.args.bytes.now r.before r.after) (λ e. ⊥)
     c.in_ok-module.ensures.kept.raws c.in_ok-module.ensures.kept.are _ c.in_err-run.ensures.refused))
 
 pub returns : goal.returns
