@@ -3,13 +3,16 @@ use Rattle.std.proofs.Common.{◌≡◌, ℕ, List, ap₂, ◌∙◌}
 use Rattle.std.specs.Prelude.{Err, Ok}
 use Rattle.std.specs.Global.{Vec}
 use Rattle.walrus_tools.specs.Handed.{Error, config_of, defaults, item_of}
-use Rattle.walrus_tools.specs.Reasons.{AnswersChain, HoldsChain, WritesChain, chain_seen, chain_text}
+use Rattle.walrus_tools.specs.Edited.{RefusesEdit}
+use Rattle.walrus_tools.specs.Reasons.{AnswersChain, HoldsChain, LacksFunction, TellsChain, WritesChain, chain_seen, chain_text}
 use Rattle.walrus_tools.specs.declared.tool.why.Chain.{Chain}
 use Rattle.walrus_tools.proofs.Answered.{chain_so, refused_so}
 
 module _ (bytes : List ℕ) (function : ℕ) where
   pub chain_refused : (e : Error) → AnswersChain {X = Chain} (config_of defaults) bytes function HoldsChain (Err e) → AnswersChain {X = Vec ℕ} (config_of defaults) bytes function WritesChain (Err e)
-  chain_refused e h = refused_so Chain (Vec ℕ) (config_of defaults) bytes _ _ _ _ e h
+  chain_refused e h =
+      refused_so Chain (Vec ℕ) (config_of defaults) bytes (λ (chain : Chain). TellsChain (config_of defaults) bytes function (HoldsChain chain)) (λ (text : Vec ℕ). TellsChain (config_of defaults) bytes function (WritesChain text)) ⊥
+      (λ (x : Error). RefusesEdit (LacksFunction function) (config_of defaults) bytes x) e h
 
   pub chain_written : (chain : Chain) (text : Vec ℕ) → text.items ≡ chain_text (item_of chain.item) (chain_seen chain) → AnswersChain {X = Chain} (config_of defaults) bytes function HoldsChain (Ok chain)
       → AnswersChain {X = Vec ℕ} (config_of defaults) bytes function WritesChain (Ok text)
