@@ -3,7 +3,7 @@ use Rattle.std.proofs.Common.{◌≡◌, ◌<◌, ◌≤◌, ◌+◌, ◌↔◌,
 use Rattle.std.specs.Prelude.{Contains}
 use Rattle.std.proofs.lemmas.List.Elements.{All-map, All-contains, All-more, Contains-get_or}
 use Rattle.std.proofs.lemmas.List.{get_or-map, length-map, take_all}
-use Rattle.walrus_tools.specs.Choice.{Choice, FitsOne, Suits, choice_seen, choices_seen}
+use Rattle.walrus_tools.specs.Choice.{FitsOne, Suits, choice_seen, choices_seen}
 use Rattle.walrus_tools.specs.declared.choice.Choice.{Choice as HeldChoice}
 
 -- what a place behind the end of a list stands for

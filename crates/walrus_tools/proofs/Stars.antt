@@ -1,5 +1,5 @@
 -- A NAME and a text, compared part by part, and what a star lets forget.
-use Rattle.std.proofs.Common.{◌≡◌, ◌≤◌, ◌+◌, ◌↔◌, ◌⊎◌, ℕ, List, [], ◌∷◌, ◌++◌, length, refl, sym, ap, ◌∙◌, subst, append_assoc, inl, inr, arith}
+use Rattle.std.proofs.Common.{◌≡◌, ◌≤◌, ◌↔◌, ◌⊎◌, ℕ, List, [], ◌∷◌, ◌++◌, length, refl, sym, ap, ◌∙◌, subst, append_assoc, inl, inr, arith}
 use Rattle.std.specs.List.{IsFirstAndRest}
 use Rattle.walrus_tools.specs.Fits.{Part, any, byte, parts, FitParts, Fits, FitsBehind}
 use Rattle.walrus_tools.specs.Comparing.{part_seen, BeginsWith, AtStar, Lessens}

@@ -22,7 +22,6 @@ use Rattle.walrus_items.specs.Errors.{out_of_memory}
 use Rattle.walrus_items.specs.Kinds.{imported}
 use Rattle.walrus_items.specs.declared.error.Error.{Error}
 use Rattle.walrus_items.specs.declared.function_kind.FunctionKind.{FunctionKind}
-use Rattle.walrus_items.specs.declared.kinds.ImportKind.TheVariants as kinds
 use Rattle.walrus_items.specs.Functions.{FunctionValue, functions}
 use Rattle.walrus_items.specs.Imports.{ImportValue, imported_function, imports}
 use Rattle.walrus_base.proofs.Standing.{some_of}

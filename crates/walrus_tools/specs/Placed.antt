@@ -4,7 +4,6 @@ use Rattle.std.specs.Global.{Vec}
 use Rattle.walrus_code.specs.Transform.{Transform}
 use Rattle.walrus_model.specs.Config.{Config}
 use Rattle.walrus_model.specs.Sections.{is_apart}
-use Rattle.walrus_theorem.specs.Chain.{Leaves}
 use Rattle.walrus_items.specs.Functions.{ModuleFunctions, functions}
 use Rattle.walrus_writing.specs.Parts.{local_in}
 use Rattle.walrus_writing.specs.Transform.{IsTransformOf, locations_in}
