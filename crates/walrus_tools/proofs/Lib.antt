@@ -72,5 +72,4 @@ mod TrapBody
 mod TrapSound
 mod TrapTurn
 mod TrapWhole
-mod WantedLemmas
 pub use Rattle.walrus.proofs.DeviceLemmas

@@ -27,11 +27,7 @@ pub struct Counted {
 pub fn counts(alloc: Global, bytes: &[u8], wanted: Wanted) -> Result<Counted>
     ensures { AnswersCounted (config_wanted wanted) bytes.now result }
 {
-    let mut made = ModuleConfig::new();
-    let config = made
-        .generate_name_section(wanted.names)
-        .generate_producers_section(wanted.producers)
-        .legacy_exceptions(wanted.legacy);
+    let config = ModuleConfig::of_choices(wanted.names, wanted.producers, wanted.legacy);
     let mut module = config.parse(alloc, bytes)?;
     let before = kinds_of(&module);
     gc::run(alloc, &mut module)?;

@@ -17,10 +17,6 @@ use walrus::{ModuleConfig, Result};
 pub fn gc(alloc: Global, bytes: &[u8], wanted: Wanted) -> Result<Vec<u8>>
     ensures { RunsOn (config_wanted wanted) bytes.now (λ output. output.items) result }
 {
-    let mut made = ModuleConfig::new();
-    let config = made
-        .generate_name_section(wanted.names)
-        .generate_producers_section(wanted.producers)
-        .legacy_exceptions(wanted.legacy);
-    smaller_of(alloc, bytes, config)
+    let config = ModuleConfig::of_choices(wanted.names, wanted.producers, wanted.legacy);
+    smaller_of(alloc, bytes, &config)
 }

@@ -27,11 +27,7 @@ pub fn gc_chosen(
 ) -> Result<Vec<u8>>
     ensures { AnswersChosen (config_wanted wanted) bytes.now (choices_seen choices.now) result }
 {
-    let mut made = ModuleConfig::new();
-    let config = made
-        .generate_name_section(wanted.names)
-        .generate_producers_section(wanted.producers)
-        .legacy_exceptions(wanted.legacy);
+    let config = ModuleConfig::of_choices(wanted.names, wanted.producers, wanted.legacy);
     let mut module = config.parse(alloc, bytes)?;
     keep_chosen(alloc, &mut module, choices)?;
     finished(alloc, module)

@@ -109,10 +109,6 @@ pub fn gc_counted(alloc: Global, bytes: &[u8], wanted: Wanted) -> Result<Smaller
     ensures runs { RunsOn (config_wanted wanted) bytes.now (λ s. s.output.items) result }
     ensures counts { IfOk result (λ s. IsCountedOf (config_wanted wanted) bytes.now s.before s.after) }
 {
-    let mut made = ModuleConfig::new();
-    let config = made
-        .generate_name_section(wanted.names)
-        .generate_producers_section(wanted.producers)
-        .legacy_exceptions(wanted.legacy);
-    counted_of(alloc, bytes, config)
+    let config = ModuleConfig::of_choices(wanted.names, wanted.producers, wanted.legacy);
+    counted_of(alloc, bytes, &config)
 }

@@ -91,11 +91,7 @@ fn all_listed(
 pub fn list(alloc: Global, bytes: &[u8], wanted: Wanted) -> Result<Vec<Listed>>
     ensures { AnswersListed (config_wanted wanted) bytes.now result }
 {
-    let mut made = ModuleConfig::new();
-    let config = made
-        .generate_name_section(wanted.names)
-        .generate_producers_section(wanted.producers)
-        .legacy_exceptions(wanted.legacy);
+    let config = ModuleConfig::of_choices(wanted.names, wanted.producers, wanted.legacy);
     let mut module = config.parse(alloc, bytes)?;
     gc::run(alloc, &mut module)?;
     let (output, transform) = module.emit_wasm_with_transform(alloc)?;

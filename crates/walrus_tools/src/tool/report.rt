@@ -17,10 +17,6 @@ use walrus::{ModuleConfig, Result};
 pub fn report(alloc: Global, bytes: &[u8], wanted: Wanted) -> Result<Vec<u8>>
     ensures { ReportsOn (config_wanted wanted) bytes.now (λ text. text.items) result }
 {
-    let mut made = ModuleConfig::new();
-    let config = made
-        .generate_name_section(wanted.names)
-        .generate_producers_section(wanted.producers)
-        .legacy_exceptions(wanted.legacy);
-    report_of(alloc, bytes, config)
+    let config = ModuleConfig::of_choices(wanted.names, wanted.producers, wanted.legacy);
+    report_of(alloc, bytes, &config)
 }

@@ -28,11 +28,7 @@ pub fn snip_functions(
 ) -> Result<Vec<u8>>
     ensures { AnswersMeant (config_wanted wanted) bytes.now (texts functions.now) result }
 {
-    let mut made = ModuleConfig::new();
-    let config = made
-        .generate_name_section(wanted.names)
-        .generate_producers_section(wanted.producers)
-        .legacy_exceptions(wanted.legacy);
+    let config = ModuleConfig::of_choices(wanted.names, wanted.producers, wanted.legacy);
     let mut module = config.parse(alloc, bytes)?;
     trap_meant(alloc, &mut module, functions)?;
     finished(alloc, module)

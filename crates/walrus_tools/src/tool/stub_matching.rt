@@ -72,11 +72,7 @@ pub fn stub_matching(
     ensures { AnswersMatching (config_wanted wanted) bytes.now (choices_seen modules.now)
         (choices_seen names.now) result }
 {
-    let mut made = ModuleConfig::new();
-    let config = made
-        .generate_name_section(wanted.names)
-        .generate_producers_section(wanted.producers)
-        .legacy_exceptions(wanted.legacy);
+    let config = ModuleConfig::of_choices(wanted.names, wanted.producers, wanted.legacy);
     let mut module = config.parse(alloc, bytes)?;
     stub_chosen(alloc, &mut module, modules, names)?;
     finished(alloc, module)

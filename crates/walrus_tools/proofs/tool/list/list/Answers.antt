@@ -10,22 +10,21 @@ use Rattle.walrus_module.proofs.RawStays.{all_raw}
 use Rattle.walrus_tools.specs.Sized.{AnswersListed, names_in}
 use Rattle.walrus_tools.proofs.ReasonEnds.{emission_lacks, measured, search_lacks}
 use Rattle.walrus_tools.proofs.SizeEnds.{Never, list_told, way_refused}
-use Rattle.walrus_tools.proofs.WantedLemmas.{asked}
 use Rattle.walrus_tools.proofs.tool.list.list.Goals as goal
 
 pub returns-in_err-run : goal.returns-in_err-run
 returns-in_err-run c =
     let p = err_from_is_err_and c.from_residual-in_err-run.result c.from_residual-in_err-run.ensures.1 in
-    let same = (asked c.args.wanted _ _ _ _ c.new-made.ensures.value c.generate_name_section.ensures.value c.generate_producers_section.ensures.value c.legacy_exceptions-config.ensures.value) in
+    let same = c.of_choices-config.ensures.value in
     let read = c.in_ok-module.module in
     rw (p.1, p.2) (subst (λ (f : Flags). AnswersListed (config_of f) c.args.bytes.now (Err c.in_err-run.field-0.0)) same
-    (way_refused _ c.args.bytes.now _ (search_lacks _ Never (flags c.legacy_exceptions-config.result.now) (ap (λ (f : Flags). f.preserve_code_transform) same) c.args.bytes.now read c.in_ok-module.ensures.found
+    (way_refused _ c.args.bytes.now _ (search_lacks _ Never (flags c.of_choices-config.result) (ap (λ (f : Flags). f.preserve_code_transform) same) c.args.bytes.now read c.in_ok-module.ensures.found
     c.in_ok-module.ensures.kept.raws c.in_ok-module.ensures.kept.are c.in_ok-module.ensures.configured _ c.in_err-run.ensures.refused)))
 
 pub returns-in_err-output : goal.returns-in_err-output
 returns-in_err-output c =
     let p = err_from_is_err_and c.from_residual-in_err-output.result c.from_residual-in_err-output.ensures.1 in
-    let same = (asked c.args.wanted _ _ _ _ c.new-made.ensures.value c.generate_name_section.ensures.value c.generate_producers_section.ensures.value c.legacy_exceptions-config.ensures.value) in
+    let same = c.of_choices-config.ensures.value in
     let read = c.in_ok-module.module in
     let raw = c.in_ok-module.ensures.kept in
     let kept = c.run.new.module in
@@ -33,12 +32,12 @@ returns-in_err-output c =
     let ran = c.in_ok-run.ensures in
     let stay = c.in_err-output.ensures.emits.raw (all_raw kept.customs raw.raws (ap sections ran.others.customs ∙ raw.are)) in
     rw (p.1, p.2) (subst (λ (f : Flags). AnswersListed (config_of f) c.args.bytes.now (Err c.in_err-output.field-0.0)) same
-    (way_refused _ c.args.bytes.now _ (emission_lacks _ Never (flags c.legacy_exceptions-config.result.now) (ap (λ (f : Flags). f.preserve_code_transform) same) c.args.bytes.now read c.in_ok-module.ensures.found
+    (way_refused _ c.args.bytes.now _ (emission_lacks _ Never (flags c.of_choices-config.result) (ap (λ (f : Flags). f.preserve_code_transform) same) c.args.bytes.now read c.in_ok-module.ensures.found
     raw.raws raw.are c.in_ok-module.ensures.configured kept ran.collected ran.others.customs left stay (settings kept) ran.others.settings c.in_err-output.field-0.0 c.in_err-output.ensures.emits.left c.in_err-output.ensures.emits.well_made)))
 
 pub returns : goal.returns
 returns c =
-    let same = (asked c.args.wanted _ _ _ _ c.new-made.ensures.value c.generate_name_section.ensures.value c.generate_producers_section.ensures.value c.legacy_exceptions-config.ensures.value) in
+    let same = c.of_choices-config.ensures.value in
     let read = c.in_ok-module.module in
     let raw = c.in_ok-module.ensures.kept in
     let kept = c.run.new.module in
@@ -46,7 +45,7 @@ returns c =
     let ran = c.in_ok-run.ensures in
     let wrote = c.in_ok-output.ensures in
     let stay = wrote.emits.raw (all_raw kept.customs raw.raws (ap sections ran.others.customs ∙ raw.are)) in
-    let m = measured _ Never (flags c.legacy_exceptions-config.result.now) (ap (λ (f : Flags). f.preserve_code_transform) same) c.args.bytes.now read c.in_ok-module.ensures.found
+    let m = measured _ Never (flags c.of_choices-config.result) (ap (λ (f : Flags). f.preserve_code_transform) same) c.args.bytes.now read c.in_ok-module.ensures.found
     raw.raws raw.are c.in_ok-module.ensures.configured kept ran.collected ran.others.customs left stay wrote.emits.left (settings kept) (ran.others.settings ∙ c.in_ok-module.ensures.configured) c.in_ok-output.output c.in_ok-output.transform
     wrote.emits.well_made (wrote.transform (inr refl)) in
     subst (λ (f : Flags). AnswersListed (config_of f) c.args.bytes.now (Ok c.in_ok-all_listed.field-0)) same

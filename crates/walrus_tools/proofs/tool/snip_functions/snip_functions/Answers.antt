@@ -7,15 +7,14 @@ use Rattle.walrus_tools.specs.Meant.{texts}
 use Rattle.walrus_tools.specs.Trapping.{AnswersMeant, RefusesMeant, SnipsMeant}
 use Rattle.walrus_tools.proofs.EditEnds.{edit_finishes, edit_refused, parsed_whole}
 use Rattle.walrus_tools.proofs.TrapWhole.{snips_meant}
-use Rattle.walrus_tools.proofs.WantedLemmas.{asked}
 use Rattle.walrus_tools.proofs.tool.snip_functions.snip_functions.Goals as goal
 
 pub returns-in_err-trap_meant : goal.returns-in_err-trap_meant
 returns-in_err-trap_meant c =
     let all = texts c.args.functions.now in
-    let f = flags c.legacy_exceptions-config.result.now in
+    let f = flags c.of_choices-config.result in
     let read = c.in_ok-module.module in
-    let same = asked c.args.wanted _ _ _ _ c.new-made.ensures.value c.generate_name_section.ensures.value c.generate_producers_section.ensures.value c.legacy_exceptions-config.ensures.value in
+    let same = c.of_choices-config.ensures.value in
     let p = err_from_is_err_and c.from_residual-in_err-trap_meant.result c.from_residual-in_err-trap_meant.ensures.1 in
     rw (p.1, p.2) (subst (λ (g : Flags). AnswersMeant (config_of g) c.args.bytes.now all (Err c.in_err-trap_meant.field-0.0)) same
     (edit_refused _ (SnipsMeant all) (RefusesMeant all) (config_of f) c.args.bytes.now read c.in_ok-module.ensures.found (λ k h. h) (λ h. h) _
@@ -24,9 +23,9 @@ returns-in_err-trap_meant c =
 pub returns : goal.returns
 returns c =
     let all = texts c.args.functions.now in
-    let f = flags c.legacy_exceptions-config.result.now in
+    let f = flags c.of_choices-config.result in
     let read = c.in_ok-module.module in
-    let same = asked c.args.wanted _ _ _ _ c.new-made.ensures.value c.generate_name_section.ensures.value c.generate_producers_section.ensures.value c.legacy_exceptions-config.ensures.value in
+    let same = c.of_choices-config.ensures.value in
     let whole = parsed_whole _ (SnipsMeant all) (RefusesMeant all) (config_of f) c.args.bytes.now read c.in_ok-module.ensures.found in
     let done = c.in_ok-trap_meant.ensures (config_of f) whole in
     subst (λ (g : Flags). AnswersMeant (config_of g) c.args.bytes.now all c.finished.result) same

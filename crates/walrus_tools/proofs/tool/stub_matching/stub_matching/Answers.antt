@@ -7,16 +7,15 @@ use Rattle.walrus_tools.specs.Choice.{choices_seen}
 use Rattle.walrus_tools.specs.StubMatching.{AnswersMatching, RefusesMatching, StubsMatching}
 use Rattle.walrus_tools.proofs.EditEnds.{edit_finishes, edit_refused, parsed_whole}
 use Rattle.walrus_tools.proofs.MatchingEnds.{matching_held}
-use Rattle.walrus_tools.proofs.WantedLemmas.{asked}
 use Rattle.walrus_tools.proofs.tool.stub_matching.stub_matching.Goals as goal
 
 pub returns-in_err-stub_chosen : goal.returns-in_err-stub_chosen
 returns-in_err-stub_chosen c =
     let ms = choices_seen c.args.modules.now in
     let ns = choices_seen c.args.names.now in
-    let f = flags c.legacy_exceptions-config.result.now in
+    let f = flags c.of_choices-config.result in
     let read = c.in_ok-module.module in
-    let same = asked c.args.wanted _ _ _ _ c.new-made.ensures.value c.generate_name_section.ensures.value c.generate_producers_section.ensures.value c.legacy_exceptions-config.ensures.value in
+    let same = c.of_choices-config.ensures.value in
     let p = err_from_is_err_and c.from_residual-in_err-stub_chosen.result c.from_residual-in_err-stub_chosen.ensures.1 in
     rw (p.1, p.2) (subst (λ (g : Flags). AnswersMatching (config_of g) c.args.bytes.now ms ns (Err c.in_err-stub_chosen.field-0.0)) same
     (edit_refused _ (StubsMatching ms ns) (RefusesMatching ms ns) (config_of f) c.args.bytes.now read c.in_ok-module.ensures.found (λ k h. h) (λ h. h) _
@@ -26,9 +25,9 @@ pub returns : goal.returns
 returns c =
     let ms = choices_seen c.args.modules.now in
     let ns = choices_seen c.args.names.now in
-    let f = flags c.legacy_exceptions-config.result.now in
+    let f = flags c.of_choices-config.result in
     let read = c.in_ok-module.module in
-    let same = asked c.args.wanted _ _ _ _ c.new-made.ensures.value c.generate_name_section.ensures.value c.generate_producers_section.ensures.value c.legacy_exceptions-config.ensures.value in
+    let same = c.of_choices-config.ensures.value in
     let whole = parsed_whole _ (StubsMatching ms ns) (RefusesMatching ms ns) (config_of f) c.args.bytes.now read c.in_ok-module.ensures.found in
     let done = c.in_ok-stub_chosen.ensures (config_of f) whole in
     subst (λ (g : Flags). AnswersMatching (config_of g) c.args.bytes.now ms ns c.finished.result) same
