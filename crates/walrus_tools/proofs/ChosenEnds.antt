@@ -1,14 +1,13 @@
 -- Chosen exports, of a module in memory and from bytes to bytes.
-use Rattle.std.proofs.Common.{◌≡◌, ℕ, Bool, true, false, List, [], Option, Some, None, refl, sym, ap, ◌∙◌, subst}
-use Rattle.std.specs.Prelude.{Contains, is_some, Result, Ok, Err}
-use Rattle.walrus_model.specs.Abstract.{Abstract, Custom}
+use Rattle.std.proofs.Common.{◌≡◌, ℕ, true, false, List, Option, Some, None, refl, sym, ap, subst}
+use Rattle.std.specs.Prelude.{is_some, Ok, Err}
+use Rattle.walrus_model.specs.Abstract.{Abstract}
 use Rattle.walrus_model.specs.Config.{Config}
 use Rattle.walrus_model.proofs.Looked.{got_contains}
-use Rattle.walrus_items.specs.Exports.{ExportValue, ModuleExports, exports}
+use Rattle.walrus_items.specs.Exports.{ExportValue, exports}
 use Rattle.walrus_items.specs.declared.custom.CustomSection.{Ghosts}
 use Rattle.walrus_items.specs.declared.error.Error.{Error}
 use Rattle.walrus_items.specs.declared.error.Error.TheVariants as error
-use Rattle.walrus_contents.specs.declared.parts.Contents.{Contents}
 use Rattle.walrus_module.specs.Parsed.{IsParsed, RefusesBytes}
 use Rattle.walrus_module.specs.View.{contents_of, held_view, view}
 use Rattle.walrus_module.specs.declared.entry.SectionEntry.{SectionEntry}
@@ -16,7 +15,7 @@ use Rattle.walrus_module.specs.declared.module.Module.{Module}
 use Rattle.walrus_tools.specs.Choice.{Choice}
 use Rattle.walrus_tools.specs.Chosen.{EachFits, IsChosen, OneFitsNone, TellsUnfit}
 use Rattle.walrus_tools.specs.ChosenModule.{AnswersChosen, AnswersUnfit, KeepsChosen, KeepsExports, KeepsIn, RefusesChosen}
-use Rattle.walrus_tools.specs.Edited.{IsWhole, with_customs}
+use Rattle.walrus_tools.specs.Edited.{IsWhole}
 use Rattle.walrus_tools.specs.KeptExports.{KeepsNamed, export_names}
 use Rattle.walrus_tools.specs.NameLists.{IsChooser, IsPicked}
 use Rattle.walrus_tools.specs.declared.chooser.Chooser.{Chooser}

@@ -1,16 +1,16 @@
 -- Exports that stay or go by their names, place by place.
-use Rattle.std.proofs.Common.{◌≡◌, ◌≢◌, ◌↔◌, ◌<◌, ◌≤◌, ◌+◌, ◌⊎◌, ℕ, Bool, true, false, List, [], ◌++◌, map, length, Option, Some, None, slice_set, refl, sym, ap, ◌∙◌, subst, inl, inr, ⊎_elim, arith}
-use Rattle.std.specs.Prelude.{Contains, IsPermutation}
+use Rattle.std.proofs.Common.{◌≡◌, ◌↔◌, ◌<◌, ◌≤◌, ◌+◌, ◌⊎◌, ℕ, List, length, Option, Some, None, slice_set, refl, sym, ap, ◌∙◌, subst, inl, inr, ⊎_elim, arith}
+use Rattle.std.specs.Prelude.{IsPermutation}
 use Rattle.std.specs.Borrow.{Bor}
 use Rattle.std.proofs.lemmas.Bool.{cases_lt}
-use Rattle.std.proofs.lemmas.List.{append-nil, get_or_past, get_or-set_other, get_or-set_same, length-set}
+use Rattle.std.proofs.lemmas.List.{get_or_past, get_or-set_other, get_or-set_same, length-set}
 use Rattle.std.proofs.lemmas.List.Sorted.{Contains-permutation, IsPermutation-map, IsPermutation-sym}
 use Rattle.walrus_base.specs.Arena.{item_at}
 use Rattle.walrus_base.proofs.Indexed.{beyond}
 use Rattle.walrus_items.specs.Exports.{ExportValue}
 use Rattle.walrus_tools.specs.Choice.{Choice}
-use Rattle.walrus_tools.specs.Chosen.{EachFits, FitsText, IsFirstUnfit, TellsUnfit}
-use Rattle.walrus_tools.specs.KeptExports.{KeepsAt, KeepsNamed, KeepsUntil, StaysIf, export_names}
+use Rattle.walrus_tools.specs.Chosen.{EachFits, FitsText, TellsUnfit}
+use Rattle.walrus_tools.specs.KeptExports.{KeepsAt, KeepsNamed, KeepsUntil, StaysIf}
 use Rattle.walrus_tools.specs.NameLists.{texts}
 
 -- ---- texts in another order

@@ -1,17 +1,15 @@
 -- Where nothing is chosen all exports stay, and the whole way is a run.
-use Rattle.std.proofs.Common.{◌≡◌, ◌+◌, ℕ, zero, suc, List, [], ◌∷◌, length, map, Option, Some, None, refl, sym, ap, ap₂, ◌∙◌, subst, inl, ⊎_elim, arith}
+use Rattle.std.proofs.Common.{◌≡◌, ℕ, zero, suc, List, [], ◌∷◌, length, map, Option, Some, None, refl, ap, ap₂, ◌∙◌, subst, inl, ⊎_elim, arith}
 use mathlib.Core.Path.{fun_ext}
-use Rattle.std.specs.Prelude.{Contains, Result, Ok, Err}
-use Rattle.std.specs.Global.{Vec}
+use Rattle.std.specs.Prelude.{Ok, Err}
 use Rattle.walrus_base.specs.Arena.{item_at, items}
 use Rattle.walrus_base.specs.Operators.{Types, Functions, Tables, Memories, Tags, Globals, Elements, DataSegments}
 use Rattle.walrus_base.proofs.Lists.{Contains-none}
 use Rattle.walrus_model.specs.Abstract.{Abstract, Custom, Name, Subject, TheModule, AnItem, ALocal}
 use Rattle.walrus_model.specs.Config.{Config}
 use Rattle.walrus_items.specs.Exports.{ExportValue, exports}
-use Rattle.walrus_items.specs.declared.error.Error.{Error}
 use Rattle.walrus_items.specs.declared.error.Error.TheVariants as error
-use Rattle.walrus_contents.specs.View.{contents_view, export_of, named_of}
+use Rattle.walrus_contents.specs.View.{export_of, named_of}
 use Rattle.walrus_contents.specs.declared.parts.Contents.{Contents}
 use Rattle.walrus_theorem.specs.Chain.{BringsTo}
 use Rattle.walrus_theorem.specs.Headline.{ComesTo}
@@ -21,14 +19,12 @@ use Rattle.walrus_theorem.proofs.Runs.{comes_out_too_large}
 use Rattle.walrus_theorem.proofs.SettleAll.{runs_settle}
 use Rattle.walrus_theorem.proofs.StepRead.{steps_come_out_lem}
 use Rattle.walrus_module.specs.Answered.{IsWellWritten}
-use Rattle.walrus_module.specs.Parsed.{IsParsed}
-use Rattle.walrus.specs.Headline.{ComesOut, RunsOn}
-use Rattle.walrus_tools.specs.Choice.{Choice}
+use Rattle.walrus.specs.Headline.{ComesOut}
 use Rattle.walrus_tools.specs.Chosen.{IsChosen}
-use Rattle.walrus_tools.specs.ChosenModule.{AnswersChosen, KeepsChosen, NoneChosen}
+use Rattle.walrus_tools.specs.ChosenModule.{KeepsChosen, NoneChosen}
 use Rattle.walrus_tools.specs.Edited.{EditsTo, with_customs}
 use Rattle.walrus_tools.specs.Ends.{LeftOf}
-use Rattle.walrus_tools.specs.KeptExports.{KeepsNamed, StaysIf}
+use Rattle.walrus_tools.specs.KeptExports.{StaysIf}
 
 -- ---- all exports stay
 
