@@ -1,10 +1,9 @@
 -- Imports that are chosen: which are marked, and what each brings.
-use Rattle.std.proofs.Common.{◌≡◌, ℕ, ◌<◌, Bool, true, false, List, length, Option, Some, None, Result, Ok, Err, refl, sym, ap, ◌∙◌, subst, inl, inr, ⊎_elim}
-use Rattle.std.specs.Prelude.{◌⊎◌, ◌↔◌}
+use Rattle.std.proofs.Common.{◌≡◌, ℕ, ◌<◌, Bool, true, false, List, length, Option, Some, None, Ok, Err, refl, sym, ◌∙◌, subst, ⊎_elim}
+use Rattle.std.specs.Prelude.{◌⊎◌}
 use Rattle.walrus_base.specs.Arena.{item_at}
 use Rattle.walrus_base.specs.Marks.{is_marked}
 use Rattle.walrus_base.specs.declared.keys.ImportKey.{ImportKey}
-use Rattle.walrus_base.specs.declared.marks.Marks.{Marks}
 use Rattle.walrus_base.proofs.Standing.{some_of}
 use Rattle.walrus_items.specs.Imports.{ImportValue, imported_function}
 use Rattle.walrus_items.specs.declared.error.Error.TheVariants as error

@@ -1,5 +1,5 @@
 -- What a text means, by what it is: an index, a name, or a name with stars.
-use Rattle.std.proofs.Common.{◌≡◌, ℕ, ◌<◌, ◌≤◌, Bool, true, false, List, length, Option, Some, None, IsSome, Result, Ok, Err, MatchResult, refl, sym, ap, ◌∙◌, subst, inl, inr, ⊎_elim}
+use Rattle.std.proofs.Common.{◌≡◌, ℕ, ◌<◌, ◌≤◌, true, false, List, length, Option, Some, None, IsSome, Result, Ok, Err, refl, sym, ap, ◌∙◌, subst, inl, inr, ⊎_elim}
 use Rattle.std.specs.Prelude.{◌⊎◌}
 use Rattle.std.proofs.lemmas.Bool.{cases_lt}
 use Rattle.std.proofs.lemmas.List.{get_or_past}
@@ -13,7 +13,7 @@ use Rattle.walrus_items.specs.Functions.{FunctionValue}
 use Rattle.walrus_items.specs.declared.error.Error.{Error}
 use Rattle.walrus_items.specs.declared.error.Error.TheVariants as error
 use Rattle.walrus_tools.specs.Found.{FindsCalled, function_called}
-use Rattle.walrus_tools.specs.Marking.{Adds, IsExported, IsFit, IsFitting, IsNamed, MarksFitting, MarksOne, MarksText, Meets, RefusesText}
+use Rattle.walrus_tools.specs.Marking.{Adds, IsExported, IsFitting, IsNamed, MarksFitting, MarksOne, MarksText, Meets, RefusesText}
 use Rattle.walrus_tools.specs.Meant.{FitsExport, FitsFunction, Means, MeansBodies, by_index, by_name, by_star, has_body, has_star, SaysIndex, SaysNone}
 use Rattle.walrus_tools.specs.Reasons.{FindsFunction}
 use Rattle.walrus_tools.specs.declared.marking.Marking.{Marking}

@@ -1,18 +1,18 @@
 -- What texts mean, text by text.
-use Rattle.std.proofs.Common.{◌≡◌, ℕ, zero, suc, ◌+◌, ◌<◌, ◌≤◌, Bool, true, false, List, [], ◌∷◌, ◌++◌, length, take, drop, get_or, All, Option, Result, Ok, Err, refl, sym, ap, ◌∙◌, subst, inl, inr, ⊎_elim, arith, take_all}
-use Rattle.std.specs.Prelude.{Contains, ◌⊎◌, ◌↔◌}
+use Rattle.std.proofs.Common.{◌≡◌, ℕ, zero, suc, ◌+◌, ◌<◌, ◌≤◌, true, false, List, [], ◌∷◌, ◌++◌, length, take, drop, get_or, All, Option, refl, sym, ap, ◌∙◌, subst, ⊎_elim, arith, take_all}
+use Rattle.std.specs.Prelude.{◌⊎◌}
 use Rattle.std.proofs.lemmas.Bool.{cases_lt}
 use Rattle.std.proofs.lemmas.List.{get_or_default, get_or-map, length-map}
 use Rattle.std.proofs.lemmas.List.Elements.{All-more, All-nil, Contains-get_or}
-use Rattle.walrus_base.specs.Marks.{is_marked, mark_places}
+use Rattle.walrus_base.specs.Marks.{is_marked}
 use Rattle.walrus_base.specs.declared.keys.FunctionKey.{FunctionKey}
 use Rattle.walrus_base.specs.declared.marks.Marks.{Marks}
 use Rattle.walrus_items.specs.Exports.{ExportValue}
 use Rattle.walrus_items.specs.Functions.{FunctionValue}
 use Rattle.walrus_items.specs.declared.error.Error.{Error}
 use Rattle.walrus_items.specs.declared.error.Error.TheVariants as error
-use Rattle.walrus_tools.specs.Marking.{Adds, AreMarks, HasPlaces, MarksText, RefusesMarks, RefusesText}
-use Rattle.walrus_tools.specs.Meant.{AreMeant, IsFirst, Means, MeansBodies, texts}
+use Rattle.walrus_tools.specs.Marking.{Adds, AreMarks, HasPlaces, RefusesMarks, RefusesText}
+use Rattle.walrus_tools.specs.Meant.{AreMeant, Means, MeansBodies, texts}
 use Rattle.walrus_tools.specs.declared.meant.Meant.{Meant}
 use Rattle.walrus_tools.proofs.MarkLemmas.{Below}
 

@@ -1,5 +1,5 @@
 -- One call that makes an imported function trap, in a whole module.
-use Rattle.std.proofs.Common.{◌≡◌, ℕ, ◌+◌, ◌≤◌, Bool, true, false, List, [], ◌∷◌, ◌++◌, Option, Some, None, IsSome, Result, Ok, Err, MatchResult, refl, sym, ap, ◌∙◌, subst, inl, inr, append_assoc, append-nil, length}
+use Rattle.std.proofs.Common.{◌≡◌, ℕ, ◌+◌, ◌≤◌, Bool, true, false, List, [], ◌∷◌, ◌++◌, Option, Some, None, IsSome, Result, Ok, Err, MatchResult, refl, sym, ap, ◌∙◌, subst, inl, inr, append_assoc, append-nil}
 use Rattle.std.specs.Prelude.{nat_lt, ◌&&◌, is_some, bytes_eq, slice_set, if◌then◌else◌}
 use Rattle.walrus_base.specs.Arena.{item_at}
 use Rattle.walrus_base.specs.Id.{place}
@@ -9,7 +9,7 @@ use Rattle.walrus_base.specs.declared.keys.ImportKey.{ImportKey}
 use Rattle.walrus_base.specs.declared.keys.LocalKey.{LocalKey}
 use Rattle.walrus_base.specs.declared.keys.TypeKey.{TypeKey}
 use Rattle.walrus_base.specs.Locals.{locals}
-use Rattle.walrus_base.specs.Operators.{Op, function_item}
+use Rattle.walrus_base.specs.Operators.{Op}
 use Rattle.walrus_base.specs.TypeDef.{TypeDef}
 use Rattle.walrus_items.specs.Function.{body_of}
 use Rattle.walrus_items.specs.LocalFunction.{LocalFunction}
@@ -19,7 +19,6 @@ use Rattle.walrus_model.specs.BodyRead.{new_locals}
 use Rattle.walrus_model.specs.Config.{Config}
 use Rattle.walrus_model.specs.ReadFunction.{StaysInFront}
 use Rattle.walrus_items.specs.Errors.{out_of_memory}
-use Rattle.walrus_items.specs.Kinds.{imported}
 use Rattle.walrus_items.specs.declared.error.Error.{Error}
 use Rattle.walrus_items.specs.declared.function_kind.FunctionKind.{FunctionKind}
 use Rattle.walrus_items.specs.Functions.{FunctionValue, functions}

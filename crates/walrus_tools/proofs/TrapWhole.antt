@@ -19,7 +19,7 @@ use Rattle.walrus_contents.specs.View.{body, contents_view, function, handlers_a
 use Rattle.walrus_contents.specs.declared.parts.Contents.{Contents}
 use Rattle.walrus_items.specs.Errors.{out_of_memory}
 use Rattle.walrus_items.specs.Exports.{ExportValue, exports}
-use Rattle.walrus_items.specs.Function.{args_of, function_type}
+use Rattle.walrus_items.specs.Function.{function_type}
 use Rattle.walrus_items.specs.Functions.{FunctionValue, functions}
 use Rattle.walrus_items.specs.LocalFunction.{LocalFunction}
 use Rattle.walrus_items.specs.declared.error.Error.{Error}
@@ -38,7 +38,7 @@ use Rattle.walrus_module.proofs.CountedBodies.{held_counted}
 use Rattle.walrus_module.proofs.EditedFunctions.{bodies_written}
 use Rattle.walrus_tools.specs.Edited.{IsWhole}
 use Rattle.walrus_tools.specs.Marking.{AreMarks, RefusesMarks}
-use Rattle.walrus_tools.specs.Meant.{AreMeant, IsFirst, Means, MeansBodiless, MeansImported, by_index, by_name, by_star, has_body}
+use Rattle.walrus_tools.specs.Meant.{AreMeant, Means, MeansBodiless, MeansImported, by_index, by_name, by_star, has_body}
 use Rattle.walrus_tools.specs.Trapping.{HitTrap, MeantTrap, RefusesMeant, SnipsMeant, Trapped, TrapsAll, TrapsMeant}
 use Rattle.walrus_tools.proofs.MeantThere.{meant_there}
 use Rattle.walrus_tools.proofs.TrapSound.{trap_refers, trap_sound}

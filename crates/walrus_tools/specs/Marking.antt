@@ -1,5 +1,5 @@
 -- Marks that are set one after another, and those of the functions that texts mean.
-use Rattle.std.specs.Prelude.{ℕ, Bool, true, false, List, Option, Result, Ok, Err, All, MatchResult, length, ◌≡◌, ◌⊎◌, ◌↔◌, ⊤}
+use Rattle.std.specs.Prelude.{ℕ, true, false, List, Option, Result, All, MatchResult, length, ◌≡◌, ◌⊎◌, ◌↔◌, ⊤}
 use Rattle.walrus_base.specs.Arena.{item_at}
 use Rattle.walrus_base.specs.Marks.{is_marked, mark_places}
 use Rattle.walrus_base.specs.declared.keys.FunctionKey.{FunctionKey}

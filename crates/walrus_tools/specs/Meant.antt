@@ -1,12 +1,10 @@
 -- Which functions of a module a text means: by an index, by a name, or by a name with stars ("Structure > Modules > Indices", "Structure > Values >
 -- Names").
-use Rattle.std.specs.Prelude.{ℕ, Bool, true, false, List, ◌∷◌, ◌++◌, Option, Some, None, Result, Ok, All, Contains, MatchOption, map, nat_eq, option_map, ◌≡◌, ◌⊎◌, ◌<◌}
+use Rattle.std.specs.Prelude.{ℕ, Bool, true, false, List, ◌∷◌, ◌++◌, Option, Some, None, Ok, All, Contains, map, nat_eq, option_map, ◌≡◌, ◌⊎◌}
 use Rattle.std.specs.List.{list_any}
 use Rattle.std.specs.Str.Parse.{ParsesUnsigned}
 use Rattle.walrus_base.specs.Arena.{IsLive, item_at}
 use Rattle.walrus_base.specs.Id.{place}
-use Rattle.walrus_base.specs.declared.id.Id.{Id}
-use Rattle.walrus_base.specs.declared.keys.FunctionKey.{FunctionKey}
 use Rattle.walrus_items.specs.Exports.{ExportValue, exported_function}
 use Rattle.walrus_items.specs.Functions.{FunctionValue}
 use Rattle.walrus_items.specs.declared.function_kind.FunctionKind.{FunctionKind}

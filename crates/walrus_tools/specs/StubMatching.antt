@@ -1,5 +1,5 @@
 -- A module in which functions trap that chosen imports brought ("Structure > Modules > Imports").
-use Rattle.std.specs.Prelude.{ℕ, Bool, true, List, [], Option, Some, None, IsSome, Result, Ok, Err, MatchResult, ◌≡◌, ◌⊎◌, ◌↔◌, ⊤}
+use Rattle.std.specs.Prelude.{ℕ, Bool, true, List, [], Option, Some, None, IsSome, Result, MatchResult, ◌≡◌, ◌⊎◌, ◌↔◌, ⊤}
 use Rattle.std.specs.Global.{Vec}
 use Rattle.walrus_base.specs.Arena.{item_at}
 use Rattle.walrus_base.specs.Locals.{locals}

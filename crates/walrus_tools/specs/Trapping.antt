@@ -1,5 +1,5 @@
 -- A module in which functions trap that texts mean ("Structure > Instructions > Control Instructions").
-use Rattle.std.specs.Prelude.{ℕ, Bool, true, false, List, [], Option, Some, None, Result, Ok, Err, All, MatchResult, length, ◌≡◌, ◌≢◌, ◌⊎◌, ⊤}
+use Rattle.std.specs.Prelude.{ℕ, Bool, true, false, List, [], Option, Some, None, Result, All, MatchResult, length, ◌≡◌, ◌≢◌, ◌⊎◌, ⊤}
 use Rattle.std.specs.Global.{Vec}
 use Rattle.walrus_base.specs.Arena.{item_at}
 use Rattle.walrus_model.specs.Config.{Config}
