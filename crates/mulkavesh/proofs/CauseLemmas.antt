@@ -2,7 +2,7 @@
 use Rattle.std.proofs.Common.{◌≡◌, ℕ, List, subst}
 use Rattle.std.specs.Prelude.{IfSome, Option, Some, None, Result, Err, String}
 use Rattle.std.specs.declared.alloc.Global.{Global}
-use Rattle.walrus_tools.specs.Handed.{Config, Error, ReadsWhole}
+use Rattle.walrus_tools.specs.Facade.{Config, Error, ReadsWhole}
 use Rattle.mulkavesh.specs.declared.subcommands.Made.{Made}
 use Rattle.mulkavesh.specs.Cause.{IsInvalid, SaysFault, SaysRefused}
 

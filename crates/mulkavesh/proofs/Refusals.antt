@@ -2,7 +2,7 @@
 use Rattle.std.proofs.Common.{◌≡◌, ℕ, Bool, true, false, List, inl, inr, sym, subst}
 use Rattle.std.specs.Prelude.{Option, Some, None, Result, Err, String}
 use Rattle.std.specs.declared.alloc.Global.{Global}
-use Rattle.walrus_tools.specs.Handed.{Config, Error, Stream, Tells}
+use Rattle.walrus_tools.specs.Facade.{Config, Error, Stream, Tells}
 use Rattle.mulkavesh.specs.declared.cause.Cause.{Cause}
 use Rattle.mulkavesh.specs.declared.cause.Cause.TheVariants as cause
 use Rattle.mulkavesh.specs.declared.subcommands.Made.{Made}

@@ -1,8 +1,8 @@
 -- Why an order isn't carried out, and what a refusal says: of invalid bytes also what is wrong with them, where that was found.
 use Rattle.std.specs.Prelude.{List, ◌++◌, ℕ, Option, Some, None, Result, Ok, Err, String, codes, string_bytes, ◌≡◌, ⊤}
 use Rattle.std.specs.declared.alloc.Global.{Global}
-use Rattle.walrus_tools.specs.Diagnosed.{Finds, WordsFault}
-use Rattle.walrus_tools.specs.Handed.{Config, Error, Fault, InvalidWasm, Module, NotFound, NotReplaceable, Read, ToolError, Write, config_of, defaults, error_text}
+use Rattle.walrus_tools.specs.Faults.{Finds, WordsFault}
+use Rattle.walrus_tools.specs.Facade.{Config, Error, Fault, InvalidWasm, Module, NotFound, NotReplaceable, Read, ToolError, Write, config_of, defaults, error_text}
 use Rattle.walrus_tools.specs.Wanted.{config_wanted}
 use Rattle.mulkavesh.specs.declared.cause.Cause.{Cause}
 use Rattle.mulkavesh.specs.declared.cause.Cause.TheVariants as cause

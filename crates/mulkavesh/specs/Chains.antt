@@ -1,6 +1,6 @@
 -- Why a function stays, as a text.
 use Rattle.std.specs.Prelude.{ℕ, Bool, true, false, List, ◌++◌, Option, Some, None, codes, decimal, map}
-use Rattle.walrus_tools.specs.Handed.{Item, item_of}
+use Rattle.walrus_tools.specs.Facade.{Item, item_of}
 use Rattle.walrus_tools.specs.Reasons.{chain_seen, chain_text, word_of}
 use Rattle.walrus_tools.specs.declared.tool.why.Chain.{Chain}
 use Rattle.mulkavesh.specs.Json.{separated}

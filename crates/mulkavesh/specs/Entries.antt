@@ -1,7 +1,7 @@
 -- The functions that stay, as a text.
 use Rattle.std.specs.Prelude.{ℕ, Bool, true, false, List, [], ◌∷◌, ◌++◌, codes, decimal, flat_map, map}
 use Rattle.std.specs.Global.{Vec}
-use Rattle.walrus_tools.specs.Sized.{ListedFunction, listed_seen}
+use Rattle.walrus_tools.specs.FunctionList.{ListedFunction, listed_seen}
 use Rattle.walrus_tools.specs.declared.tool.list.Listed.{Listed}
 use Rattle.mulkavesh.specs.Json.{separated, string_json}
 use Rattle.mulkavesh.specs.Visible.{shown}

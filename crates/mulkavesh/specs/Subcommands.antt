@@ -4,17 +4,17 @@ use Rattle.std.specs.Prelude.{ℕ, Bool, true, false, not, List, [], ◌++◌, O
 use Rattle.std.specs.Global.{Vec}
 use Rattle.std.specs.declared.alloc.Global.{Global}
 use Rattle.std.specs.Str.Parse.{ParsesUnsigned}
-use Rattle.walrus_tools.specs.Diagnosed.{Finds, WordsFault}
-use Rattle.walrus_tools.specs.Found.{AnswersFound, IsFound}
-use Rattle.walrus_tools.specs.Handed.{Config, Error, Fault, InvalidWasm, Memory, ReportsOn, RunsOn, config_of, defaults}
+use Rattle.walrus_tools.specs.Faults.{Finds, WordsFault}
+use Rattle.walrus_tools.specs.FunctionNames.{AnswersFound, IsFound}
+use Rattle.walrus_tools.specs.Facade.{Config, Error, Fault, InvalidWasm, Memory, ReportsOn, RunsOn, config_of, defaults}
 use Rattle.walrus_tools.specs.Kinds.{AnswersCounted}
 use Rattle.walrus_tools.specs.PartList.{HasParts, IsNone, Part}
 use Rattle.walrus_tools.specs.Reasons.{AnswersChain, HoldsChain}
 use Rattle.walrus_tools.specs.Sections.{LacksHeader, Piece, StandUpTo}
-use Rattle.walrus_tools.specs.Sized.{AnswersListed}
-use Rattle.walrus_tools.specs.Snipped.{AnswersSnipped}
-use Rattle.walrus_tools.specs.Stripped.{AnswersStripped}
-use Rattle.walrus_tools.specs.Stubbed.{AnswersStubbed}
+use Rattle.walrus_tools.specs.FunctionList.{AnswersListed}
+use Rattle.walrus_tools.specs.SnipAnswers.{AnswersSnipped}
+use Rattle.walrus_tools.specs.StripAnswers.{AnswersStripped}
+use Rattle.walrus_tools.specs.StubAnswers.{AnswersStubbed}
 use Rattle.walrus_tools.specs.Wanted.{config_wanted}
 use Rattle.walrus_tools.specs.declared.tool.why.Chain.{Chain}
 use Rattle.mulkavesh.specs.declared.subcommands.Made.{Made}

@@ -3,7 +3,7 @@
 ghost use Rattle.std.specs.Prelude.{◌≡◌, ◌++◌, IfOk, OnOk, codes, map};
 ghost use Rattle.mulkavesh.specs.Chains.{chain_json, chain_told, item_object};
 ghost use Rattle.mulkavesh.specs.Json.{separated};
-ghost use Rattle.walrus_tools.specs.Handed.{item_of};
+ghost use Rattle.walrus_tools.specs.Facade.{item_of};
 ghost use Rattle.walrus_tools.specs.Reasons.{chain_seen};
 
 use crate::json::add_comma;

@@ -5,7 +5,7 @@ ghost use Rattle.mulkavesh.specs.Cause.{answer_of, config_read};
 ghost use Rattle.mulkavesh.specs.Command.{Carries, FindsRead, RunsAndTells, Prints, TellsUnlessLeft, device_of, unaccepted_text};
 ghost use Rattle.mulkavesh.specs.Subcommands.{AnswersOrder};
 ghost use Rattle.mulkavesh.specs.Message.{line};
-ghost use Rattle.walrus_tools.specs.Handed.{CountsReads, CountsWrites, Tells, stream_of};
+ghost use Rattle.walrus_tools.specs.Facade.{CountsReads, CountsWrites, Tells, stream_of};
 
 use crate::cause::{Cause, said_of, text_said};
 use crate::explains::Explains;

@@ -4,7 +4,7 @@ ghost use Rattle.std.specs.Prelude.{◌≡◌, ◌++◌, IfOk, OnOk, codes, flat
 ghost use Rattle.mulkavesh.specs.Entries.{listed_line, listed_object, listed_text};
 ghost use Rattle.mulkavesh.specs.Json.{separated};
 ghost use Rattle.mulkavesh.specs.Visible.{shown};
-ghost use Rattle.walrus_tools.specs.Sized.{listed_seen};
+ghost use Rattle.walrus_tools.specs.FunctionList.{listed_seen};
 
 use crate::json::{add_comma, add_string};
 use crate::numbers::add_decimal;

@@ -4,7 +4,7 @@ ghost use Rattle.std.specs.Prelude.{◌≡◌, OnErr, OnOk};
 ghost use Rattle.std.specs.Io.KnownBytes.{Appends};
 ghost use Rattle.mulkavesh.specs.Message.{line};
 ghost use Rattle.mulkavesh.specs.Visible.{shown};
-ghost use Rattle.walrus_tools.specs.Handed.{Counts, Tells, WroteFront, stream_of};
+ghost use Rattle.walrus_tools.specs.Facade.{Counts, Tells, WroteFront, stream_of};
 
 use crate::visible::front_shown;
 use walrus_tools::{DeviceFailed, Sink, write_all};

@@ -6,10 +6,10 @@ ghost use Rattle.mulkavesh.specs.Choices.{choices_of};
 ghost use Rattle.mulkavesh.specs.Entries.{listed_told};
 ghost use Rattle.mulkavesh.specs.Reports.{counted_json};
 ghost use Rattle.mulkavesh.specs.Subcommands.{AnswersOrder, AnswersWhy, NotesNothing, Reports, Told, Writes, WritesQuietly, operand_bytes, vec_bytes};
-ghost use Rattle.walrus_tools.specs.Handed.{RunsOn, config_of, defaults};
+ghost use Rattle.walrus_tools.specs.Facade.{RunsOn, config_of, defaults};
 ghost use Rattle.walrus_tools.specs.Kinds.{AnswersCounted};
-ghost use Rattle.walrus_tools.specs.Sized.{AnswersListed};
-ghost use Rattle.walrus_tools.specs.Stripped.{AnswersStripped};
+ghost use Rattle.walrus_tools.specs.FunctionList.{AnswersListed};
+ghost use Rattle.walrus_tools.specs.StripAnswers.{AnswersStripped};
 ghost use Rattle.walrus_tools.specs.Wanted.{config_wanted};
 
 use crate::choices::choices_of;

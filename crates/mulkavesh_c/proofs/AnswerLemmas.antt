@@ -2,7 +2,7 @@
 use Rattle.std.proofs.Common.{◌≡◌, ◌≢◌, ℕ, Bool, true, false, List, Option, Some, None, refl, sym, ◌∙◌, subst, inl, inr, arith}
 use Rattle.std.specs.Prelude.{Ok, Err, if◌then◌else◌}
 use Rattle.std.proofs.lemmas.Option.{none-some}
-use Rattle.walrus_tools.specs.Handed.{Error, InvalidWasm, Memory, TooLarge}
+use Rattle.walrus_tools.specs.Facade.{Error, InvalidWasm, Memory, TooLarge}
 use Rattle.walrus_tools.specs.declared.wanted.Wanted.{Wanted}
 use Rattle.mulkavesh_c.specs.Flags.{is_known, wanted}
 use Rattle.mulkavesh_c.specs.Answer.{Answer, Gives, Puts, status_of}

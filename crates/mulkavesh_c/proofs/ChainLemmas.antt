@@ -2,11 +2,11 @@
 use Rattle.std.proofs.Common.{◌≡◌, ℕ, List, ap₂, ◌∙◌}
 use Rattle.std.specs.Prelude.{Err, Ok}
 use Rattle.std.specs.Global.{Vec}
-use Rattle.walrus_tools.specs.Handed.{Error, config_of, defaults, item_of}
-use Rattle.walrus_tools.specs.Edited.{RefusesEdit}
+use Rattle.walrus_tools.specs.Facade.{Error, config_of, defaults, item_of}
+use Rattle.walrus_tools.specs.Edits.{RefusesEdit}
 use Rattle.walrus_tools.specs.Reasons.{AnswersChain, HoldsChain, LacksFunction, TellsChain, WritesChain, chain_seen, chain_text}
 use Rattle.walrus_tools.specs.declared.tool.why.Chain.{Chain}
-use Rattle.walrus_tools.proofs.Answered.{chain_so, refused_so}
+use Rattle.walrus_tools.proofs.AnswerLemmas.{chain_so, refused_so}
 
 module _ (bytes : List ℕ) (function : ℕ) where
   pub chain_refused : (e : Error) → AnswersChain {X = Chain} (config_of defaults) bytes function HoldsChain (Err e) → AnswersChain {X = Vec ℕ} (config_of defaults) bytes function WritesChain (Err e)

@@ -2,7 +2,7 @@
 use Rattle.std.proofs.Common.{◌≡◌, ℕ, true, false, List, Option, Some, None, sym, subst}
 use Rattle.std.specs.Global.{Vec}
 use Rattle.walrus_tools.specs.Choice.{AreChoices, AreRead, Choice, choices_seen}
-use Rattle.walrus_tools.specs.Stripped.{AnswersStripped}
+use Rattle.walrus_tools.specs.StripAnswers.{AnswersStripped}
 use Rattle.walrus_tools.specs.declared.choice.Choice.{Choice as HeldChoice}
 use Rattle.walrus_tools.proofs.Records.{one_list}
 use Rattle.mulkavesh_c.specs.Answer.{Answer}

@@ -1,7 +1,7 @@
 -- What a call from C leaves behind: its status, the caller's room, and the length that is told.
 use Rattle.std.specs.Prelude.{ℕ, ◌<◌, ◌≤◌, List, ◌++◌, drop, length, Result, Ok, Err, ◌≡◌, ◌≢◌, ◌↔◌, ◌⊎◌}
 use Rattle.std.specs.Global.{Vec}
-use Rattle.walrus_tools.specs.Handed.{Error, InvalidWasm, Memory, TooLarge}
+use Rattle.walrus_tools.specs.Facade.{Error, InvalidWasm, Memory, TooLarge}
 
 -- what a call of the library answers: bytes, or why not
 abbrev pub Answer : Type 0

@@ -1,6 +1,6 @@
 -- A call that takes a name or a list of choices as bytes ("Structure > Values > Names").
 use Rattle.std.specs.Prelude.{ℕ, List, Err, IsUtf8, ◌≡◌}
-use Rattle.walrus_tools.specs.Handed.{NotFound}
+use Rattle.walrus_tools.specs.Facade.{NotFound}
 use Rattle.walrus_tools.specs.Choice.{AreChoices, Choice}
 use Rattle.mulkavesh_c.specs.Answer.{Answer}
 

@@ -1,11 +1,11 @@
 //! The calls that take a name, a list of choices or an index. A name is compared as bytes; no name of a module is bytes that aren't UTF-8, so those aren't
 //! found.
 
-ghost use Rattle.walrus_tools.specs.Handed.{config_of, defaults};
+ghost use Rattle.walrus_tools.specs.Facade.{config_of, defaults};
 ghost use Rattle.walrus_tools.specs.Reasons.{AnswersChain, WritesChain};
-ghost use Rattle.walrus_tools.specs.Snipped.{AnswersSnipped};
-ghost use Rattle.walrus_tools.specs.Stripped.{AnswersStripped};
-ghost use Rattle.walrus_tools.specs.Stubbed.{AnswersStubbed};
+ghost use Rattle.walrus_tools.specs.SnipAnswers.{AnswersSnipped};
+ghost use Rattle.walrus_tools.specs.StripAnswers.{AnswersStripped};
+ghost use Rattle.walrus_tools.specs.StubAnswers.{AnswersStubbed};
 ghost use Rattle.mulkavesh_c.specs.Names.{UnderChoices, UnderName};
 
 use std::alloc::Global;

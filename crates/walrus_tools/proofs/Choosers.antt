@@ -7,14 +7,14 @@ use Rattle.std.proofs.lemmas.List.Elements.{All-contains, All-map, Contains-appe
 use Rattle.std.proofs.lemmas.List.Sorted.{Contains-permutation, IsPermutation-map, IsPermutation-sym}
 use Rattle.walrus_base.proofs.Lists.{Contains-none}
 use Rattle.walrus_tools.specs.Choice.{Choice, FitsOne, Suits, choice_seen, choices_seen}
-use Rattle.walrus_tools.specs.Chosen.{IsChosen, NoneKept}
+use Rattle.walrus_tools.specs.ExportChoice.{IsChosen, NoneKept}
 use Rattle.walrus_tools.specs.Fits.{Fits}
 use Rattle.walrus_tools.specs.NameLists.{FitsIn, FitsNames, FitsSome, IsChooser, IsPicked, has_star, texts}
 use Rattle.walrus_tools.specs.declared.choice.Choice.{Choice as HeldChoice}
 use Rattle.walrus_tools.specs.declared.chooser.Chooser.{Chooser}
 use Rattle.walrus_tools.specs.declared.chooser.Names.{Names}
 use Rattle.walrus_tools.proofs.Among.{among}
-use Rattle.walrus_tools.proofs.LookedUp.{plain_fits, untrue}
+use Rattle.walrus_tools.proofs.LookUps.{plain_fits, untrue}
 
 abbrev Text : Type 0
 Text = Bor (List ℕ)

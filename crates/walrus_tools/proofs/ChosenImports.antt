@@ -8,10 +8,10 @@ use Rattle.walrus_base.proofs.Standing.{some_of}
 use Rattle.walrus_items.specs.Imports.{ImportValue, imported_function}
 use Rattle.walrus_items.specs.declared.error.Error.TheVariants as error
 use Rattle.walrus_tools.specs.Choice.{Choice}
-use Rattle.walrus_tools.specs.Marking.{Meets}
+use Rattle.walrus_tools.specs.MarkSteps.{Meets}
 use Rattle.walrus_tools.specs.Stub.{BringsFunction}
 use Rattle.walrus_tools.specs.StubMatching.{AreChosen, ChosenAt, HitFunctions, IsChosen, MarksChosen}
-use Rattle.walrus_tools.specs.declared.marking.Marking.{Marking}
+use Rattle.walrus_tools.specs.declared.marks.Marking.{Marking}
 use Rattle.walrus_tools.proofs.MeantLemmas.{within}
 
 untrue : false ≡ true → ⊥

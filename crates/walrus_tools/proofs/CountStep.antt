@@ -52,7 +52,7 @@ use Rattle.walrus_reading.proofs.EditedSlots.{comes_behind}
 use Rattle.walrus_tools.proofs.CallBody.{with_call}
 use Rattle.walrus_tools.proofs.CallSound.{call_leads, call_sound, imported_refers, imported_sound, type_sound}
 use Rattle.walrus_tools.specs.Count.{CallsFirst, ImportsIn, KindCalls, SlotCalls}
-use Rattle.walrus_tools.specs.Counted.{Counts}
+use Rattle.walrus_tools.specs.CountAnswers.{Counts}
 
 -- ---- a function whose body begins with a call
 

@@ -6,7 +6,7 @@ use Rattle.walrus_theorem.specs.Features.{features_of}
 use Rattle.walrus_theorem.proofs.ReadAccepted.{accepts_read_lem}
 use Rattle.walrus_reading.specs.Faults.{FindsFault}
 use Rattle.walrus_reading.specs.declared.faults.Fault.{Fault}
-use Rattle.walrus_tools.specs.Diagnosed.{Finds}
+use Rattle.walrus_tools.specs.Faults.{Finds}
 
 pub found_so : (c : Config) (bytes : List ℕ) (found : Option Fault) → FindsFault (features_of c) bytes found → Finds c bytes found
 found_so c bytes None h = (accepts_read_lem c bytes).1 (record { sections = h.sections; framed = h.framed; rules = h.rules; bodies = h.bodies; read = h.read })

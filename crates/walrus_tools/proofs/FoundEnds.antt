@@ -21,11 +21,11 @@ use Rattle.walrus_module.specs.View.{contents_of, view}
 use Rattle.walrus_module.specs.declared.entry.SectionEntry.{SectionEntry}
 use Rattle.walrus_module.specs.declared.module.Module.{Module}
 use Rattle.walrus.specs.Used.{Searches}
-use Rattle.walrus_tools.specs.Edited.{RefusesEdit}
-use Rattle.walrus_tools.specs.Found.{AnswersFound, FindsCalled, IsFound, LacksCalled}
-use Rattle.walrus_tools.specs.Measured.{IsSame}
+use Rattle.walrus_tools.specs.Edits.{RefusesEdit}
+use Rattle.walrus_tools.specs.FunctionNames.{AnswersFound, FindsCalled, IsFound, LacksCalled}
+use Rattle.walrus_tools.specs.Measures.{IsSame}
 use Rattle.walrus_tools.specs.Reasons.{AnswersChainCalled, ExplainsIn, HoldsChain, TellsCalled}
-use Rattle.walrus_tools.specs.Sized.{RefusesIf}
+use Rattle.walrus_tools.specs.FunctionList.{RefusesIf}
 use Rattle.walrus_tools.specs.declared.tool.why.Chain.{Chain}
 use Rattle.walrus_tools.proofs.EditEnds.{parsed_whole, plain_read}
 use Rattle.walrus_tools.proofs.MeantThere.{meant_there}

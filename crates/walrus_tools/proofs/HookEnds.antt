@@ -25,10 +25,10 @@ use Rattle.walrus_module.specs.declared.module.Module.{Module}
 use Rattle.walrus_tools.proofs.EditEnds.{edit_finishes, edit_refused, parsed_whole}
 use Rattle.walrus_tools.proofs.FunctionsThere.{none_at, one_at}
 use Rattle.walrus_tools.proofs.HookSteps.{export_whole}
-use Rattle.walrus_tools.specs.Edited.{AnswersEdited, IsWhole}
-use Rattle.walrus_tools.specs.Finding.{FinishesReady}
+use Rattle.walrus_tools.specs.Edits.{AnswersEdited, IsWhole}
+use Rattle.walrus_tools.specs.ListSteps.{FinishesReady}
 use Rattle.walrus_tools.specs.declared.examples.with_export.Exporting.{Exporting}
-use Rattle.walrus_tools.specs.Hooked.{AnswersExport, ExportsHeld, ExportsIndexed, RefusesExport, RefusesIndexed}
+use Rattle.walrus_tools.specs.ExportHook.{AnswersExport, ExportsHeld, ExportsIndexed, RefusesExport, RefusesIndexed}
 
 module _ {V : Type 0} {O : V → Type 0} (G : (v : V) → Ghosts (O v)) (Gives : ℕ → InstrLocId → Type 0) (bytes : List ℕ) (index : ℕ) (name : List ℕ) where
   abbrev does : Effect

@@ -1,11 +1,11 @@
 mod Among
-pub mod Answered
+pub mod AnswerLemmas
 mod BodiesRise
 mod CallBody
 mod CallSound
+mod ChoiceLemmas
 mod ChoiceLists
 mod Choosers
-mod Chosen
 mod ChosenEnds
 mod ChosenImports
 mod Closures
@@ -16,12 +16,13 @@ mod CountTurn
 mod EachMoves
 mod EditEnds
 mod FaultEnds
-mod Finishing
+mod FinishLemmas
 mod FoundEnds
 mod Fronts
 mod FunctionsThere
 mod HookEnds
 mod HookSteps
+mod ImportMatches
 mod KeptWhole
 mod KindLemmas
 mod LineLemmas
@@ -29,9 +30,8 @@ mod ListedBytes
 mod ListedEnds
 mod ListedReached
 mod ListedWritten
-mod LookedUp
+mod LookUps
 mod MarkLemmas
-mod Matched
 mod MatchingEnds
 mod MeantLemmas
 mod MeantTexts
@@ -63,8 +63,8 @@ mod SizeEnds
 mod SizeLemmas
 mod SnipCall
 mod SnipStep
-mod StripLemmas
 mod Stars
+mod StripLemmas
 mod StubCall
 mod StubStep
 mod StubTurn

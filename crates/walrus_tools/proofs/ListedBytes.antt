@@ -7,9 +7,9 @@ use Rattle.walrus_base.proofs.Lists.{Contains-head, Contains-none, Contains-tail
 use Rattle.walrus_theorem.proofs.StepHandlers.{Contains-split}
 use Rattle.walrus_items.specs.declared.error.Error.{Error}
 use Rattle.walrus_items.specs.Functions.{FunctionValue}
-use Rattle.walrus_tools.specs.Finding.{BeginsWith, FindsFirst, FindsListed, IsThere}
+use Rattle.walrus_tools.specs.ListSteps.{BeginsWith, FindsFirst, FindsListed, IsThere}
 use Rattle.walrus.specs.Listed.{index_bytes, list_bytes}
-use Rattle.walrus_tools.specs.Listed.{Lists}
+use Rattle.walrus_tools.specs.ListSection.{Lists}
 
 -- what stands behind an index is told by the bytes
 same_rest : (i j : ℕ) (xs ys : List ℕ) → index_bytes i ++ xs ≡ index_bytes j ++ ys → xs ≡ ys

@@ -44,10 +44,10 @@ use Rattle.walrus_module.proofs.FirstRaw.{FoundRaw, IsFirstRaw, found, gone_at, 
 use Rattle.walrus_tools.proofs.ListedReached.{listed_made, reached_there}
 use Rattle.walrus_tools.proofs.ListedWritten.{lists_again}
 use Rattle.walrus_tools.specs.Ends.{Finishes, LeavesWritten, LeftOf}
-use Rattle.walrus_tools.specs.Finding.{FindsListed, IsReady, IsThere}
+use Rattle.walrus_tools.specs.ListSteps.{FindsListed, IsReady, IsThere}
 use Rattle.walrus.specs.Listed.{found_bytes}
-use Rattle.walrus_tools.specs.Listed.{AsksToKeep, HasFirst, HasNone, KeepsListed, Lists, ListsFunctions, listing}
-use Rattle.walrus_tools.specs.Listing.{AnswersKeepListed, MayListAgain}
+use Rattle.walrus_tools.specs.ListSection.{AsksToKeep, HasFirst, HasNone, KeepsListed, Lists, ListsFunctions, listing}
+use Rattle.walrus_tools.specs.ListAnswers.{AnswersKeepListed, MayListAgain}
 use Rattle.walrus_tools.specs.Metadata.{section_of}
 
 -- ---- what sections mean

@@ -4,8 +4,8 @@ use Rattle.std.specs.Prelude.{◌⊎◌}
 use Rattle.std.proofs.lemmas.Bool.{cases_lt}
 use Rattle.walrus_base.specs.Marks.{is_marked}
 use Rattle.walrus_base.specs.declared.marks.Marks.{Marks}
-use Rattle.walrus_tools.specs.Marking.{Adds, Meets}
-use Rattle.walrus_tools.specs.declared.marking.Marking.{Marking}
+use Rattle.walrus_tools.specs.MarkSteps.{Adds, Meets}
+use Rattle.walrus_tools.specs.declared.marks.Marking.{Marking}
 
 -- ---- the same places, said otherwise
 

@@ -12,11 +12,11 @@ use Rattle.walrus_items.specs.Exports.{ExportValue}
 use Rattle.walrus_items.specs.Functions.{FunctionValue}
 use Rattle.walrus_items.specs.declared.error.Error.{Error}
 use Rattle.walrus_items.specs.declared.error.Error.TheVariants as error
-use Rattle.walrus_tools.specs.Found.{FindsCalled, function_called}
-use Rattle.walrus_tools.specs.Marking.{Adds, IsExported, IsFitting, IsNamed, MarksFitting, MarksOne, MarksText, Meets, RefusesText}
-use Rattle.walrus_tools.specs.Meant.{FitsExport, FitsFunction, Means, MeansBodies, by_index, by_name, by_star, has_body, has_star, SaysIndex, SaysNone}
+use Rattle.walrus_tools.specs.FunctionNames.{FindsCalled, function_called}
+use Rattle.walrus_tools.specs.MarkSteps.{Adds, IsExported, IsFitting, IsNamed, MarksFitting, MarksOne, MarksText, Meets, RefusesText}
+use Rattle.walrus_tools.specs.FunctionMeaning.{FitsExport, FitsFunction, Means, MeansBodies, by_index, by_name, by_star, has_body, has_star, SaysIndex, SaysNone}
 use Rattle.walrus_tools.specs.Reasons.{FindsFunction}
-use Rattle.walrus_tools.specs.declared.marking.Marking.{Marking}
+use Rattle.walrus_tools.specs.declared.marks.Marking.{Marking}
 use Rattle.walrus_tools.proofs.MarkLemmas.{adds_as, meets_both}
 
 untrue : false ≡ true → ⊥

@@ -11,9 +11,9 @@ use Rattle.walrus_items.specs.Exports.{ExportValue}
 use Rattle.walrus_items.specs.Functions.{FunctionValue}
 use Rattle.walrus_items.specs.declared.error.Error.{Error}
 use Rattle.walrus_items.specs.declared.error.Error.TheVariants as error
-use Rattle.walrus_tools.specs.Marking.{Adds, AreMarks, HasPlaces, RefusesMarks, RefusesText}
-use Rattle.walrus_tools.specs.Meant.{AreMeant, Means, MeansBodies, texts}
-use Rattle.walrus_tools.specs.declared.meant.Meant.{Meant}
+use Rattle.walrus_tools.specs.MarkSteps.{Adds, AreMarks, HasPlaces, RefusesMarks, RefusesText}
+use Rattle.walrus_tools.specs.FunctionMeaning.{AreMeant, Means, MeansBodies, texts}
+use Rattle.walrus_tools.specs.declared.function_meaning.Meant.{Meant}
 use Rattle.walrus_tools.proofs.MarkLemmas.{Below}
 
 -- a list up to an item, the item, and what is behind it

@@ -20,7 +20,7 @@ use Rattle.walrus_items.specs.Kinds.{exported}
 use Rattle.walrus_items.specs.Searches.{first}
 use Rattle.walrus_theorem.specs.WellMade.{IsWellMade}
 use Rattle.walrus_theorem.proofs.EditKept.{none_isnt, some_is, some_there}
-use Rattle.walrus_tools.specs.Found.{meant, or_else}
+use Rattle.walrus_tools.specs.FunctionNames.{meant, or_else}
 use Rattle.walrus_tools.proofs.SnipCall.{exports_named}
 
 module _ (c : Config) (m : Contents) (made : IsWellMade c (contents_view m)) (name : List ℕ) where

@@ -40,7 +40,7 @@ use Rattle.walrus_module.proofs.EditedCustoms.{custom_added}
 use Rattle.walrus_module.proofs.KeptRaw.{none_asked_refuses}
 use Rattle.walrus_module.proofs.RawStays.{all_raw}
 use Rattle.walrus_model.proofs.Looked.{differs}
-use Rattle.walrus_tools.proofs.Finishing.{emitted}
+use Rattle.walrus_tools.proofs.FinishLemmas.{emitted}
 use Rattle.walrus_tools.proofs.SectionsWritten.{is_written}
 use Rattle.walrus_tools.specs.Ends.{Finishes, LeavesWritten}
 use Rattle.walrus_tools.specs.Metadata.{CarriesMetadata, GainsSection, section_of, with_section}

@@ -9,7 +9,7 @@ use Rattle.walrus_base.specs.Arena.{item_at}
 use Rattle.walrus_base.proofs.Indexed.{beyond}
 use Rattle.walrus_items.specs.Exports.{ExportValue}
 use Rattle.walrus_tools.specs.Choice.{Choice}
-use Rattle.walrus_tools.specs.Chosen.{EachFits, FitsText, TellsUnfit}
+use Rattle.walrus_tools.specs.ExportChoice.{EachFits, FitsText, TellsUnfit}
 use Rattle.walrus_tools.specs.KeptExports.{KeepsAt, KeepsNamed, KeepsUntil, StaysIf}
 use Rattle.walrus_tools.specs.NameLists.{texts}
 

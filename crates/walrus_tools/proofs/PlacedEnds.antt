@@ -53,7 +53,7 @@ use Rattle.walrus_tools.proofs.MetadataEnds.{no_debug, own_name, section_stands}
 use Rattle.walrus_tools.proofs.PlacedSlots.{Behind, SaysPlaces, TypeSaysPlaces, as_custom, behind, it_says, of_its_kind}
 use Rattle.walrus_tools.specs.Ends.{LeavesWritten}
 use Rattle.walrus_tools.specs.Metadata.{GainsSection, with_section}
-use Rattle.walrus_tools.specs.Placed.{CarriesPlaces, IsWithPlaces, carried, given}
+use Rattle.walrus_tools.specs.PlacesSection.{CarriesPlaces, IsWithPlaces, carried, given}
 use Rattle.walrus_module.proofs.FollowedSlots.{by_turn as state_of}
 use Rattle.walrus_module.proofs.WrittenSections.{one_name as name_of}
 

@@ -44,10 +44,10 @@ use Rattle.walrus.specs.Why.{Explains}
 use Rattle.walrus_module.proofs.KeptRaw.{none_refuses}
 use Rattle.walrus.proofs.HeadlineLemmas.{search_refused as never_dead}
 use Rattle.walrus_tools.proofs.EditEnds.{edit_finishes, edit_refused, edited_live, edited_to, edited_well, parsed_whole, plain_read}
-use Rattle.walrus_tools.proofs.Finishing.{finished, search_refused}
-use Rattle.walrus_tools.specs.Edited.{AnswersEdited, IsWhole, RefusesEdit, with_customs}
+use Rattle.walrus_tools.proofs.FinishLemmas.{finished, search_refused}
+use Rattle.walrus_tools.specs.Edits.{AnswersEdited, IsWhole, RefusesEdit, with_customs}
 use Rattle.walrus_tools.specs.Ends.{Answers}
-use Rattle.walrus_tools.specs.Measured.{IsMeasured, IsSame}
+use Rattle.walrus_tools.specs.Measures.{IsMeasured, IsSame}
 use Rattle.walrus_tools.specs.Reasons.{AnswersChain, AnswersReason, ExplainsIn, FindsFunction, HoldsChain, IsChain, LacksFunction, TellsChain, chain_seen, report_text}
 use Rattle.walrus_tools.specs.declared.tool.why.Chain.{Chain}
 

@@ -16,9 +16,9 @@ use Rattle.walrus_theorem.proofs.EditTops.{export_lost, export_renamed}
 use Rattle.walrus_module.specs.View.{contents_of, held_view}
 use Rattle.walrus_module.specs.declared.module.Module.{Module}
 use Rattle.walrus_module.proofs.EditedExports.{export_deleted, export_set}
-use Rattle.walrus_tools.proofs.Matched.{finds}
-use Rattle.walrus_tools.specs.Edited.{IsWhole}
-use Rattle.walrus_tools.specs.Renamed.{Drops, Renames, RenamesIn, named, with_name}
+use Rattle.walrus_tools.proofs.ImportMatches.{finds}
+use Rattle.walrus_tools.specs.Edits.{IsWhole}
+use Rattle.walrus_tools.specs.ExportNames.{Drops, Renames, RenamesIn, named, with_name}
 
 abbrev pub names : List ℕ → ℕ × ExportValue → Bool
 names name d = is_named name d.1

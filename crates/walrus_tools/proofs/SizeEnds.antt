@@ -8,9 +8,9 @@ use Rattle.walrus_model.specs.Config.{Config}
 use Rattle.walrus_items.specs.declared.error.Error.{Error}
 use Rattle.walrus_items.specs.declared.error.Error.TheVariants as error
 use Rattle.walrus_contents.specs.declared.parts.Contents.{Contents}
-use Rattle.walrus_tools.specs.Edited.{AnswersEdited}
-use Rattle.walrus_tools.specs.Measured.{IsMeasured, IsSame}
-use Rattle.walrus_tools.specs.Sized.{AnswersFunctions, AnswersListed, HasLong, IsListed, ListedFunction, NoneLong, RefusesIf, function_names, listed_bytes, listed_of, listed_seen}
+use Rattle.walrus_tools.specs.Edits.{AnswersEdited}
+use Rattle.walrus_tools.specs.Measures.{IsMeasured, IsSame}
+use Rattle.walrus_tools.specs.FunctionList.{AnswersFunctions, AnswersListed, HasLong, IsListed, ListedFunction, NoneLong, RefusesIf, function_names, listed_bytes, listed_of, listed_seen}
 use Rattle.walrus_tools.specs.declared.tool.list.Listed.{Listed}
 
 -- nothing is refused of what was parsed

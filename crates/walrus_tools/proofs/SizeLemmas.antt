@@ -9,7 +9,7 @@ use Rattle.walrus_model.specs.Abstract.{Name}
 use Rattle.walrus_items.specs.Transform.{range_of}
 use Rattle.walrus_items.specs.declared.error.Error.{Error}
 use Rattle.walrus_contents.proofs.NamedLemmas.{among, row_more}
-use Rattle.walrus_tools.specs.Sized.{HasLong, IsLong, ListedFunction, NoneLong, RefusesIf, listed_bytes, listed_of, listed_seen}
+use Rattle.walrus_tools.specs.FunctionList.{HasLong, IsLong, ListedFunction, NoneLong, RefusesIf, listed_bytes, listed_of, listed_seen}
 use Rattle.walrus_tools.specs.declared.tool.list.Listed.{Listed}
 use Rattle.walrus_tools.proofs.Among.{because}
 use Rattle.walrus_tools.proofs.LineLemmas.{line_more}

@@ -33,14 +33,14 @@ use Rattle.walrus_module.specs.Replaced.{IsReplaced, RefusesBody, ReplacesExport
 use Rattle.walrus_module.specs.View.{contents_of, held_view}
 use Rattle.walrus_module.specs.declared.module.Module.{Module}
 use Rattle.walrus_model.proofs.Looked.{differs}
-use Rattle.walrus_tools.proofs.Matched.{finds}
+use Rattle.walrus_tools.proofs.ImportMatches.{finds}
 use Rattle.walrus_tools.proofs.SnipStep.{snip_whole}
 use Rattle.walrus_tools.proofs.StubCall.{traps}
 use Rattle.walrus_theorem.proofs.EditKept.{none_isnt, some_is}
-use Rattle.walrus_tools.specs.Edited.{IsWhole}
+use Rattle.walrus_tools.specs.Edits.{IsWhole}
 use Rattle.walrus_tools.specs.Snip.{Exports, IsKept, NamedBefore, SnipsIn}
-use Rattle.walrus_tools.specs.Snipped.{FindsNamed, IsNamedBefore, IsNamedFirst, RefusesSnip, Snips, SnipsHeld, first_named}
-use Rattle.walrus_tools.specs.Stubbed.{PutsTrap}
+use Rattle.walrus_tools.specs.SnipAnswers.{FindsNamed, IsNamedBefore, IsNamedFirst, RefusesSnip, Snips, SnipsHeld, first_named}
+use Rattle.walrus_tools.specs.StubAnswers.{PutsTrap}
 use Rattle.std.proofs.lemmas.Bool.{and_parts as both}
 
 same_refusal : (x y : Error) → ◌≡◌ {A = Result (Id FunctionKey) Error} (Err x) (Err y) → x ≡ y

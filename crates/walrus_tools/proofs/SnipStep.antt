@@ -29,8 +29,8 @@ use Rattle.walrus_module.proofs.CountedBodies.{held_counted}
 use Rattle.walrus_module.proofs.EditedReplaced.{gained, turned, with_new}
 use Rattle.walrus_reading.proofs.EditedSlots.{comes_behind}
 use Rattle.walrus_tools.proofs.TrapSound.{trap_leads, trap_sound}
-use Rattle.walrus_tools.specs.Edited.{IsWhole}
-use Rattle.walrus_tools.specs.Stubbed.{PutsTrap}
+use Rattle.walrus_tools.specs.Edits.{IsWhole}
+use Rattle.walrus_tools.specs.StubAnswers.{PutsTrap}
 use Rattle.walrus_tools.specs.Trap.{trap_ops}
 
 module _ {S : Type 0} (c : Config) (old new : Module S) (whole : IsWhole c old) (id : Id FunctionKey) (e : ℕ × ExportValue) (stands : item_at (exports old.exports) e.0 ≡ Some e.1) (k : ℕ) (f : FunctionValue) (there : item_at (functions old.funcs) k ≡ Some f) (l : LocalFunction) (kind : f.kind ≡ Local l)

@@ -2,7 +2,7 @@
 use Rattle.std.proofs.Common.{◌≡◌, ◌≤◌, ◌↔◌, ◌⊎◌, ℕ, List, [], ◌∷◌, ◌++◌, length, refl, sym, ap, ◌∙◌, subst, append_assoc, inl, inr, arith}
 use Rattle.std.specs.List.{IsFirstAndRest}
 use Rattle.walrus_tools.specs.Fits.{Part, any, byte, parts, FitParts, Fits, FitsBehind}
-use Rattle.walrus_tools.specs.Comparing.{part_seen, BeginsWith, AtStar, Lessens}
+use Rattle.walrus_tools.specs.FitSteps.{part_seen, BeginsWith, AtStar, Lessens}
 use Rattle.walrus_tools.specs.declared.fits.Part.{Part as HeldPart}
 use Rattle.walrus_tools.specs.declared.fits.Part.TheVariants.{Any, Byte}
 

@@ -11,7 +11,7 @@ use Rattle.wasm_frames.specs.declared.pieces.Pieced.TheVariants as found
 use Rattle.wasm_frames.specs.Until.{LacksHeader}
 use Rattle.wasm_frames.specs.declared.pieces.RawPiece.{RawPiece}
 use Rattle.walrus_tools.specs.Choice.{Choice, choice_seen, choices_seen}
-use Rattle.walrus_tools.specs.Stripped.{AllFit, AreLeft, FitsName, FitsSection, IsWithout, OneFitsNone, SectionGoes}
+use Rattle.walrus_tools.specs.StripAnswers.{AllFit, AreLeft, FitsName, FitsSection, IsWithout, OneFitsNone, SectionGoes}
 use Rattle.walrus_tools.specs.StripSteps.{IsLeftOf, IsMet}
 use Rattle.walrus_tools.specs.declared.choice.Choice.{Choice as HeldChoice}
 use Rattle.walrus_tools.proofs.Among.{among, none_among}

@@ -28,14 +28,14 @@ use Rattle.walrus_module.specs.Replaced.{IsMadeLocal, IsNew, MakesBroughtLocal, 
 use Rattle.walrus_module.specs.View.{contents_of}
 use Rattle.walrus_module.specs.declared.module.Module.{Module}
 use Rattle.walrus_module.proofs.EditedReplaced.{of_kind}
-use Rattle.walrus_tools.proofs.Matched.{IsBroughtBy, brought_by, theirs}
+use Rattle.walrus_tools.proofs.ImportMatches.{IsBroughtBy, brought_by, theirs}
 use Rattle.walrus_tools.proofs.Places.{all_below, none_below, not_yet, now_hit, passes_over, same_below}
 use Rattle.walrus_tools.proofs.StubStep.{stub_whole}
 use Rattle.walrus_tools.proofs.StubTurn.{stubs_more, stubs_none}
 use Rattle.walrus_theorem.proofs.EditKept.{none_isnt, some_there}
-use Rattle.walrus_tools.specs.Edited.{IsWhole}
+use Rattle.walrus_tools.specs.Edits.{IsWhole}
 use Rattle.walrus_tools.specs.Stub.{BringsFunction, comes_from, function_from}
-use Rattle.walrus_tools.specs.Stubbed.{PutsTrap, Stubs, StubsAt, StubsHeld, StubsSome}
+use Rattle.walrus_tools.specs.StubAnswers.{PutsTrap, Stubs, StubsAt, StubsHeld, StubsSome}
 use Rattle.walrus_tools.specs.Trap.{trap_ops}
 
 -- ---- what the closure left

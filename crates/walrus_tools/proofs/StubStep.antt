@@ -33,8 +33,8 @@ use Rattle.walrus_module.proofs.CountedBodies.{held_counted}
 use Rattle.walrus_module.proofs.EditedReplaced.{imported_local, imported_takes}
 use Rattle.walrus_reading.proofs.EditedSlots.{set_here}
 use Rattle.walrus_tools.proofs.TrapSound.{trap_refers, trap_sound}
-use Rattle.walrus_tools.specs.Edited.{IsWhole}
-use Rattle.walrus_tools.specs.Stubbed.{PutsTrap}
+use Rattle.walrus_tools.specs.Edits.{IsWhole}
+use Rattle.walrus_tools.specs.StubAnswers.{PutsTrap}
 use Rattle.walrus_tools.specs.Trap.{trap_ops}
 
 module _ {S : Type 0} (c : Config) (old new : Module S) (whole : IsWhole c old) (fid id : Id FunctionKey) (f : FunctionValue) (i : ImportedFunction) (def : TypeDef) (there : item_at (functions old.funcs) (place fid) ≡ Some f) (kind : f.kind ≡ Import i)

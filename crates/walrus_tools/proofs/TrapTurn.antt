@@ -15,9 +15,9 @@ use Rattle.walrus_items.specs.Functions.{FunctionValue, function_value}
 use Rattle.walrus_items.specs.declared.functions.Function.{Function}
 use Rattle.walrus_theorem.proofs.EditKept.{some_there}
 use Rattle.walrus_reading.proofs.EditedSlots.{set_here}
-use Rattle.walrus_tools.specs.Marking.{AreMarks}
-use Rattle.walrus_tools.specs.Meant.{AreMeant, MeansBodies, has_body}
-use Rattle.walrus_tools.specs.Trapping.{HitTrap, KindTraps, MeantTrap, PlaceTraps, SlotTraps, Trapped, TrapsIf}
+use Rattle.walrus_tools.specs.MarkSteps.{AreMarks}
+use Rattle.walrus_tools.specs.FunctionMeaning.{AreMeant, MeansBodies, has_body}
+use Rattle.walrus_tools.specs.TrapEdit.{HitTrap, KindTraps, MeantTrap, PlaceTraps, SlotTraps, Trapped, TrapsIf}
 
 untrue : false ≡ true → ⊥
 untrue h = cc

@@ -36,10 +36,10 @@ use Rattle.walrus_module.specs.View.{contents_of, held_view}
 use Rattle.walrus_module.specs.declared.module.Module.{Module}
 use Rattle.walrus_module.proofs.CountedBodies.{held_counted}
 use Rattle.walrus_module.proofs.EditedFunctions.{bodies_written}
-use Rattle.walrus_tools.specs.Edited.{IsWhole}
-use Rattle.walrus_tools.specs.Marking.{AreMarks, RefusesMarks}
-use Rattle.walrus_tools.specs.Meant.{AreMeant, Means, MeansBodiless, MeansImported, by_index, by_name, by_star, has_body}
-use Rattle.walrus_tools.specs.Trapping.{HitTrap, MeantTrap, RefusesMeant, SnipsMeant, Trapped, TrapsAll, TrapsMeant}
+use Rattle.walrus_tools.specs.Edits.{IsWhole}
+use Rattle.walrus_tools.specs.MarkSteps.{AreMarks, RefusesMarks}
+use Rattle.walrus_tools.specs.FunctionMeaning.{AreMeant, Means, MeansBodiless, MeansImported, by_index, by_name, by_star, has_body}
+use Rattle.walrus_tools.specs.TrapEdit.{HitTrap, MeantTrap, RefusesMeant, SnipsMeant, Trapped, TrapsAll, TrapsMeant}
 use Rattle.walrus_tools.proofs.MeantThere.{meant_there}
 use Rattle.walrus_tools.proofs.TrapSound.{trap_refers, trap_sound}
 use Rattle.walrus_tools.proofs.TrapTurn.{meant_trap}

@@ -4,7 +4,7 @@ use Rattle.std.specs.Borrow.{Bor}
 use Rattle.std.specs.List.{list_any}
 use Rattle.wasm_wire.specs.Names.{by_bytes}
 use Rattle.walrus_tools.specs.Choice.{Choice, FitsOne}
-use Rattle.walrus_tools.specs.Chosen.{NoneKept}
+use Rattle.walrus_tools.specs.ExportChoice.{NoneKept}
 use Rattle.walrus_tools.specs.Fits.{Fits}
 use Rattle.walrus_tools.specs.declared.chooser.Chooser.{Chooser}
 use Rattle.walrus_tools.specs.declared.chooser.Names.{Names}

@@ -19,10 +19,10 @@ use Rattle.walrus_contents.specs.Named.{items_in}
 use Rattle.walrus_contents.specs.declared.parts.Contents.{Contents}
 use Rattle.walrus_module.specs.Parsed.{IsParsed}
 use Rattle.walrus.specs.Why.{Explains}
-use Rattle.walrus_tools.specs.Edited.{AnswersEdited, RefusesEdit, with_customs}
+use Rattle.walrus_tools.specs.Edits.{AnswersEdited, RefusesEdit, with_customs}
 use Rattle.walrus_tools.specs.Ends.{Answers, IfNotFound}
-use Rattle.walrus_tools.specs.Found.{LacksCalled, meant}
-use Rattle.walrus_tools.specs.Measured.{IsMeasured, IsSame}
+use Rattle.walrus_tools.specs.FunctionNames.{LacksCalled, meant}
+use Rattle.walrus_tools.specs.Measures.{IsMeasured, IsSame}
 use Rattle.walrus_tools.specs.declared.tool.why.Chain.{Chain}
 
 -- ---- the text

@@ -6,7 +6,7 @@ use Rattle.wasm_frames.specs.declared.pieces.RawPiece.{RawPiece}
 use Rattle.walrus_items.specs.declared.error.Error.{Error}
 use Rattle.walrus_items.specs.declared.error.Error.TheVariants.{InvalidWasm, Memory}
 use Rattle.walrus_tools.specs.Choice.{Choice}
-use Rattle.walrus_tools.specs.Stripped.{FitsSection, SectionGoes}
+use Rattle.walrus_tools.specs.StripAnswers.{FitsSection, SectionGoes}
 
 -- the choice is one of what is kept, or fits the name of one of the sections
 abbrev pub IsMet : List Piece → Choice → Type 0

@@ -2,7 +2,7 @@
 
 ghost use Rattle.std.specs.Prelude.{◌≡◌, ◌↔◌, ◌⊎◌, ℕ, IfOk, List, OnOk, true};
 ghost use Rattle.walrus_tools.specs.Choice.{Suits, choice_seen, choices_seen};
-ghost use Rattle.walrus_tools.specs.Chosen.{NoneKept};
+ghost use Rattle.walrus_tools.specs.ExportChoice.{NoneKept};
 ghost use Rattle.walrus_tools.specs.NameLists.{AreInOrder, AreNames, FitsIn, FitsNames, FitsSome, IsChooser, IsInOrder, IsPicked, texts};
 
 use crate::choice::Choice;

@@ -1,6 +1,6 @@
 //! What callers do last: what nothing reaches goes, and the module is written.
 
-ghost use Rattle.walrus_tools.specs.Finding.{FinishesReady};
+ghost use Rattle.walrus_tools.specs.ListSteps.{FinishesReady};
 
 use std::alloc::Global;
 use walrus::passes::gc;

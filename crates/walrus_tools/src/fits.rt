@@ -2,7 +2,7 @@
 
 ghost use Rattle.std.specs.Prelude.{◌≡◌, ◌↔◌, true};
 ghost use Rattle.walrus_tools.specs.Fits.{Fits, FitsBehind};
-ghost use Rattle.walrus_tools.specs.Comparing.{Begins, Answered, Compared};
+ghost use Rattle.walrus_tools.specs.FitSteps.{Begins, Answered, Compared};
 
 /// What a part of a name stands for: any bytes, or this one.
 #[derive(Clone, Copy)]

@@ -2,7 +2,7 @@
 
 ghost use Rattle.walrus_items.specs.Exports.{exports};
 ghost use Rattle.walrus_items.specs.Functions.{functions};
-ghost use Rattle.walrus_tools.specs.Found.{FindsCalled};
+ghost use Rattle.walrus_tools.specs.FunctionNames.{FindsCalled};
 ghost use Rattle.walrus_tools.specs.Reasons.{FindsFunction};
 
 use walrus::{Error, FunctionId, ModuleExports, ModuleFunctions, Result};

@@ -5,11 +5,11 @@ ghost use Rattle.walrus_base.specs.Arena.{item_at};
 ghost use Rattle.walrus_base.specs.Id.{place};
 ghost use Rattle.walrus_items.specs.Imports.{import_value, imports};
 ghost use Rattle.walrus_tools.specs.Choice.{choices_seen};
-ghost use Rattle.walrus_tools.specs.Marking.{HasPlaces, Meets};
+ghost use Rattle.walrus_tools.specs.MarkSteps.{HasPlaces, Meets};
 ghost use Rattle.walrus_tools.specs.StubMatching.{ChosenAt, IsChosen, IsWanted, MarksChosen, NameGoes};
 
 use crate::choice::{Choice, goes};
-use crate::marking::{Marking, meet};
+use crate::marks::{Marking, meet};
 use std::alloc::Global;
 use walrus::{Error, Import, ImportId, ImportKey, ImportKind, Marks, ModuleImports, Result};
 

@@ -3,7 +3,7 @@
 ghost use Rattle.std.specs.Prelude.{◌≡◌, ◌↔◌, Contains, IsSorted, MatchOption, true};
 ghost use Rattle.wasm_wire.specs.Names.{by_bytes};
 ghost use Rattle.walrus_tools.specs.Choice.{choices_seen};
-ghost use Rattle.walrus_tools.specs.Chosen.{FitsText, TellsUnfit};
+ghost use Rattle.walrus_tools.specs.ExportChoice.{FitsText, TellsUnfit};
 ghost use Rattle.walrus_tools.specs.NameLists.{has_star, texts};
 
 use crate::choice::Choice;

@@ -3,7 +3,7 @@
 ghost use Rattle.std.specs.Prelude.{◌≡◌, IfOk, map};
 ghost use Rattle.walrus_items.specs.Exports.{exports};
 ghost use Rattle.walrus_tools.specs.Choice.{choices_seen};
-ghost use Rattle.walrus_tools.specs.Chosen.{TellsUnfit};
+ghost use Rattle.walrus_tools.specs.ExportChoice.{TellsUnfit};
 ghost use Rattle.walrus_tools.specs.KeptExports.{KeepsAt, KeepsNamed, export_names};
 ghost use Rattle.walrus_tools.specs.NameLists.{IsInOrder, IsPicked, texts};
 

@@ -1,5 +1,5 @@
 use Rattle.std.proofs.Common.{sym, ◌∙◌}
-use Rattle.walrus_tools.specs.Diagnosed.{AnswersFault}
+use Rattle.walrus_tools.specs.Faults.{AnswersFault}
 use Rattle.walrus_tools.specs.Wanted.{config_wanted}
 use Rattle.walrus_tools.specs.declared.wanted.Wanted.{Wanted}
 use Rattle.mulkavesh_c.specs.Answer.{Answer}

@@ -1,6 +1,6 @@
 use Rattle.std.proofs.Common.{ℕ, sym, ◌∙◌}
 use Rattle.std.specs.Global.{Vec}
-use Rattle.walrus_tools.specs.Handed.{ReportsOn}
+use Rattle.walrus_tools.specs.Facade.{ReportsOn}
 use Rattle.walrus_tools.specs.Wanted.{config_wanted}
 use Rattle.walrus_tools.specs.declared.wanted.Wanted.{Wanted}
 use Rattle.mulkavesh_c.specs.Answer.{Answer}

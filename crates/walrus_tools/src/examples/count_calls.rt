@@ -8,7 +8,7 @@ ghost use Rattle.walrus_items.specs.Functions.{functions};
 ghost use Rattle.walrus_module.specs.Flags.{config_of, defaults};
 ghost use Rattle.walrus_items.specs.Errors.{out_of_memory};
 ghost use Rattle.walrus_tools.specs.Count.{PlaceCalls, SlotCalls};
-ghost use Rattle.walrus_tools.specs.Counted.{AnswersCounted, CountsAll, ImportsOne};
+ghost use Rattle.walrus_tools.specs.CountAnswers.{AnswersCounted, CountsAll, ImportsOne};
 
 use crate::calls::call_first;
 use crate::finish::finished;

@@ -3,8 +3,8 @@
 
 ghost use Rattle.walrus_items.specs.Functions.{functions};
 ghost use Rattle.walrus_module.specs.Flags.{config_of, defaults};
-ghost use Rattle.walrus_tools.specs.Finding.{FindsFirst, FindsListed};
-ghost use Rattle.walrus_tools.specs.Listing.{AnswersKeepListed};
+ghost use Rattle.walrus_tools.specs.ListSteps.{FindsFirst, FindsListed};
+ghost use Rattle.walrus_tools.specs.ListAnswers.{AnswersKeepListed};
 
 use crate::finish::finished;
 use std::alloc::Global;

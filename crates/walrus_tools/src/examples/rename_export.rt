@@ -4,7 +4,7 @@ ghost use Rattle.std.specs.Prelude.{◌≡◌, is_some, option_map};
 ghost use Rattle.walrus_base.specs.Id.{place};
 ghost use Rattle.walrus_items.specs.Exports.{exports};
 ghost use Rattle.walrus_module.specs.Flags.{config_of, defaults};
-ghost use Rattle.walrus_tools.specs.Renamed.{AnswersRenamed, EditsExports, named};
+ghost use Rattle.walrus_tools.specs.ExportNames.{AnswersRenamed, EditsExports, named};
 
 use crate::finish::finished;
 use std::alloc::Global;

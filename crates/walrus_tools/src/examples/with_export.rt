@@ -4,7 +4,7 @@
 ghost use Rattle.std.specs.Prelude.{MatchResult};
 ghost use Rattle.walrus_items.specs.Exports.{exports};
 ghost use Rattle.walrus_module.specs.Flags.{config_of, defaults};
-ghost use Rattle.walrus_tools.specs.Hooked.{AddsExport, AnswersExport, ExportsIndexed, RefusesName};
+ghost use Rattle.walrus_tools.specs.ExportHook.{AddsExport, AnswersExport, ExportsIndexed, RefusesName};
 
 use crate::examples::rename_export::is_taken;
 use crate::finish::finished;

@@ -6,7 +6,7 @@ ghost use Rattle.walrus_items.specs.Errors.{out_of_memory};
 ghost use Rattle.walrus_module.specs.Asked.{is_dylink_name};
 ghost use Rattle.walrus_module.specs.Flags.{config_of, defaults};
 ghost use Rattle.walrus.specs.Places.{pairs_of, places_name};
-ghost use Rattle.walrus_tools.specs.Placed.{CarriesPlaces, given};
+ghost use Rattle.walrus_tools.specs.PlacesSection.{CarriesPlaces, given};
 
 use crate::examples::with_metadata::is_taken;
 use std::alloc::Global;

@@ -2,7 +2,7 @@
 
 ghost use Rattle.std.specs.Prelude.{◌≡◌, IfOk, string_bytes};
 ghost use Rattle.walrus_reading.specs.Faults.{FindsFault};
-ghost use Rattle.walrus_tools.specs.Diagnosed.{
+ghost use Rattle.walrus_tools.specs.Faults.{
   AnswersFault,
   Diagnoses,
   WordsFault,

@@ -1,7 +1,7 @@
 //! What a developer knows a function by: its name, or that of an export.
 
 ghost use Rattle.walrus_module.specs.Flags.{config_of, defaults};
-ghost use Rattle.walrus_tools.specs.Found.{AnswersFound};
+ghost use Rattle.walrus_tools.specs.FunctionNames.{AnswersFound};
 
 use crate::functions::function_called;
 use crate::numbers::narrow;

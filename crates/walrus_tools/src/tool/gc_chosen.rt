@@ -6,7 +6,7 @@ ghost use Rattle.walrus_tools.specs.Wanted.{config_wanted};
 
 use crate::choice::Choice;
 use crate::finish::finished;
-use crate::keeping::keep_chosen;
+use crate::keep::keep_chosen;
 use crate::wanted::Wanted;
 use std::alloc::Global;
 use walrus::{ModuleConfig, Result};

@@ -6,7 +6,7 @@ ghost use Rattle.walrus_base.specs.Id.{place};
 ghost use Rattle.walrus_items.specs.Functions.{functions};
 ghost use Rattle.walrus_items.specs.Seen.{text_of};
 ghost use Rattle.walrus_items.specs.Transform.{range_of};
-ghost use Rattle.walrus_tools.specs.Sized.{AnswersFunctions, AnswersListed, HasLong, IsLong, IsLongName, NoneLong, RefusesIf, listed_bytes, listed_of, listed_seen, name_bytes, names_in};
+ghost use Rattle.walrus_tools.specs.FunctionList.{AnswersFunctions, AnswersListed, HasLong, IsLong, IsLongName, NoneLong, RefusesIf, listed_bytes, listed_of, listed_seen, name_bytes, names_in};
 ghost use Rattle.walrus_tools.specs.Wanted.{config_wanted};
 
 use crate::numbers::{NO_NAME, add_number, add_text, narrow};

@@ -7,8 +7,8 @@ ghost use Rattle.walrus_items.specs.Exports.{exports, exports_item};
 ghost use Rattle.walrus_items.specs.Searches.{first};
 ghost use Rattle.walrus_module.specs.Flags.{config_of, defaults};
 ghost use Rattle.walrus_module.specs.Replaced.{ReplacesExported};
-ghost use Rattle.walrus_tools.specs.Snipped.{AnswersSnipped, FindsNamed, SnipsExport, first_named};
-ghost use Rattle.walrus_tools.specs.Stubbed.{PutsTrap};
+ghost use Rattle.walrus_tools.specs.SnipAnswers.{AnswersSnipped, FindsNamed, SnipsExport, first_named};
+ghost use Rattle.walrus_tools.specs.StubAnswers.{PutsTrap};
 
 use crate::finish::finished;
 use crate::traps::put_trap;

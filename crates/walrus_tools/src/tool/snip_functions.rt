@@ -1,12 +1,12 @@
 //! What a snipper does by function: those that won't be called trap, and what they alone reached goes.
 
-ghost use Rattle.walrus_tools.specs.Meant.{texts};
-ghost use Rattle.walrus_tools.specs.Trapping.{AnswersMeant};
+ghost use Rattle.walrus_tools.specs.FunctionMeaning.{texts};
+ghost use Rattle.walrus_tools.specs.TrapEdit.{AnswersMeant};
 ghost use Rattle.walrus_tools.specs.Wanted.{config_wanted};
 
 use crate::finish::finished;
-use crate::meant::Meant;
-use crate::trapping::trap_meant;
+use crate::function_meaning::Meant;
+use crate::trap_bodies::trap_meant;
 use crate::wanted::Wanted;
 use std::alloc::Global;
 use walrus::{ModuleConfig, Result};

@@ -3,7 +3,7 @@
 ghost use Rattle.std.specs.Prelude.{◌≡◌, ◌↔◌, IfOk, false, map, true};
 ghost use Rattle.wasm_frames.specs.Pieces.{piece_record};
 ghost use Rattle.walrus_tools.specs.Choice.{choice_seen, choices_seen};
-ghost use Rattle.walrus_tools.specs.Stripped.{AllFit, AnswersStripped, AreLeft, FitsName, FitsSection, OneFitsNone, SectionGoes};
+ghost use Rattle.walrus_tools.specs.StripAnswers.{AllFit, AnswersStripped, AreLeft, FitsName, FitsSection, OneFitsNone, SectionGoes};
 ghost use Rattle.walrus_tools.specs.StripSteps.{IsLeftOf, IsMet, ReadsPieces};
 
 use crate::choice::{Choice, goes};

@@ -7,7 +7,7 @@ ghost use Rattle.walrus_items.specs.Imports.{imports};
 ghost use Rattle.walrus_module.specs.Flags.{config_of, defaults};
 ghost use Rattle.walrus_module.specs.Replaced.{ReplacesImport};
 ghost use Rattle.walrus_tools.specs.Stub.{comes_from};
-ghost use Rattle.walrus_tools.specs.Stubbed.{AnswersStubbed, PutsTrap, StubsAll, StubsOne};
+ghost use Rattle.walrus_tools.specs.StubAnswers.{AnswersStubbed, PutsTrap, StubsAll, StubsOne};
 
 use crate::finish::finished;
 use crate::traps::put_trap;

@@ -1,5 +1,5 @@
 use Rattle.std.proofs.Common.{sym, subst}
-use Rattle.walrus_tools.specs.Handed.{Error}
+use Rattle.walrus_tools.specs.Facade.{Error}
 use Rattle.mulkavesh.specs.Cause.{IsInvalid}
 use Rattle.mulkavesh.proofs.CauseLemmas.{said_refused}
 use Rattle.mulkavesh.proofs.cause.said_of.Goals as goal

@@ -1,5 +1,5 @@
 use Rattle.std.proofs.Common.{codes, refl}
-use Rattle.walrus_tools.specs.Handed.{item_of}
+use Rattle.walrus_tools.specs.Facade.{item_of}
 use Rattle.mulkavesh.specs.Chains.{item_object}
 use Rattle.mulkavesh.proofs.JsonLists.{text_more}
 use Rattle.mulkavesh.proofs.chains.add_items.Goals as goal

@@ -1,5 +1,5 @@
 use Rattle.std.proofs.Common.{◌≡◌, ◌++◌, codes, map, take}
-use Rattle.walrus_tools.specs.Handed.{item_of}
+use Rattle.walrus_tools.specs.Facade.{item_of}
 use Rattle.mulkavesh.specs.Chains.{item_object}
 use Rattle.mulkavesh.specs.Json.{separated}
 use Rattle.mulkavesh.proofs.chains.add_items.Given as goal

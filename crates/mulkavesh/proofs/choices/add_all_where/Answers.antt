@@ -1,7 +1,7 @@
 use Rattle.std.proofs.Common.{◌≡◌, Bool, [], ◌∷◌, ◌++◌, codes, sym, ap, ◌∙◌}
 use Rattle.mulkavesh.specs.Choices.{all_choices, going, staying, where_said}
 use Rattle.walrus_tools.specs.Choice.{choices_seen}
-use Rattle.mulkavesh.proofs.Choosing.{first_more, then_more}
+use Rattle.mulkavesh.proofs.ChoiceLemmas.{first_more, then_more}
 use Rattle.mulkavesh.proofs.choices.add_all_where.Goals as goal
 
 pub returns-in_ok-push-4 : goal.returns-in_ok-push-4

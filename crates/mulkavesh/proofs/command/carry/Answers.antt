@@ -1,7 +1,7 @@
 use Rattle.std.proofs.Common.{ℕ, List, subst}
 use Rattle.std.specs.Prelude.{IfSome, Ok, Err}
 use Rattle.std.specs.Io.KnownBytes.{Appends}
-use Rattle.walrus_tools.specs.Handed.{WroteFront}
+use Rattle.walrus_tools.specs.Facade.{WroteFront}
 use Rattle.mulkavesh.specs.Cause.{SaysRefused, config_read}
 use Rattle.mulkavesh.specs.Subcommands.{AnswersOrder}
 use Rattle.mulkavesh.proofs.CauseLemmas.{found_read}

@@ -1,6 +1,6 @@
 use Rattle.std.proofs.Common.{ℕ, List, subst}
 use Rattle.std.specs.Prelude.{Ok, Err}
-use Rattle.walrus_tools.specs.Handed.{Stream, Tells, stream_of}
+use Rattle.walrus_tools.specs.Facade.{Stream, Tells, stream_of}
 use Rattle.mulkavesh.specs.Cause.{config_read, error_of, said_text}
 use Rattle.mulkavesh.specs.Command.{Device, device_of, unaccepted_text}
 use Rattle.mulkavesh.specs.Subcommands.{AnswersOrder}

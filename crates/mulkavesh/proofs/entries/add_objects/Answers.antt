@@ -1,5 +1,5 @@
 use Rattle.std.proofs.Common.{codes}
-use Rattle.walrus_tools.specs.Sized.{listed_seen}
+use Rattle.walrus_tools.specs.FunctionList.{listed_seen}
 use Rattle.mulkavesh.specs.Entries.{listed_object}
 use Rattle.mulkavesh.proofs.JsonLists.{text_more}
 use Rattle.mulkavesh.proofs.entries.add_objects.Goals as goal

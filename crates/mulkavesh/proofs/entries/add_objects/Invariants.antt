@@ -1,5 +1,5 @@
 use Rattle.std.proofs.Common.{◌≡◌, ◌++◌, codes, map, take}
-use Rattle.walrus_tools.specs.Sized.{listed_seen}
+use Rattle.walrus_tools.specs.FunctionList.{listed_seen}
 use Rattle.mulkavesh.specs.Entries.{listed_object}
 use Rattle.mulkavesh.specs.Json.{separated}
 use Rattle.mulkavesh.proofs.entries.add_objects.Given as goal

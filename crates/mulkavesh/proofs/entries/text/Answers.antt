@@ -1,4 +1,4 @@
-use Rattle.walrus_tools.specs.Sized.{listed_seen}
+use Rattle.walrus_tools.specs.FunctionList.{listed_seen}
 use Rattle.mulkavesh.specs.Entries.{listed_line}
 use Rattle.mulkavesh.proofs.Lines.{all_lines, line_more}
 use Rattle.mulkavesh.proofs.entries.text.Goals as goal

@@ -1,5 +1,5 @@
 use Rattle.std.proofs.Common.{◌≡◌, flat_map, map, take}
-use Rattle.walrus_tools.specs.Sized.{listed_seen}
+use Rattle.walrus_tools.specs.FunctionList.{listed_seen}
 use Rattle.mulkavesh.specs.Entries.{listed_line}
 use Rattle.mulkavesh.proofs.entries.text.Given as goal
 

@@ -1,6 +1,6 @@
 use Rattle.std.proofs.Common.{arith}
 use Rattle.std.specs.Prelude.{◌<◌}
-use Rattle.mulkavesh.proofs.Escaping.{step}
+use Rattle.mulkavesh.proofs.EscapeLemmas.{step}
 use Rattle.mulkavesh.proofs.json.add_string.Goals as goal
 
 pub characters-preserved : goal.characters-preserved

@@ -1,5 +1,5 @@
 use Rattle.std.proofs.Common.{ℕ}
-use Rattle.mulkavesh.proofs.Answered.{by_name}
+use Rattle.mulkavesh.proofs.AnswerLemmas.{by_name}
 use Rattle.mulkavesh.proofs.subcommands.chain_of.Goals as goal
 
 pub returns-in_ok-why_called-in-Err : goal.returns-in_ok-why_called-in-Err

@@ -1,5 +1,5 @@
 use Rattle.std.proofs.Common.{List, map, ap, ◌∙◌}
-use Rattle.walrus_tools.specs.Sized.{listed_seen}
+use Rattle.walrus_tools.specs.FunctionList.{listed_seen}
 use Rattle.walrus_tools.specs.declared.tool.list.Listed.{Listed}
 use Rattle.mulkavesh.specs.Entries.{listed_text}
 use Rattle.mulkavesh.proofs.subcommands.listed.Goals as goal

@@ -5,9 +5,9 @@ use Rattle.mulkavesh.specs.declared.order.Work.TheVariants as work
 use Rattle.mulkavesh.specs.Chains.{chain_told}
 use Rattle.mulkavesh.specs.Entries.{listed_told}
 use Rattle.mulkavesh.specs.Subcommands.{AnswersWhy, Reports, Told, operand_bytes}
-use Rattle.mulkavesh.proofs.Answered.{by_work, written}
-use Rattle.walrus_tools.specs.Handed.{Error, config_of, defaults}
-use Rattle.walrus_tools.specs.Sized.{AnswersListed}
+use Rattle.mulkavesh.proofs.AnswerLemmas.{by_work, written}
+use Rattle.walrus_tools.specs.Facade.{Error, config_of, defaults}
+use Rattle.walrus_tools.specs.FunctionList.{AnswersListed}
 use Rattle.walrus_tools.specs.Wanted.{config_wanted}
 use Rattle.mulkavesh.proofs.subcommands.make.Goals as goal
 

@@ -1,7 +1,7 @@
 use Rattle.std.proofs.Common.{ℕ, List, ◌∷◌, ap, drop, sym, ◌∙◌, arith}
 use Rattle.std.specs.Prelude.{◌<◌}
 use Rattle.mulkavesh.specs.Visible.{hidden_length, shown}
-use Rattle.mulkavesh.proofs.Showing.{hidden_first}
+use Rattle.mulkavesh.proofs.ShowLemmas.{hidden_first}
 use Rattle.mulkavesh.proofs.visible.front_shown.Goals as goal
 
 pub returns-then-hidden-gt0 : goal.returns-then-hidden-gt0

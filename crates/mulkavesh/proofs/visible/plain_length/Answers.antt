@@ -1,7 +1,7 @@
 use Rattle.std.proofs.Common.{◌≡◌, drop, sym, ap, ◌∙◌, arith}
 use Rattle.std.proofs.lemmas.List.{take_rest}
 use Rattle.mulkavesh.specs.Visible.{hidden_length}
-use Rattle.mulkavesh.proofs.Showing.{plain_first, plain_next}
+use Rattle.mulkavesh.proofs.ShowLemmas.{plain_first, plain_next}
 use Rattle.mulkavesh.proofs.visible.plain_length.Goals as goal
 
 pub bytes-init : goal.bytes-init

@@ -2,7 +2,7 @@ use Rattle.std.proofs.Common.{sym}
 use Rattle.std.specs.Vec.Iter.{into_iter_items}
 use Rattle.std.proofs.lemmas.Result.{err_from_is_err_and}
 use Rattle.mulkavesh.specs.Order.{said}
-use Rattle.mulkavesh.proofs.Ordered.{lacked, refused, said_so}
+use Rattle.mulkavesh.proofs.OrderLemmas.{lacked, refused, said_so}
 use Rattle.mulkavesh.proofs.words.ordered.Goals as goal
 
 pub returns-in_err-order : goal.returns-in_err-order

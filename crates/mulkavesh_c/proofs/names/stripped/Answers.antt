@@ -1,5 +1,5 @@
 use Rattle.std.specs.Prelude.{Err}
-use Rattle.walrus_tools.specs.Handed.{NotFound}
+use Rattle.walrus_tools.specs.Facade.{NotFound}
 use Rattle.mulkavesh_c.proofs.ChoiceLemmas.{under_choices, under_none}
 use Rattle.mulkavesh_c.proofs.names.stripped.Goals as goal
 

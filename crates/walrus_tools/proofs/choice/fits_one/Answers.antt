@@ -1,6 +1,6 @@
 use Rattle.std.proofs.Common.{get_or, refl}
 use Rattle.walrus_tools.specs.Choice.{Suits, choice_seen}
-use Rattle.walrus_tools.proofs.Chosen.{is_not, no_choice, none_at_all, none_more, one_fits}
+use Rattle.walrus_tools.proofs.ChoiceLemmas.{is_not, no_choice, none_at_all, none_more, one_fits}
 use Rattle.walrus_tools.proofs.choice.fits_one.Goals as goal
 
 pub returns-then-suits : goal.returns-then-suits

@@ -1,5 +1,5 @@
 use Rattle.std.proofs.Common.{take}
-use Rattle.walrus_tools.proofs.Chosen.{NoneSuits}
+use Rattle.walrus_tools.proofs.ChoiceLemmas.{NoneSuits}
 use Rattle.walrus_tools.proofs.choice.fits_one.Given as goal
 
 -- none of those before does

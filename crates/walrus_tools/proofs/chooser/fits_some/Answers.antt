@@ -1,6 +1,6 @@
 use Rattle.std.proofs.Common.{ℕ, List}
 use Rattle.walrus_tools.specs.Fits.{Fits}
-use Rattle.walrus_tools.proofs.LookedUp.{none_is}
+use Rattle.walrus_tools.proofs.LookUps.{none_is}
 use Rattle.walrus_tools.proofs.chooser.fits_some.Goals as goal
 
 pub returns : goal.returns

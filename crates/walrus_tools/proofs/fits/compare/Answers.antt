@@ -1,5 +1,5 @@
 use Rattle.std.proofs.Common.{subst}
-use Rattle.walrus_tools.specs.Comparing.{BeginsWith}
+use Rattle.walrus_tools.specs.FitSteps.{BeginsWith}
 use Rattle.walrus_tools.specs.declared.fits.Part.{Part as HeldPart}
 use Rattle.walrus_tools.proofs.Stars.{along_star, along_turn}
 use Rattle.walrus_tools.proofs.fits.compare.Goals as goal

@@ -1,7 +1,7 @@
 use Rattle.std.proofs.Common.{◌≡◌, ◌≤◌, ◌∙◌, ℕ, arith, length, subst}
 use Rattle.walrus_items.specs.Imports.{imports}
 use Rattle.walrus_tools.specs.Choice.{choices_seen}
-use Rattle.walrus_tools.specs.Marking.{Meets}
+use Rattle.walrus_tools.specs.MarkSteps.{Meets}
 use Rattle.walrus_tools.specs.StubMatching.{ChosenAt}
 use Rattle.walrus_tools.proofs.ChosenImports.{chosen_within}
 use Rattle.walrus_tools.proofs.MarkLemmas.{meets_all, meets_more, meets_none}

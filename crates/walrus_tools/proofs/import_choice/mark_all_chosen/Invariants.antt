@@ -1,7 +1,7 @@
 use Rattle.std.proofs.Common.{◌≡◌, length}
 use Rattle.walrus_items.specs.Imports.{imports}
 use Rattle.walrus_tools.specs.Choice.{choices_seen}
-use Rattle.walrus_tools.specs.Marking.{Meets}
+use Rattle.walrus_tools.specs.MarkSteps.{Meets}
 use Rattle.walrus_tools.specs.StubMatching.{ChosenAt}
 use Rattle.walrus_tools.proofs.MarkLemmas.{Below}
 use Rattle.walrus_tools.proofs.import_choice.mark_all_chosen.Given as goal

@@ -1,6 +1,6 @@
 use Rattle.std.proofs.Common.{◌≤◌, length, refl, arith}
 use Rattle.walrus_tools.specs.NameLists.{texts}
-use Rattle.walrus_tools.proofs.LookedUp.{met_all, met_more, unfit_at, untrue}
+use Rattle.walrus_tools.proofs.LookUps.{met_all, met_more, unfit_at, untrue}
 use Rattle.walrus_tools.proofs.name_lists.first_unfit.Goals as goal
 
 pub returns-then-not-fits_text : goal.returns-then-not-fits_text

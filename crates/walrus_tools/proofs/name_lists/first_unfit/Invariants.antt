@@ -1,6 +1,6 @@
 use Rattle.std.proofs.Common.{take}
 use Rattle.walrus_tools.specs.NameLists.{texts}
-use Rattle.walrus_tools.proofs.LookedUp.{EachMet}
+use Rattle.walrus_tools.proofs.LookUps.{EachMet}
 use Rattle.walrus_tools.proofs.name_lists.first_unfit.Given as goal
 
 -- each one before fits a text

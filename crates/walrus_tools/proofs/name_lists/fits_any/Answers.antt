@@ -1,5 +1,5 @@
 use Rattle.walrus_tools.specs.Fits.{Fits}
-use Rattle.walrus_tools.proofs.LookedUp.{none_is}
+use Rattle.walrus_tools.proofs.LookUps.{none_is}
 use Rattle.walrus_tools.proofs.name_lists.fits_any.Goals as goal
 
 pub returns : goal.returns

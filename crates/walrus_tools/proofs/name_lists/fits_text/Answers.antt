@@ -1,6 +1,6 @@
 use Rattle.std.proofs.Common.{◌∙◌, sym}
 use Rattle.walrus_tools.specs.NameLists.{texts}
-use Rattle.walrus_tools.proofs.LookedUp.{plain_text}
+use Rattle.walrus_tools.proofs.LookUps.{plain_text}
 use Rattle.walrus_tools.proofs.name_lists.fits_text.Goals as goal
 
 pub returns-else-has_star : goal.returns-else-has_star

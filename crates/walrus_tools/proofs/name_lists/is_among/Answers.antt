@@ -1,7 +1,7 @@
 use Rattle.std.proofs.Common.{◌≡◌, true, subst, sym, Bool, ◌↔◌}
 use Rattle.std.specs.Prelude.{Contains}
 use Rattle.walrus_tools.specs.NameLists.{texts}
-use Rattle.walrus_tools.proofs.LookedUp.{searched}
+use Rattle.walrus_tools.proofs.LookUps.{searched}
 use Rattle.walrus_tools.proofs.name_lists.is_among.Goals as goal
 
 pub returns : goal.returns

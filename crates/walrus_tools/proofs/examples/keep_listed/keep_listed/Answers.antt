@@ -9,7 +9,7 @@ use Rattle.walrus_module.specs.Flags.{Flags, config_of, defaults}
 use Rattle.walrus_module.specs.Meaning.{Meaning}
 use Rattle.walrus_module.specs.declared.entry.SectionEntry.TheVariants.{Boxed}
 use Rattle.walrus_tools.proofs.ListedEnds.{edited_answers, edited_ready, list_refused, listed_meaning, passed_answers, passed_ready}
-use Rattle.walrus_tools.specs.Finding.{FindsListed}
+use Rattle.walrus_tools.specs.ListSteps.{FindsListed}
 use Rattle.walrus.specs.Listed.{listed_functions, listed_name}
 use Rattle.walrus_tools.proofs.examples.keep_listed.keep_listed.OwnLists as own
 use Rattle.walrus_tools.proofs.examples.keep_listed.keep_listed.Goals as goal

@@ -4,7 +4,7 @@ use Rattle.walrus_base.proofs.SearchFound.{is_found}
 use Rattle.walrus_base.proofs.Standing.{some_of}
 use Rattle.walrus_module.proofs.ReplacedLemmas.{found_lives, put_seen}
 use Rattle.walrus_tools.proofs.RenameSteps.{drops, names, none_found, renames, untaken}
-use Rattle.walrus_tools.specs.Renamed.{with_name}
+use Rattle.walrus_tools.specs.ExportNames.{with_name}
 use Rattle.walrus_tools.proofs.examples.rename_export.edit.Goals as goal
 
 pub returns-in_default : goal.returns-in_default

@@ -1,6 +1,6 @@
 use Rattle.std.proofs.Common.{◌≡◌, take}
 use Rattle.walrus.specs.Places.{pairs_of, places_name}
-use Rattle.walrus_tools.specs.Placed.{given}
+use Rattle.walrus_tools.specs.PlacesSection.{given}
 use Rattle.walrus_tools.proofs.examples.with_places.places_section.Given as goal
 
 -- the pairs so far, under the name

@@ -15,7 +15,7 @@ use Rattle.walrus.proofs.StateLemmas.{writes_by_state}
 use Rattle.walrus_tools.proofs.MovesRuns.{keeps_transform, located_by_place, same_config}
 use Rattle.walrus_tools.proofs.PlacedEnds.{answers}
 use Rattle.walrus_tools.proofs.PlacedSlots.{SaysPlaces, of_made}
-use Rattle.walrus_tools.specs.Placed.{CarriesPlaces, given}
+use Rattle.walrus_tools.specs.PlacesSection.{CarriesPlaces, given}
 use Rattle.walrus_tools.proofs.examples.with_places.with_places.OwnLists as own
 use Rattle.walrus_tools.proofs.examples.with_places.with_places.Goals as goal
 use Rattle.std.proofs.lemmas.Bool.{or_parts as or_left}

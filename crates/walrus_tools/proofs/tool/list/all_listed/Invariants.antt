@@ -1,7 +1,7 @@
 use Rattle.std.proofs.Common.{◌≡◌, map, take}
 use Rattle.walrus_items.specs.Functions.{functions}
 use Rattle.walrus_items.specs.Transform.{range_of}
-use Rattle.walrus_tools.specs.Sized.{listed_of, listed_seen, names_in}
+use Rattle.walrus_tools.specs.FunctionList.{listed_of, listed_seen, names_in}
 use Rattle.walrus_tools.proofs.tool.list.all_listed.Given as goal
 
 -- the functions with the bodies before

@@ -1,7 +1,7 @@
 use Rattle.std.proofs.Common.{List, subst, sym}
 use Rattle.std.proofs.lemmas.Result.{err_from_is_err_and}
 use Rattle.std.specs.Prelude.{map}
-use Rattle.walrus_tools.specs.Sized.{IsListed, listed_seen}
+use Rattle.walrus_tools.specs.FunctionList.{IsListed, listed_seen}
 use Rattle.walrus_tools.specs.declared.tool.list.Listed.{Listed}
 use Rattle.walrus_tools.specs.Wanted.{config_wanted}
 use Rattle.walrus_tools.proofs.SizeEnds.{functions_told, list_refused}

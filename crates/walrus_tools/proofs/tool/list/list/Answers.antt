@@ -7,7 +7,7 @@ use Rattle.walrus_module.specs.Customs.{sections}
 use Rattle.walrus_module.specs.Flags.{Flags, config_of, flags}
 use Rattle.walrus_module.specs.Settings.{settings}
 use Rattle.walrus_module.proofs.RawStays.{all_raw}
-use Rattle.walrus_tools.specs.Sized.{AnswersListed, names_in}
+use Rattle.walrus_tools.specs.FunctionList.{AnswersListed, names_in}
 use Rattle.walrus_tools.proofs.ReasonEnds.{emission_lacks, measured, search_lacks}
 use Rattle.walrus_tools.proofs.SizeEnds.{Never, list_told, way_refused}
 use Rattle.walrus_tools.proofs.tool.list.list.Goals as goal

@@ -1,7 +1,7 @@
 use Rattle.std.proofs.Common.{List, ◌∙◌, ap, flat_map, map, subst, take_all}
 use Rattle.std.proofs.lemmas.Result.{err_from_is_err_and}
 use Rattle.walrus_base.proofs.Lists.{Contains-none}
-use Rattle.walrus_tools.specs.Sized.{NoneLong, listed_bytes, listed_seen}
+use Rattle.walrus_tools.specs.FunctionList.{NoneLong, listed_bytes, listed_seen}
 use Rattle.walrus_tools.specs.declared.tool.list.Listed.{Listed}
 use Rattle.walrus_tools.proofs.SizeLemmas.{bytes_more, none_more, one_long}
 use Rattle.walrus_tools.proofs.tool.list.spelled.Goals as goal

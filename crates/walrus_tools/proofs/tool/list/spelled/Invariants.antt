@@ -1,5 +1,5 @@
 use Rattle.std.proofs.Common.{◌≡◌, flat_map, map, take}
-use Rattle.walrus_tools.specs.Sized.{NoneLong, listed_bytes, listed_seen}
+use Rattle.walrus_tools.specs.FunctionList.{NoneLong, listed_bytes, listed_seen}
 use Rattle.walrus_tools.proofs.tool.list.spelled.Given as goal
 
 -- the bytes of the functions before, none of them too long

@@ -1,5 +1,5 @@
 use Rattle.std.proofs.Common.{rules}
-use Rattle.walrus_tools.specs.Stubbed.{PutsTrap}
+use Rattle.walrus_tools.specs.StubAnswers.{PutsTrap}
 use Rattle.walrus_tools.proofs.Closures.{exported_in}
 use Rattle.walrus_tools.proofs.tool.snip.trap_export.Goals as goal
 

@@ -3,8 +3,8 @@ use Rattle.std.proofs.lemmas.Result.{err_from_is_err_and}
 use Rattle.std.specs.Prelude.{Err}
 use Rattle.walrus_module.specs.Flags.{Flags, config_of, flags}
 use Rattle.walrus_module.specs.Settings.{settings}
-use Rattle.walrus_tools.specs.Meant.{texts}
-use Rattle.walrus_tools.specs.Trapping.{AnswersMeant, RefusesMeant, SnipsMeant}
+use Rattle.walrus_tools.specs.FunctionMeaning.{texts}
+use Rattle.walrus_tools.specs.TrapEdit.{AnswersMeant, RefusesMeant, SnipsMeant}
 use Rattle.walrus_tools.proofs.EditEnds.{edit_finishes, edit_refused, parsed_whole}
 use Rattle.walrus_tools.proofs.TrapWhole.{snips_meant}
 use Rattle.walrus_tools.proofs.tool.snip_functions.snip_functions.Goals as goal

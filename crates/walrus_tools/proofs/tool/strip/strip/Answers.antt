@@ -2,7 +2,7 @@ use Rattle.std.proofs.Common.{List, map, refl, subst}
 use Rattle.wasm_frames.specs.Pieces.{piece_record}
 use Rattle.wasm_frames.specs.declared.pieces.RawPiece.{RawPiece}
 use Rattle.walrus_tools.specs.Choice.{choices_seen}
-use Rattle.walrus_tools.specs.Stripped.{AllFit, AreLeft, OneFitsNone}
+use Rattle.walrus_tools.specs.StripAnswers.{AllFit, AreLeft, OneFitsNone}
 use Rattle.walrus_tools.proofs.tool.strip.strip.Goals as goal
 
 pub returns-then-not-all_fit : goal.returns-then-not-all_fit

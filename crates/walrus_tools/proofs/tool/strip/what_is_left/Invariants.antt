@@ -1,7 +1,7 @@
 use Rattle.std.proofs.Common.{map, take}
 use Rattle.wasm_frames.specs.Pieces.{piece_record}
 use Rattle.walrus_tools.specs.Choice.{choices_seen}
-use Rattle.walrus_tools.specs.Stripped.{AreLeft}
+use Rattle.walrus_tools.specs.StripAnswers.{AreLeft}
 use Rattle.walrus_tools.proofs.tool.strip.what_is_left.Given as goal
 
 -- what is left of those before

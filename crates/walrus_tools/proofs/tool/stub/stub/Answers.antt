@@ -4,8 +4,8 @@ use Rattle.walrus_module.specs.Flags.{config_of, defaults}
 use Rattle.walrus_module.specs.Settings.{settings}
 use Rattle.walrus_tools.proofs.EditEnds.{edit_finishes, memory_refused, parsed_whole}
 use Rattle.walrus_tools.proofs.StubCall.{stubs_held}
-use Rattle.walrus_tools.specs.Edited.{ForMemory}
-use Rattle.walrus_tools.specs.Stubbed.{StubsHeld}
+use Rattle.walrus_tools.specs.Edits.{ForMemory}
+use Rattle.walrus_tools.specs.StubAnswers.{StubsHeld}
 use Rattle.walrus_tools.proofs.tool.stub.stub.Goals as goal
 
 pub returns-in_err-trap_all : goal.returns-in_err-trap_all

@@ -1,9 +1,9 @@
 use Rattle.std.proofs.Common.{◌≡◌, length}
 use Rattle.walrus_items.specs.Imports.{imports}
 use Rattle.walrus_model.specs.Config.{Config}
-use Rattle.walrus_tools.specs.Edited.{IsWhole}
+use Rattle.walrus_tools.specs.Edits.{IsWhole}
 use Rattle.walrus_tools.specs.Stub.{comes_from}
-use Rattle.walrus_tools.specs.Stubbed.{StubsSome}
+use Rattle.walrus_tools.specs.StubAnswers.{StubsSome}
 use Rattle.walrus_tools.proofs.tool.stub.trap_all.Given as goal
 
 -- at the places so far all is done

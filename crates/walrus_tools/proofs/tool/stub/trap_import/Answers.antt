@@ -1,5 +1,5 @@
 use Rattle.std.proofs.Common.{rules}
-use Rattle.walrus_tools.specs.Stubbed.{PutsTrap}
+use Rattle.walrus_tools.specs.StubAnswers.{PutsTrap}
 use Rattle.walrus_tools.proofs.Closures.{import_in}
 use Rattle.walrus_tools.proofs.tool.stub.trap_import.Goals as goal
 

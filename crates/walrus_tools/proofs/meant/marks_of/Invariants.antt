@@ -1,9 +1,0 @@
-use Rattle.walrus_items.specs.Exports.{exports}
-use Rattle.walrus_items.specs.Functions.{functions}
-use Rattle.walrus_tools.specs.Meant.{texts}
-use Rattle.walrus_tools.proofs.MeantTexts.{TextsSoFar}
-use Rattle.walrus_tools.proofs.meant.marks_of.Given as goal
-
--- what the texts before mean is marked
-abbrev pub invariant-texts : goal.invariant-texts
-invariant-texts l = TextsSoFar (functions l.all) (exports l.exported) (texts l.meant) l.text-index l.marking.marks

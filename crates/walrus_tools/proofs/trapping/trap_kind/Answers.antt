@@ -1,8 +1,0 @@
-use Rattle.std.proofs.Common.{refl, sym, subst}
-use Rattle.walrus_items.specs.declared.function_kind.FunctionKind.{FunctionKind}
-use Rattle.walrus_items.specs.declared.function_kind.FunctionKind.TheVariants.{Local}
-use Rattle.walrus_tools.specs.Trapping.{KindTraps}
-use Rattle.walrus_tools.proofs.trapping.trap_kind.Goals as goal
-
-pub returns : goal.returns
-returns c = subst (λ (k : FunctionKind). KindTraps k (Local c.in_ok-function.field-0)) (sym c.in-Local.is) (c.in_ok-function.field-0, refl, c.in_ok-function.ensures)

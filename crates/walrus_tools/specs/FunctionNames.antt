@@ -1,0 +1,54 @@
+-- The function that is meant by a name ("Structure > Values > Names", "Structure > Modules > Exports").
+use Rattle.std.specs.Prelude.{ℕ, ◌^◌, ◌≤◌, List, Option, Some, None, Result, Ok, Err, option_map, ◌≡◌}
+use Rattle.walrus_base.specs.Id.{place}
+use Rattle.walrus_base.specs.declared.id.Id.{Id}
+use Rattle.walrus_base.specs.declared.keys.FunctionKey.{FunctionKey}
+use Rattle.walrus_model.specs.Abstract.{Custom}
+use Rattle.walrus_model.specs.Config.{Config}
+use Rattle.walrus_items.specs.declared.error.Error.{Error}
+use Rattle.walrus_items.specs.declared.error.Error.TheVariants.{NotFound}
+use Rattle.walrus_items.specs.Exports.{ExportValue, exports, function_named}
+use Rattle.walrus_items.specs.Functions.{FunctionValue, functions, is_called}
+use Rattle.walrus_items.specs.Searches.{first}
+use Rattle.walrus_contents.specs.declared.parts.Contents.{Contents}
+use Rattle.walrus_module.specs.Parsed.{IsParsed}
+use Rattle.walrus_tools.specs.Edits.{RefusesEdit, with_customs}
+use Rattle.walrus_tools.specs.Ends.{Answers, IfNotFound}
+
+-- ---- of what a module holds
+
+-- the first of two, if it is there, and else the second
+abbrev pub or_else : {T : Type 0} → Option T → Option T → Option T
+or_else (Some x) other = Some x
+or_else None other = other
+
+-- the place of the first function of this name; where none has it, of the first that is exported under it
+abbrev pub function_called : (name : List ℕ) → List (Option FunctionValue) → List (Option ExportValue) → Option ℕ
+function_called name functions exports = or_else (option_map (λ e. e.0) (first (is_called name) functions)) (option_map place (function_named name exports))
+
+-- that function, or that there is none
+abbrev pub FindsCalled : (name : List ℕ) → List (Option FunctionValue) → List (Option ExportValue) → Result (Id FunctionKey) Error → Type 0
+FindsCalled name functions exports (Ok id) = function_called name functions exports ≡ Some (place id)
+FindsCalled name functions exports (Err NotFound) = function_called name functions exports ≡ None
+FindsCalled name functions exports (Err _) = ⊥
+
+-- the place of the function that is meant in what was read
+abbrev pub meant : (name : List ℕ) → Contents → Option ℕ
+meant name m = function_called name (functions m.funcs) (exports m.exports)
+
+-- ---- from bytes to the index
+
+-- the bytes are those of a module in which this function is meant
+pub record IsFound (c : Config) (bytes name : List ℕ) (function : ℕ) : Type 0 where
+  pub customs : List Custom
+  pub module_parsed : Contents
+  pub parsed : IsParsed c bytes (with_customs customs module_parsed)
+  pub is : meant name module_parsed ≡ Some function
+
+-- no function is meant
+abbrev pub LacksCalled : (name : List ℕ) → Contents → Error → Type 0
+LacksCalled name m e = IfNotFound (meant name m ≡ None) e
+
+-- the index, or a refusal with its cause: the bytes aren't accepted, or no function is meant, or its index has more than 32 bits
+abbrev pub AnswersFound : Config → (bytes name : List ℕ) → Result ℕ Error → Type 0
+AnswersFound c bytes name result = Answers c bytes (IsFound c bytes name) ((function : ℕ) × IsFound c bytes name function × (2 ^ 32 ≤ function)) (RefusesEdit (LacksCalled name) c bytes) result

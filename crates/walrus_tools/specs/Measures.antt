@@ -1,0 +1,21 @@
+-- What is left of a module that is read, and where its functions stand in the bytes that are written ("Binary Format > Code Section").
+use Rattle.std.specs.Prelude.{ℕ, List, false, ◌≡◌}
+use Rattle.walrus_code.specs.Transform.{Transform}
+use Rattle.walrus_model.specs.Abstract.{Abstract}
+use Rattle.walrus_model.specs.Config.{Config}
+use Rattle.walrus_contents.specs.declared.parts.Contents.{Contents}
+use Rattle.walrus_module.specs.Answered.{IsWellWritten}
+use Rattle.walrus_writing.specs.Transform.{IsTransformOf}
+use Rattle.walrus_tools.specs.Edits.{EditsTo}
+
+-- nothing is edited
+abbrev pub IsSame : Contents → Contents → Type 0
+IsSame old new = new ≡ old
+
+-- The bytes are those of a module; u is what gc and emission left of it; these bytes were written of that, whose places the transform tells.
+pub record IsMeasured (c : Config) (bytes : List ℕ) (u : Abstract) (transform : Transform) : Type 0 where
+  pub comes : EditsTo IsSame c bytes u
+  pub output : List ℕ
+  pub written : IsWellWritten c u output
+  pub locations : ℕ → List ℕ
+  pub tells : IsTransformOf c false locations u output transform
