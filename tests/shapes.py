@@ -653,6 +653,13 @@ def stub_env(size):
     return module(types=ONE_TYPE, imports=imports, functions=ONE_FUNCTION, exports=exports, code=code)
 
 
+@shape("functions with names of 40 bytes, all kept: 100,000 and 1,000,000 (mulkavesh list)", size=5 * MB, subcommand=("list",))
+def list_names(size):
+    count = size // 50
+    named = (naming(index, name.rjust(40, b"a")) for index, name in enumerate(different(count)))
+    return last_exported(count, calls(count)) + names(1, listed(named))
+
+
 alike(
     "sections_small", "custom sections of a name of one byte: 250,000 and 2,500,000 (mulkavesh sections)", custom(b"a"), sections, subcommand=("sections",))
 
