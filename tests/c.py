@@ -244,8 +244,12 @@ def in_the_chains(caller, data):
 
 
 def imports(module):
+    """The module and the kind of each import of the first section of imports."""
+    return imports_in(section(module, 2))
+
+
+def imports_in(content):
     """The module and the kind of each import, of those whose kinds are functions, tables of one type, memories, globals and tags."""
-    content = section(module, 2)
     count, at = number(content, 0)
     for _ in range(count):
         size, at = number(content, at)
@@ -315,7 +319,8 @@ def in_the_parts(caller, data):
         if status != INVALID:
             yield f"parts: status {status}"
         return
-    known, imported = call(caller, "sections", data)[1], sum(kind == 0 for _, kind in imports(data))
+    imported = sum(kind == 0 for code, content, _ in placed(data) if code == 2 for _, kind in imports_in(content))
+    known = call(caller, "sections", data)[1]
     wanted, found, after = [], known[:5], {138: imported, 139: 0}
     for number_of, content, place in placed(data):
         count, at = number(content, 0) if number_of in (10, 11) else (0, 0)
