@@ -151,7 +151,8 @@ class Page:
 
     def open(self, address):
         self.call("Page.navigate", url=address)
-        self.wait("document.readyState === 'complete' && !document.getElementById('unready')")
+        # The first page of a browser takes long where the machine has much else to do.
+        self.wait("document.readyState === 'complete' && !document.getElementById('unready')", seconds=60)
 
     def middle(self, selector):
         """The middle of an element, brought into sight."""
