@@ -120,6 +120,14 @@ fn cut_bytes_are_listed_up_to_there(rt: HostRuntime) -> std::result::Result<(), 
 const PARTS: &str =
     "00 61 73 6D 01 00 00 00 01 04 01 60 00 00 02 07 01 01 61 01 62 00 00 03 03 02 00 00 05 03 01 00 01 0A 08 02 02 00 0B 03 00 01 0B 0B 0B 02 00 41 00 0B 02 07 07 01 01 09";
 
+// Whether this part stands at the place.
+fn stands_at(parts: &[Part<'_>], place: usize, part: Part<'_>) -> bool {
+    match parts.get(place) {
+        Some(found) => *found == part,
+        None => false,
+    }
+}
+
 #[test]
 fn functions_and_segments_are_parts(rt: HostRuntime) -> std::result::Result<(), Fail> {
     let alloc = rt.alloc();
@@ -131,13 +139,19 @@ fn functions_and_segments_are_parts(rt: HostRuntime) -> std::result::Result<(), 
         start: 40,
         size: 3,
     };
-    demand(parts[6] == Part::Function(second), "the second function")?;
+    demand(
+        stands_at(&parts, 6, Part::Function(second)),
+        "the second function",
+    )?;
     let first = Item {
         index: 0,
         start: 46,
         size: 7,
     };
-    demand(parts[8] == Part::Segment(first), "the first segment")
+    demand(
+        stands_at(&parts, 8, Part::Segment(first)),
+        "the first segment",
+    )
 }
 
 #[test]
