@@ -5,18 +5,29 @@
  *
  *   MULKAVESH_DONE       the answer stands in the first `*length` bytes of `output`; the bytes behind it are as they were
  *   MULKAVESH_NO_ROOM    `output` is as it was, and `*length` is how much room the answer wants: call again with that much
+ *   MULKAVESH_NOT_FOUND  `output` is as it was, and of a call with a choice of exports `*length` is a number (see below); of others it is 0
  *   any other            `output` is as it was, and `*length` is 0
  *
  * A smaller module is seldom longer than its input: with 256 bytes more than that one call mostly serves.
  *
  * What the caller owes, and no call checks:
- *   - `input`, `name`, `choice`, `from` and `output` have as many bytes as is told, `output` may be written, and nothing else writes them during the call;
+ *   - `input`, `choice`, `function`, `module`, `name` and `output` have as many bytes as is told, `output` may be written, and nothing else writes them
+ *     during the call;
  *   - none of them is null, not even where the length is 0, and `length` isn't null and is aligned as a size_t;
  *   - `output` and `*length` stand apart from each other and from all that is read;
  *   - `malloc`, `realloc` and `free` are of one allocator, and align as the C standard says;
  *   - no call is made from a signal handler, or from the forked child of a process with threads.
  *
- * Flags that aren't known are refused, so that what they come to mean isn't passed over. Names are compared as bytes. */
+ * Flags that aren't known are refused, so that what they come to mean isn't passed over. Names are compared as bytes.
+ *
+ * A list of NAMEs is a list of records, one behind the other: a byte, the length of a NAME as a number of 32 bits, little-endian, and the NAME. In a
+ * NAME `*` stands for any bytes, also for none, and `\*` for a star. What the byte, 0 or 1, says, the calls tell. Bytes that are no such list are
+ * refused with MULKAVESH_UNKNOWN_FLAG.
+ *
+ * A choice of exports is such a list. The byte is 1 where exports that the NAME fits are kept, and 0 where they go. Where a byte is 1, those go that no
+ * such NAME fits; then those go that a NAME behind 0 fits. So no bytes keep all. The start function and segments that aren't passive keep what they
+ * reach all the same. Where a NAME fits no export of the input, the status is MULKAVESH_NOT_FOUND, and `*length` the number of the first such NAME, from 0
+ * on; where each fits one and a function isn't found, it is the count of the NAMEs. */
 #ifndef MULKAVESH_H
 #define MULKAVESH_H
 
@@ -39,9 +50,9 @@ enum {
   MULKAVESH_NO_MEMORY = 3,
   /* The room is smaller than the answer. */
   MULKAVESH_NO_ROOM = 4,
-  /* A flag isn't known, or the choice of mulkavesh_strip is no list of records. */
+  /* A flag isn't known, or what has to be a list of NAMEs is none. */
   MULKAVESH_UNKNOWN_FLAG = 5,
-  /* There is nothing of this name or index that the call could work on. */
+  /* There is nothing of this name or index that the call could work on, or a NAME fits nothing. */
   MULKAVESH_NOT_FOUND = 6
 };
 
@@ -55,8 +66,43 @@ enum {
   MULKAVESH_NO_LEGACY = 4
 };
 
-/* What stands in a list for the length of a name that isn't there. */
+/* What stands in a list for the length of a name, or for a size, that isn't there. */
 #define MULKAVESH_NO_NAME UINT32_MAX
+
+/* The kinds of items: what stands in front of an index in what mulkavesh_why and mulkavesh_callers tell. */
+enum {
+  MULKAVESH_KIND_TYPE = 0,
+  MULKAVESH_KIND_FUNCTION = 1,
+  MULKAVESH_KIND_TABLE = 2,
+  MULKAVESH_KIND_MEMORY = 3,
+  MULKAVESH_KIND_TAG = 4,
+  MULKAVESH_KIND_GLOBAL = 5,
+  MULKAVESH_KIND_ELEMENT = 6,
+  MULKAVESH_KIND_DATA = 7
+};
+
+/* The kinds of exports and imports: what stands in front of an index in what mulkavesh_exports and mulkavesh_imports tell. */
+enum {
+  MULKAVESH_EXTERN_FUNCTION = 0,
+  MULKAVESH_EXTERN_TABLE = 1,
+  MULKAVESH_EXTERN_MEMORY = 2,
+  MULKAVESH_EXTERN_GLOBAL = 3,
+  MULKAVESH_EXTERN_TAG = 4
+};
+
+/* What makes the first item of a chain one that stays: what mulkavesh_why tells. */
+enum {
+  /* There is no chain: the item isn't reached. */
+  MULKAVESH_ROOT_NONE = 0,
+  /* It is exported. */
+  MULKAVESH_ROOT_EXPORTED = 1,
+  /* It is the start function. */
+  MULKAVESH_ROOT_START = 2,
+  /* It is an active segment. */
+  MULKAVESH_ROOT_ACTIVE = 3,
+  /* It is a declared segment. */
+  MULKAVESH_ROOT_DECLARED = 4
+};
 
 /* What mulkavesh_parts tells in place of the number of a section. */
 enum {
@@ -135,12 +181,15 @@ enum {
 #define MULKAVESH_VERSION 0x000100u
 uint32_t mulkavesh_version(void);
 
-/* The module without what nothing reaches: the bytes that the program writes. */
-uint32_t mulkavesh_gc(const uint8_t *input, size_t input_length, uint32_t flags, uint8_t *output, size_t room, size_t *length);
+/* The module of which the chosen exports are left, without what nothing reaches then. */
+uint32_t mulkavesh_gc(const uint8_t *input, size_t input_length, uint32_t flags, const uint8_t *choice, size_t choice_length,
+                      uint8_t *output, size_t room, size_t *length);
 
-/* How many items of each kind mulkavesh_gc keeps and drops, a line each: `functions kept 19 dropped 1`. Seven lines, as of --report; of the
- * flags MULKAVESH_NO_LEGACY alone has a say. */
-uint32_t mulkavesh_report(const uint8_t *input, size_t input_length, uint32_t flags, uint8_t *output, size_t room, size_t *length);
+/* What mulkavesh_gc keeps and drops, as lines of text: seven of items, as `functions kept 19 dropped 1`, and of bytes `bytes read 2073 written 1991`,
+ * `bytes of dropped functions 60`, which their bodies have in the input, `bytes of debug information 0`, which `.debug` sections have there, and
+ * `bytes of the rest 22 less`, or `more`. Where the output is longer than the input a line more says why it may be. */
+uint32_t mulkavesh_report(const uint8_t *input, size_t input_length, uint32_t flags, const uint8_t *choice, size_t choice_length,
+                          uint8_t *output, size_t room, size_t *length);
 
 /* What is wrong with bytes that aren't accepted: eight bytes, two numbers of 32 bits, little-endian, a MULKAVESH_FAULT_.. and what it says stands in
  * the second one. Both are 0 exactly where the bytes are accepted. Where several things are wrong, one of them is told. The status is never
@@ -150,7 +199,23 @@ uint32_t mulkavesh_diagnose(const uint8_t *input, size_t input_length, uint32_t 
 /* The functions with a body that mulkavesh_gc keeps, by rising index. For each of them three numbers of 32 bits, little-endian: its index in the input,
  * the bytes of its body in the output, and the length of its name or MULKAVESH_NO_NAME; and then the name as the input's name section has it, in UTF-8.
  * Of the flags MULKAVESH_NO_LEGACY alone has a say. */
-uint32_t mulkavesh_list(const uint8_t *input, size_t input_length, uint32_t flags, uint8_t *output, size_t room, size_t *length);
+uint32_t mulkavesh_list(const uint8_t *input, size_t input_length, uint32_t flags, const uint8_t *choice, size_t choice_length,
+                        uint8_t *output, size_t room, size_t *length);
+
+/* The functions with a body that mulkavesh_gc drops, as mulkavesh_list tells those that it keeps, but with the bytes of the body in the input. */
+uint32_t mulkavesh_dropped(const uint8_t *input, size_t input_length, uint32_t flags, const uint8_t *choice, size_t choice_length,
+                           uint8_t *output, size_t room, size_t *length);
+
+/* The exports that stay, in the order of the input. For each a byte, a MULKAVESH_EXTERN_..; the index of what is exported, in the input; the length of the
+ * name; and the name, in UTF-8. Numbers are of 32 bits, little-endian. Of the flags MULKAVESH_NO_LEGACY alone has a say. */
+uint32_t mulkavesh_exports(const uint8_t *input, size_t input_length, uint32_t flags, const uint8_t *choice, size_t choice_length,
+                           uint8_t *output, size_t room, size_t *length);
+
+/* The imports that mulkavesh_gc keeps, in the order of the input. For each a byte, a MULKAVESH_EXTERN_..; the index of what is imported, in the input; the
+ * length of the module's name, and that name; the length of its own name, and that one. Numbers are of 32 bits, little-endian, and names in UTF-8. Of the
+ * flags MULKAVESH_NO_LEGACY alone has a say. */
+uint32_t mulkavesh_imports(const uint8_t *input, size_t input_length, uint32_t flags, const uint8_t *choice, size_t choice_length,
+                           uint8_t *output, size_t room, size_t *length);
 
 /* What sections stand in the bytes, by their framing alone: an id, a size and so many bytes, which in a custom section begin with its name in UTF-8. What else
  * stands in them, and in which order they come, isn't looked at. First a byte, which is 1 where sections reach the end of the input and else 0, and the place where
@@ -169,26 +234,38 @@ uint32_t mulkavesh_parts(const uint8_t *input, size_t input_length, uint8_t *out
 
 /* The module without the custom sections that are chosen. All else is as it stands, byte for byte: nothing is read but where sections begin and end and what
  * custom ones are called, so that the module may break other rules. Debug information (`.debug_info`), names (`name`) and producers are custom sections as any.
- * `choice` is a list of records, each of a byte, the length of a NAME as a number of 32 bits, little-endian, and the NAME. The byte is 0 where the custom sections
- * whose name the NAME fits go, and 1 where they stay after all. In a NAME `*` stands for any bytes, also for none, and `\*` for a star. MULKAVESH_NOT_FOUND where
- * a NAME behind 0 fits no custom section; MULKAVESH_INVALID exactly where the bytes aren't a header and whole sections; MULKAVESH_UNKNOWN_FLAG exactly where
- * `choice` is no such list. */
+ * `choice` is a list of NAMEs. The byte is 0 where the custom sections whose name the NAME fits go, and 1 where they stay after all. MULKAVESH_NOT_FOUND where
+ * a NAME behind 0 fits no custom section; MULKAVESH_INVALID exactly where the bytes aren't a header and whole sections. */
 uint32_t mulkavesh_strip(const uint8_t *input, size_t input_length, const uint8_t *choice, size_t choice_length, uint8_t *output, size_t room, size_t *length);
 
-/* Why mulkavesh_gc keeps the function of this index: a line for each item of a chain of references that leads to it, a root first (`function 3`), or
- * `function 3 isn't reached`. Which chain it is isn't promised, so a second call may want more room than the first one told: call again with more until
- * the room suffices. MULKAVESH_NOT_FOUND where the module has no function of this index. */
-uint32_t mulkavesh_why(const uint8_t *input, size_t input_length, uint32_t function, uint8_t *output, size_t room, size_t *length);
+/* Why mulkavesh_gc keeps a function, or another item that is exported. `function` is the index of a function, in decimal; or else the name of one, of which
+ * the first is meant; or else that of an export, and then its item is meant. First the item: a byte, a MULKAVESH_KIND_.., and its index. Then a byte, a
+ * MULKAVESH_ROOT_... Then a byte that is 1 where the item is a function with a body that stays, and how many functions stay that wouldn't if it trapped,
+ * itself among them, and how many bytes their bodies have in the output; 0, 0 and 0 of others. Behind that the links of a chain of references that
+ * leads to the item, from what is a root by itself down to the item. For each link a byte, a MULKAVESH_KIND_..; its index; the bytes that its body has in the output, or
+ * MULKAVESH_NO_NAME of what isn't a function with a body; the length of its name or MULKAVESH_NO_NAME; the name; how many exports that stay are of it, and for each
+ * of them the length of its name, and the name. Numbers are of 32 bits, little-endian, and indices those of the input. Which chain it is isn't promised, so
+ * a second call may want more room than the first one told: call again with more until the room suffices. MULKAVESH_NOT_FOUND also where `function`
+ * means nothing. */
+uint32_t mulkavesh_why(const uint8_t *input, size_t input_length, uint32_t flags, const uint8_t *choice, size_t choice_length,
+                       const uint8_t *function, size_t function_length, uint8_t *output, size_t room, size_t *length);
 
-/* The module where the function that is exported under this name is replaced by one that traps, without what nothing reaches then. The old function
- * stays where calls, tables or further exports reach it. MULKAVESH_NOT_FOUND where no function is exported under the name, or where that one is imported
- * or is exported under another name before. */
-uint32_t mulkavesh_snip(const uint8_t *input, size_t input_length, const uint8_t *name, size_t name_length, uint8_t *output, size_t room, size_t *length);
+/* What stays and refers to the same item directly: links as mulkavesh_why tells them, by kind and index. */
+uint32_t mulkavesh_callers(const uint8_t *input, size_t input_length, uint32_t flags, const uint8_t *choice, size_t choice_length,
+                           const uint8_t *function, size_t function_length, uint8_t *output, size_t room, size_t *length);
 
-/* The module where each function that was imported from the module of this name is one of its own, which traps, without what nothing reaches
- * then. What it answers where no function is imported from such a module is no promise. MULKAVESH_NOT_FOUND where the name isn't UTF-8, as the name of a
- * module is. */
-uint32_t mulkavesh_stub(const uint8_t *input, size_t input_length, const uint8_t *from, size_t from_length, uint8_t *output, size_t room, size_t *length);
+/* The module where functions trap, whoever calls them, without what nothing reaches then. `function` is a list of records as that of NAMEs, each with the
+ * byte 0. A NAME is the index of a function, in decimal; or, with a star in it, means each function with a body whose name it fits, or the name of one
+ * of whose exports; or is the name of a function, of which the first is meant; or else that of an export of one. MULKAVESH_NOT_FOUND where a NAME means no function, or
+ * an imported one. */
+uint32_t mulkavesh_snip(const uint8_t *input, size_t input_length, uint32_t flags, const uint8_t *function, size_t function_length,
+                        uint8_t *output, size_t room, size_t *length);
+
+/* The module where functions that were imported are its own ones, which trap, without what nothing reaches then: those from a module that
+ * `module`, a list of NAMEs, says, and under a name that `name` says, another one. A list says what a NAME behind 0 fits, and none behind 1. No bytes for
+ * `name` say each name, and none for `module` no module. MULKAVESH_NOT_FOUND where no function is imported so. */
+uint32_t mulkavesh_stub(const uint8_t *input, size_t input_length, uint32_t flags, const uint8_t *module, size_t module_length,
+                        const uint8_t *name, size_t name_length, uint8_t *output, size_t room, size_t *length);
 
 #ifdef __cplusplus
 }
