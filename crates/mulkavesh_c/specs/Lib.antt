@@ -1,3 +1,4 @@
 pub mod Answer
+pub mod Chosen
 pub mod Flags
 pub mod Names

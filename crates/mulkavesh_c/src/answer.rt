@@ -1,7 +1,7 @@
 //! What a call leaves behind: its status, the caller's room, and the length that is told.
 
 ghost use Rattle.std.specs.Prelude.{◌≡◌};
-ghost use Rattle.mulkavesh_c.specs.Answer.{Leaves, Puts, status_of};
+ghost use Rattle.mulkavesh_c.specs.Answer.{Puts, status_of, told_of};
 
 use walrus_tools::Error;
 
@@ -15,10 +15,19 @@ const TOO_LARGE: u32 = 2;
 const NO_MEMORY: u32 = 3;
 /// The room is smaller than the answer, whose length is told.
 const NO_ROOM: u32 = 4;
-/// A flag isn't known, or the bytes are no list of choices.
+/// A flag isn't known, or the bytes of a list are none.
 pub(crate) const UNKNOWN_FLAG: u32 = 5;
-/// There is nothing of this name or index that the call could work on.
+/// There is nothing of this name or index that the call could work on, or a NAME fits nothing.
 const NOT_FOUND: u32 = 6;
+
+/// What a call made.
+#[derive(Drop)]
+pub(crate) struct Made {
+    /// The bytes, or why there are none.
+    pub(crate) answer: Result<Vec<u8>, Error>,
+    /// What is told as the length where something isn't found.
+    pub(crate) number: usize,
+}
 
 fn status_of(error: &Error) -> u32
     ensures { result ≡ status_of error.now }
@@ -28,6 +37,15 @@ fn status_of(error: &Error) -> u32
         Error::TooLarge => TOO_LARGE,
         Error::Memory(_) => NO_MEMORY,
         _ => NOT_FOUND,
+    }
+}
+
+fn told_of(error: &Error, number: usize) -> usize
+    ensures { result ≡ told_of error.now number }
+{
+    match error {
+        Error::NotFound => number,
+        _ => 0,
     }
 }
 
@@ -41,12 +59,20 @@ pub(crate) fn refused(length: &mut usize, status: u32) -> u32
 }
 
 /// Puts what was made in front of the room and tells its length, or tells why not.
-pub(crate) fn put(made: Result<Vec<u8>, Error>, output: &mut [u8], length: &mut usize) -> u32
-    ensures { Puts made output.old output.new length.new result }
+pub(crate) fn put(
+    answer: Result<Vec<u8>, Error>,
+    number: usize,
+    output: &mut [u8],
+    length: &mut usize,
+) -> u32
+    ensures { Puts answer number output.old output.new length.new result }
 {
-    let bytes = match made {
+    let bytes = match answer {
         Ok(bytes) => bytes,
-        Err(error) => return refused(length, status_of(&error)),
+        Err(error) => {
+            *length = told_of(&error, number);
+            return status_of(&error);
+        }
     };
     *length = bytes.len();
     if output.len() < bytes.len() {
