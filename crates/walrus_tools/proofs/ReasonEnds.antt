@@ -89,7 +89,7 @@ module _ {V : Type 0} {O : V → Type 0} (G : (v : V) → Ghosts (O v)) (Refuses
         abbrev pub measured : Leaves (view G kept) (view G (but_customs kept left)) → (f : Flags) → f ≡ g → (output : Vec ℕ) (transform : CodeTransform)
             → (IsWellMade (config_of f) (view G kept) → IsWellWritten (config_of f) (view G left) output.items)
             → (IsSayable (view G left) → IsTransformOf (config_of f) f.preserve_code_transform (locations_of left) (view G left) output.items (transform_of transform))
-            → IsMeasured c bytes (view G left) (transform_of transform)
+            → IsMeasured IsSame c bytes (view G left) (transform_of transform)
         measured leaves f f_is output transform writes tells = record {
           comes = edited_to G IsSame Refuses c bytes read parsed read refl refl whole (view G left) (record {
             module_collected = view G kept;
@@ -141,7 +141,7 @@ module _ {V : Type 0} {O : V → Type 0} (G : (v : V) → Ghosts (O v)) (c : Con
           explains = explains;
         }
 
-        pub reason_told : (u : Abstract) (x : Transform) (m : IsMeasured c bytes u x) → m.comes.module_parsed ≡ contents_of read → m.comes.customs ≡ (view G read).customs
+        pub reason_told : (u : Abstract) (x : Transform) (m : IsMeasured IsSame c bytes u x) → m.comes.module_parsed ≡ contents_of read → m.comes.customs ≡ (view G read).customs
             → (text : String Global) → string_bytes text ≡ report_text (function_item n) chain x → AnswersReason c bytes function (Ok text)
         reason_told u x m held same text says = record {
           module_left = u;

@@ -1,6 +1,6 @@
 -- Which functions of a module stay, what each costs, and under which names; and the same as bytes ("Structure > Modules > Indices", "Binary Format >
 -- Code Section").
-use Rattle.std.specs.Prelude.{ℕ, ◌-◌, ◌^◌, ◌≤◌, ◌⊎◌, List, ◌++◌, Contains, Option, Result, flat_map, map, ◌≡◌}
+use Rattle.std.specs.Prelude.{ℕ, ◌-◌, ◌^◌, ◌≤◌, ◌⊎◌, List, ◌++◌, Option, Result, map, ◌≡◌}
 use Rattle.std.specs.Global.{Vec}
 use Rattle.std.specs.Option.{option_to_list}
 use Rattle.walrus_base.specs.Arena.{item_at}
@@ -12,10 +12,13 @@ use Rattle.walrus_contents.specs.View.{name_at}
 use Rattle.walrus_items.specs.Functions.{FunctionValue}
 use Rattle.walrus_items.specs.Seen.{text_of}
 use Rattle.walrus_items.specs.declared.error.Error.{Error}
-use Rattle.walrus_tools.specs.Edits.{EditsTo}
+use Rattle.walrus_tools.specs.Choice.{Choice}
+use Rattle.walrus_tools.specs.ChosenModule.{KeepsChosen, RefusesChosen}
+use Rattle.walrus_tools.specs.Edits.{EditsTo, RefusesEdit}
 use Rattle.walrus_tools.specs.Ends.{Answers, LeavesLarge}
 pub use Rattle.walrus_tools.specs.Numbers.{IsLongName, RefusesIf, name_bytes, no_name, number_bytes}
-use Rattle.walrus_tools.specs.Measures.{IsMeasured, IsSame}
+use Rattle.walrus_tools.specs.Measures.{IsMeasured}
+use Rattle.walrus_tools.specs.Spelled.{AreLong, AreSpelled}
 use Rattle.walrus_tools.specs.declared.tool.list.Listed.{Listed}
 
 -- a function: its index, how many bytes its body has, and its name, if it has one
@@ -42,47 +45,29 @@ function_names m f = m.named (AnItem (function_item f))
 
 -- ---- from bytes to the list
 
--- each function with a body that is left, by rising index, with what its body has there and its name
-pub record IsListed (c : Config) (bytes : List ℕ) (functions : List ListedFunction) : Type 0 where
+-- of the chosen exports: each function with a body that is left, by rising index, with what its body has there and its name
+pub record IsListed (c : Config) (bytes : List ℕ) (choices : List Choice) (functions : List ListedFunction) : Type 0 where
   pub module_left : Abstract
   pub transform : Transform
-  pub measured : IsMeasured c bytes module_left transform
+  pub measured : IsMeasured (KeepsChosen choices) c bytes module_left transform
   pub is : functions ≡ map (listed_of (function_names module_left)) transform.function_ranges
 
 -- the list, or a refusal with its cause
-abbrev pub AnswersListed : Config → (bytes : List ℕ) → Result (Vec Listed) Error → Type 0
-AnswersListed c bytes result = Answers c bytes (λ (list : Vec Listed). IsListed c bytes (map listed_seen list.items)) (LeavesLarge (EditsTo IsSame c bytes) c) (λ e. ⊥) result
+abbrev pub AnswersListed : Config → (bytes : List ℕ) → List Choice → Result (Vec Listed) Error → Type 0
+AnswersListed c bytes choices result =
+    Answers c bytes (λ (list : Vec Listed). IsListed c bytes choices (map listed_seen list.items)) (LeavesLarge (EditsTo (KeepsChosen choices) c bytes) c) (RefusesEdit (RefusesChosen choices) c bytes) result
 
 -- ---- the list as bytes
 
 abbrev pub listed_bytes : ListedFunction → List ℕ
 listed_bytes f = number_bytes f.index ++ number_bytes f.size ++ name_bytes f.name
 
--- one of the numbers has more than 32 bits
+-- one of the numbers has more than 32 bits, or the name is too long
 abbrev pub IsLong : ListedFunction → Type 0
 IsLong f = (2 ^ 32 ≤ f.index) ⊎ ((2 ^ 32 ≤ f.size) ⊎ IsLongName f.name)
 
--- one of these is too long
-abbrev pub HasLong : List ListedFunction → Type 0
-HasLong functions = (f : ListedFunction) × Contains functions f × IsLong f
-
--- none of these is too long
-abbrev pub NoneLong : List ListedFunction → Type 0
-NoneLong functions = (f : ListedFunction) → Contains functions f → IsLong f → ⊥
-
--- the bytes of the list, in which no function is too long for them
-pub record AreFunctions (c : Config) (bytes list : List ℕ) : Type 0 where
-  pub functions : List ListedFunction
-  pub listed : IsListed c bytes functions
-  pub is : list ≡ flat_map listed_bytes functions
-  pub fits : NoneLong functions
-
--- a function of the list has a number or a name too long for its bytes
-pub record AreLong (c : Config) (bytes : List ℕ) : Type 0 where
-  pub functions : List ListedFunction
-  pub listed : IsListed c bytes functions
-  pub long : HasLong functions
-
 -- the bytes of the list, or a refusal with its cause
-abbrev pub AnswersFunctions : Config → (bytes : List ℕ) → Result (Vec ℕ) Error → Type 0
-AnswersFunctions c bytes result = Answers c bytes (λ (list : Vec ℕ). AreFunctions c bytes list.items) (LeavesLarge (EditsTo IsSame c bytes) c ⊎ AreLong c bytes) (λ e. ⊥) result
+abbrev pub AnswersFunctions : Config → (bytes : List ℕ) → List Choice → Result (Vec ℕ) Error → Type 0
+AnswersFunctions c bytes choices result =
+    Answers c bytes (λ (list : Vec ℕ). AreSpelled IsLong (IsListed c bytes choices) listed_bytes list.items)
+    (LeavesLarge (EditsTo (KeepsChosen choices) c bytes) c ⊎ AreLong IsLong (IsListed c bytes choices)) (RefusesEdit (RefusesChosen choices) c bytes) result

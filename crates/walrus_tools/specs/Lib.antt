@@ -3,10 +3,13 @@ pub mod Choice
 pub mod ChosenModule
 pub mod Count
 pub mod CountAnswers
+pub mod DroppedList
+pub mod Edited
 pub mod Edits
 pub mod Ends
 pub mod ExportChoice
 pub mod ExportHook
+pub mod ExportList
 pub mod ExportNames
 pub mod Facade
 pub mod Faults
@@ -15,6 +18,7 @@ pub mod Fits
 pub mod FunctionList
 pub mod FunctionMeaning
 pub mod FunctionNames
+pub mod ImportList
 pub mod KeptExports
 pub mod Kinds
 pub mod ListAnswers
@@ -34,11 +38,13 @@ pub mod Reasons
 pub mod Sections
 pub mod Snip
 pub mod SnipAnswers
+pub mod Spelled
 pub mod StripAnswers
 pub mod StripSteps
 pub mod Stub
 pub mod StubAnswers
 pub mod StubMatching
+pub mod Those
 pub mod Trap
 pub mod TrapEdit
 pub mod Wanted

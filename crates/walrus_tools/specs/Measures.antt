@@ -12,9 +12,10 @@ use Rattle.walrus_tools.specs.Edits.{EditsTo}
 abbrev pub IsSame : Contents → Contents → Type 0
 IsSame old new = new ≡ old
 
--- The bytes are those of a module; u is what gc and emission left of it; these bytes were written of that, whose places the transform tells.
-pub record IsMeasured (c : Config) (bytes : List ℕ) (u : Abstract) (transform : Transform) : Type 0 where
-  pub comes : EditsTo IsSame c bytes u
+-- The bytes are those of a module, which was edited so; u is what gc and emission left of it; these bytes were written of that, whose places the
+-- transform tells.
+pub record IsMeasured (Edits : Contents → Contents → Type 0) (c : Config) (bytes : List ℕ) (u : Abstract) (transform : Transform) : Type 0 where
+  pub comes : EditsTo Edits c bytes u
   pub output : List ℕ
   pub written : IsWellWritten c u output
   pub locations : ℕ → List ℕ

@@ -68,7 +68,7 @@ report_text x chain transform = chain_text x chain ++ flat_map size_line transfo
 pub record IsReason (c : Config) (bytes : List ℕ) (function : ℕ) (text : List ℕ) : Type 0 where
   pub module_left : Abstract
   pub transform : Transform
-  pub measured : IsMeasured c bytes module_left transform
+  pub measured : IsMeasured IsSame c bytes module_left transform
   pub there : IsSome (item_at (functions measured.comes.module_parsed.funcs) function)
   pub chain : Option (List Item)
   pub explains : Explains (with_customs measured.comes.customs measured.comes.module_parsed) (function_item function) chain

@@ -2,10 +2,13 @@
 
 pub mod counts;
 pub mod diagnose;
+pub mod dropped;
+pub mod exports;
 pub mod find;
 pub mod gc;
 pub mod gc_chosen;
 pub mod gc_counted;
+pub mod imports;
 pub mod list;
 pub mod report;
 pub mod section_parts;

@@ -1,15 +1,19 @@
 //! What a developer asks of a module that is too large: which functions stay, under which names, and what each costs.
 
 ghost use Rattle.std.specs.Option.{option_to_list};
-ghost use Rattle.std.specs.Prelude.{◌≡◌, ◌++◌, IfErr, IfOk, OnOk, flat_map, map};
+ghost use Rattle.std.specs.Prelude.{◌≡◌, ◌++◌, IfErr, IfOk, OnOk, map};
 ghost use Rattle.walrus_base.specs.Id.{place};
 ghost use Rattle.walrus_items.specs.Functions.{functions};
 ghost use Rattle.walrus_items.specs.Seen.{text_of};
 ghost use Rattle.walrus_items.specs.Transform.{range_of};
-ghost use Rattle.walrus_tools.specs.FunctionList.{AnswersFunctions, AnswersListed, HasLong, IsLong, IsLongName, NoneLong, RefusesIf, listed_bytes, listed_of, listed_seen, name_bytes, names_in};
+ghost use Rattle.walrus_tools.specs.Choice.{choices_seen};
+ghost use Rattle.walrus_tools.specs.FunctionList.{AnswersFunctions, AnswersListed, IsLong, IsLongName, ListedFunction, RefusesIf, listed_bytes, listed_of, listed_seen, name_bytes, names_in};
 ghost use Rattle.walrus_tools.specs.Wanted.{config_wanted};
 
+use crate::choice::Choice;
+use crate::keep::keep_chosen;
 use crate::numbers::{NO_NAME, add_number, add_text, narrow};
+use crate::spelled::{Told, spelled};
 use crate::wanted::Wanted;
 use std::alloc::{AllocError, Global};
 use std::ops::Range;
@@ -30,8 +34,8 @@ pub struct Listed {
 
 // ---- the list
 
-// The name of a function, if it has one.
-fn name_of(
+/// The name of a function, if it has one.
+pub(crate) fn name_of(
     alloc: Global,
     all: &ModuleFunctions,
     id: FunctionId,
@@ -81,18 +85,24 @@ fn all_listed(
     Ok(list)
 }
 
-/// What stays of the functions with a body where what nothing reaches goes, by rising index. What is written of names and producers changes
-/// nothing.
+/// What stays of the functions with a body where of the exports those are left that are chosen, and what nothing reaches goes, by rising
+/// index. What is written of names and producers changes nothing. Exports are chosen as for [`gc_chosen`](crate::gc_chosen).
 ///
 /// # Errors
 ///
-/// `InvalidWasm` only where the bytes are no module that keeps the rules, `TooLarge` only where what is kept has a count or a size past
-/// 32 bits, and `Memory`.
-pub fn list(alloc: Global, bytes: &[u8], wanted: Wanted) -> Result<Vec<Listed>>
-    ensures { AnswersListed (config_wanted wanted) bytes.now result }
+/// `InvalidWasm` only where the bytes are no module that keeps the rules, `NotFound` only where a choice fits no export, `TooLarge` only
+/// where what is kept has a count or a size past 32 bits, and `Memory`.
+pub fn list(
+    alloc: Global,
+    bytes: &[u8],
+    wanted: Wanted,
+    choices: &[Choice<'_>],
+) -> Result<Vec<Listed>>
+    ensures { AnswersListed (config_wanted wanted) bytes.now (choices_seen choices.now) result }
 {
     let config = ModuleConfig::of_choices(wanted.names, wanted.producers, wanted.legacy);
     let mut module = config.parse(alloc, bytes)?;
+    keep_chosen(alloc, &mut module, choices)?;
     gc::run(alloc, &mut module)?;
     let (output, transform) = module.emit_wasm_with_transform(alloc)?;
     drop(output);
@@ -114,31 +124,22 @@ fn add_name(to: &mut Vec<u8>, name: &Option<String>) -> Result<()>
     }
 }
 
-// Puts a function behind the bytes: its index, how many bytes its body has, and its name.
-fn add_function(to: &mut Vec<u8>, function: &Listed) -> Result<()>
-    ensures value { OnOk result (to.new.items ≡ to.old.items ++ listed_bytes (listed_seen function.now)) }
-    ensures fits { OnOk result (IsLong (listed_seen function.now) → ⊥) }
-    ensures refused { IfErr result (RefusesIf (IsLong (listed_seen function.now))) }
-{
-    let index = narrow(function.index)?;
-    let size = narrow(function.size)?;
-    add_number(to, index)?;
-    add_number(to, size)?;
-    add_name(to, &function.name)
-}
+impl Told for Listed {
+    ghost Seen = { ListedFunction };
 
-// The bytes of these functions.
-fn spelled(alloc: Global, functions: &[Listed]) -> Result<Vec<u8>>
-    ensures value { IfOk result (λ list. list.items
-        ≡ flat_map listed_bytes (map listed_seen functions.now)) }
-    ensures fits { OnOk result (NoneLong (map listed_seen functions.now)) }
-    ensures refused { IfErr result (RefusesIf (HasLong (map listed_seen functions.now))) }
-{
-    let mut list = Vec::new(alloc);
-    for function in functions {
-        add_function(&mut list, function)?;
+    ghost seen = { listed_seen };
+
+    ghost spell = { listed_bytes };
+
+    ghost IsLong = { IsLong };
+
+    fn add_to(&self, to: &mut Vec<u8>) -> Result<()> {
+        let index = narrow(self.index)?;
+        let size = narrow(self.size)?;
+        add_number(to, index)?;
+        add_number(to, size)?;
+        add_name(to, &self.name)
     }
-    Ok(list)
 }
 
 /// The same as bytes, for callers of other languages: of each function its index, how many bytes its body has, and the length of its name,
@@ -147,9 +148,14 @@ fn spelled(alloc: Global, functions: &[Listed]) -> Result<Vec<u8>>
 /// # Errors
 ///
 /// Those of [`list`], and `TooLarge` also where what is listed has a number or a name past 32 bits.
-pub fn function_list(alloc: Global, bytes: &[u8], wanted: Wanted) -> Result<Vec<u8>>
-    ensures { AnswersFunctions (config_wanted wanted) bytes.now result }
+pub fn function_list(
+    alloc: Global,
+    bytes: &[u8],
+    wanted: Wanted,
+    choices: &[Choice<'_>],
+) -> Result<Vec<u8>>
+    ensures { AnswersFunctions (config_wanted wanted) bytes.now (choices_seen choices.now) result }
 {
-    let functions = list(alloc, bytes, wanted)?;
+    let functions = list(alloc, bytes, wanted, choices)?;
     spelled(alloc, &functions)
 }
