@@ -1,4 +1,5 @@
 pub mod Answer
-pub mod Chosen
+pub mod ChosenRoots
 pub mod Flags
 pub mod Names
+pub mod Questions

@@ -31,3 +31,7 @@ LacksTexts names _ = ⊥
 -- the answer under the names of the choices that the bytes are, where these are texts in UTF-8; or one of them isn't
 abbrev pub UnderTexts : (bytes : List ℕ) → (List (List ℕ) → Answer → Type 0) → Answer → Type 0
 UnderTexts bytes Answers = UnderChoices bytes (λ choices answer. Answers (names_of choices) answer ⊎ ((e : Error) × (answer ≡ Err e) × LacksTexts (names_of choices) e))
+
+-- the answer by the choices that the bytes of two lists are
+abbrev pub UnderLists : (bytes others : List ℕ) → (List Choice → List Choice → Answer → Type 0) → Answer → Type 0
+UnderLists bytes others Answers = UnderChoices bytes (λ choices. UnderChoices others (Answers choices))

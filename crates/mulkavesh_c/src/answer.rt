@@ -1,6 +1,6 @@
 //! What a call leaves behind: its status, the caller's room, and the length that is told.
 
-ghost use Rattle.std.specs.Prelude.{◌≡◌};
+ghost use Rattle.std.specs.Prelude.{◌≡◌, ◌×◌};
 ghost use Rattle.mulkavesh_c.specs.Answer.{Puts, status_of, told_of};
 
 use walrus_tools::Error;
@@ -27,6 +27,15 @@ pub(crate) struct Made {
     pub(crate) answer: Result<Vec<u8>, Error>,
     /// What is told as the length where something isn't found.
     pub(crate) number: usize,
+}
+
+impl Made {
+    /// This answer, for which no number is told.
+    pub(crate) fn of(answer: Result<Vec<u8>, Error>) -> Self
+        ensures { (result.answer ≡ answer) × (result.number ≡ 0) }
+    {
+        Made { answer, number: 0 }
+    }
 }
 
 fn status_of(error: &Error) -> u32
@@ -59,14 +68,10 @@ pub(crate) fn refused(length: &mut usize, status: u32) -> u32
 }
 
 /// Puts what was made in front of the room and tells its length, or tells why not.
-pub(crate) fn put(
-    answer: Result<Vec<u8>, Error>,
-    number: usize,
-    output: &mut [u8],
-    length: &mut usize,
-) -> u32
-    ensures { Puts answer number output.old output.new length.new result }
+pub(crate) fn put(made: Made, output: &mut [u8], length: &mut usize) -> u32
+    ensures { Puts made.answer made.number output.old output.new length.new result }
 {
+    let Made { answer, number } = made;
     let bytes = match answer {
         Ok(bytes) => bytes,
         Err(error) => {

@@ -6,29 +6,37 @@
 #![tactic(auto)]
 
 mod answer;
+mod choices;
 mod flags;
 mod names;
+mod question;
 
-ghost use Rattle.std.specs.Prelude.{◌≡◌, ⊤};
+ghost use Rattle.std.specs.Prelude.{◌≡◌, ◌×◌, ⊤};
 ghost use Rattle.walrus_tools.specs.Faults.{AnswersFault};
-ghost use Rattle.walrus_tools.specs.Facade.{ReportsOn, RunsOn, config_of, defaults};
 ghost use Rattle.walrus_tools.specs.PartList.{AnswersPartList};
-ghost use Rattle.walrus_tools.specs.Reasons.{AnswersChain, WritesChain};
-ghost use Rattle.walrus_tools.specs.Choice.{IsList};
-ghost use Rattle.walrus_tools.specs.Sections.{AnswersSections};
+ghost use Rattle.walrus_tools.specs.Choice.{AllGo, IsList};
+ghost use Rattle.walrus_tools.specs.ChosenModule.{AnswersChosen};
+ghost use Rattle.walrus_tools.specs.DroppedList.{AnswersDroppedList};
+ghost use Rattle.walrus_tools.specs.ExportList.{AnswersExportList};
 ghost use Rattle.walrus_tools.specs.FunctionList.{AnswersFunctions};
-ghost use Rattle.walrus_tools.specs.SnipAnswers.{AnswersSnipped};
+ghost use Rattle.walrus_tools.specs.ImportList.{AnswersImportList};
+ghost use Rattle.walrus_tools.specs.Sections.{AnswersSections};
 ghost use Rattle.walrus_tools.specs.StripAnswers.{AnswersStripped};
-ghost use Rattle.walrus_tools.specs.StubAnswers.{AnswersStubbed};
+ghost use Rattle.walrus_tools.specs.StubMatching.{AnswersMatching};
+ghost use Rattle.walrus_tools.specs.TrapEdit.{AnswersMeant};
 ghost use Rattle.walrus_tools.specs.Wanted.{config_wanted};
+ghost use Rattle.walrus_tools.specs.Weighed.{AnswersReport};
+ghost use Rattle.mulkavesh_c.specs.Answer.{Gives, NoNumber};
+ghost use Rattle.mulkavesh_c.specs.ChosenRoots.{GivesChosen};
 ghost use Rattle.mulkavesh_c.specs.Flags.{IsKnown, wanted};
-ghost use Rattle.mulkavesh_c.specs.Answer.{Gives};
-ghost use Rattle.mulkavesh_c.specs.Names.{UnderChoices, UnderName};
+ghost use Rattle.mulkavesh_c.specs.Names.{UnderChoices, UnderLists, UnderTexts};
+ghost use Rattle.mulkavesh_c.specs.Questions.{AnswersCallers, AnswersTo, AnswersWhy};
 
-use crate::answer::{UNKNOWN_FLAG, put, refused};
+use crate::answer::{Made, UNKNOWN_FLAG, put, refused};
 use crate::flags::wanted_by;
+use crate::question::Question;
 use std::alloc::Global;
-use walrus_tools::are_choices;
+use walrus_tools::{all_go, are_choices};
 
 /// The version: the major number times 2^16, the minor one times 2^8, and the patch.
 const VERSION: u32 = 256;
@@ -41,43 +49,226 @@ pub extern "C" fn mulkavesh_version() -> u32
     VERSION
 }
 
-/// The module without what nothing reaches: `walrus_tools::gc`.
+// ---- under a choice of exports
+
+// The answer to a question, put into the room.
+fn give(
+    alloc: Global,
+    question: Question<'_>,
+    input: &[u8],
+    flags: u32,
+    choice: &[u8],
+    output: &mut [u8],
+    length: &mut usize,
+) -> u32
+    ensures { GivesChosen flags input.now choice.now (λ c. AnswersTo question c input.now)
+        output.old output.new length.new result }
+{
+    let Some(wanted) = wanted_by(flags) else {
+        return refused(length, UNKNOWN_FLAG);
+    };
+    if !are_choices(choice) {
+        return refused(length, UNKNOWN_FLAG);
+    }
+    let made = choices::answer_to(alloc, question, input, wanted, choice);
+    put(made, output, length)
+}
+
+/// The module without what nothing reaches: `walrus_tools::gc_chosen`.
 #[unsafe(no_mangle)]
 pub extern "C" fn mulkavesh_gc(
     alloc: Global,
     input: &[u8],
     flags: u32,
+    choice: &[u8],
     output: &mut [u8],
     length: &mut usize,
 ) -> u32
-    ensures { Gives (IsKnown flags) (RunsOn (config_wanted (wanted flags)) input.now (λ bytes. bytes.items))
+    ensures { GivesChosen flags input.now choice.now (λ c. AnswersChosen c input.now)
         output.old output.new length.new result }
 {
-    let Some(wanted) = wanted_by(flags) else {
-        return refused(length, UNKNOWN_FLAG);
-    };
-    let made = walrus_tools::gc(alloc, input, wanted);
-    put(made, output, length)
+    give(
+        alloc,
+        Question::Smaller,
+        input,
+        flags,
+        choice,
+        output,
+        length,
+    )
 }
 
-/// How many items are kept and dropped, in seven lines: `walrus_tools::report`.
+/// What is kept and dropped, in lines: `walrus_tools::report` and `report_lines`.
 #[unsafe(no_mangle)]
 pub extern "C" fn mulkavesh_report(
     alloc: Global,
     input: &[u8],
     flags: u32,
+    choice: &[u8],
     output: &mut [u8],
     length: &mut usize,
 ) -> u32
-    ensures { Gives (IsKnown flags) (ReportsOn (config_wanted (wanted flags)) input.now (λ text. text.items))
+    ensures { GivesChosen flags input.now choice.now (λ c. AnswersReport c input.now)
         output.old output.new length.new result }
 {
-    let Some(wanted) = wanted_by(flags) else {
-        return refused(length, UNKNOWN_FLAG);
-    };
-    let made = walrus_tools::report(alloc, input, wanted);
-    put(made, output, length)
+    give(
+        alloc,
+        Question::Report,
+        input,
+        flags,
+        choice,
+        output,
+        length,
+    )
 }
+
+/// The functions with a body that stay, with what each costs and its name: `walrus_tools::function_list`.
+#[unsafe(no_mangle)]
+pub extern "C" fn mulkavesh_list(
+    alloc: Global,
+    input: &[u8],
+    flags: u32,
+    choice: &[u8],
+    output: &mut [u8],
+    length: &mut usize,
+) -> u32
+    ensures { GivesChosen flags input.now choice.now (λ c. AnswersFunctions c input.now)
+        output.old output.new length.new result }
+{
+    give(
+        alloc,
+        Question::Listed,
+        input,
+        flags,
+        choice,
+        output,
+        length,
+    )
+}
+
+/// The functions with a body that go, with what each had and its name: `walrus_tools::dropped_list`.
+#[unsafe(no_mangle)]
+pub extern "C" fn mulkavesh_dropped(
+    alloc: Global,
+    input: &[u8],
+    flags: u32,
+    choice: &[u8],
+    output: &mut [u8],
+    length: &mut usize,
+) -> u32
+    ensures { GivesChosen flags input.now choice.now (λ c. AnswersDroppedList c input.now)
+        output.old output.new length.new result }
+{
+    give(
+        alloc,
+        Question::Dropped,
+        input,
+        flags,
+        choice,
+        output,
+        length,
+    )
+}
+
+/// The exports that stay: `walrus_tools::export_list`.
+#[unsafe(no_mangle)]
+pub extern "C" fn mulkavesh_exports(
+    alloc: Global,
+    input: &[u8],
+    flags: u32,
+    choice: &[u8],
+    output: &mut [u8],
+    length: &mut usize,
+) -> u32
+    ensures { GivesChosen flags input.now choice.now (λ c. AnswersExportList c input.now)
+        output.old output.new length.new result }
+{
+    give(
+        alloc,
+        Question::Exports,
+        input,
+        flags,
+        choice,
+        output,
+        length,
+    )
+}
+
+/// The imports that stay: `walrus_tools::import_list`.
+#[unsafe(no_mangle)]
+pub extern "C" fn mulkavesh_imports(
+    alloc: Global,
+    input: &[u8],
+    flags: u32,
+    choice: &[u8],
+    output: &mut [u8],
+    length: &mut usize,
+) -> u32
+    ensures { GivesChosen flags input.now choice.now (λ c. AnswersImportList c input.now)
+        output.old output.new length.new result }
+{
+    give(
+        alloc,
+        Question::Imports,
+        input,
+        flags,
+        choice,
+        output,
+        length,
+    )
+}
+
+/// By which references a function stays, or what is exported: `walrus_tools::reason_list`.
+#[unsafe(no_mangle)]
+pub extern "C" fn mulkavesh_why(
+    alloc: Global,
+    input: &[u8],
+    flags: u32,
+    choice: &[u8],
+    function: &[u8],
+    output: &mut [u8],
+    length: &mut usize,
+) -> u32
+    ensures { GivesChosen flags input.now choice.now (λ c. AnswersWhy function.now c input.now)
+        output.old output.new length.new result }
+{
+    give(
+        alloc,
+        Question::Why(function),
+        input,
+        flags,
+        choice,
+        output,
+        length,
+    )
+}
+
+/// What stays and refers to a function, or to what is exported: `walrus_tools::caller_list`.
+#[unsafe(no_mangle)]
+pub extern "C" fn mulkavesh_callers(
+    alloc: Global,
+    input: &[u8],
+    flags: u32,
+    choice: &[u8],
+    function: &[u8],
+    output: &mut [u8],
+    length: &mut usize,
+) -> u32
+    ensures { GivesChosen flags input.now choice.now (λ c. AnswersCallers function.now c input.now)
+        output.old output.new length.new result }
+{
+    give(
+        alloc,
+        Question::Callers(function),
+        input,
+        flags,
+        choice,
+        output,
+        length,
+    )
+}
+
+// ---- others
 
 /// What is wrong with the bytes, in eight bytes: `walrus_tools::fault`.
 #[unsafe(no_mangle)]
@@ -88,33 +279,14 @@ pub extern "C" fn mulkavesh_diagnose(
     output: &mut [u8],
     length: &mut usize,
 ) -> u32
-    ensures { Gives (IsKnown flags) (AnswersFault (config_wanted (wanted flags)) input.now)
+    ensures { Gives (IsKnown flags) (AnswersFault (config_wanted (wanted flags)) input.now) NoNumber
         output.old output.new length.new result }
 {
     let Some(wanted) = wanted_by(flags) else {
         return refused(length, UNKNOWN_FLAG);
     };
     let made = walrus_tools::fault(alloc, input, wanted);
-    put(made, output, length)
-}
-
-/// The functions with a body that stay, with what each costs and its name: `walrus_tools::function_list`.
-#[unsafe(no_mangle)]
-pub extern "C" fn mulkavesh_list(
-    alloc: Global,
-    input: &[u8],
-    flags: u32,
-    output: &mut [u8],
-    length: &mut usize,
-) -> u32
-    ensures { Gives (IsKnown flags) (AnswersFunctions (config_wanted (wanted flags)) input.now)
-        output.old output.new length.new result }
-{
-    let Some(wanted) = wanted_by(flags) else {
-        return refused(length, UNKNOWN_FLAG);
-    };
-    let made = walrus_tools::function_list(alloc, input, wanted);
-    put(made, output, length)
+    put(Made::of(made), output, length)
 }
 
 /// The bytes without the custom sections that go by a list of choices: `walrus_tools::strip`.
@@ -126,14 +298,14 @@ pub extern "C" fn mulkavesh_strip(
     output: &mut [u8],
     length: &mut usize,
 ) -> u32
-    ensures { Gives (IsList choice.now) (UnderChoices choice.now (AnswersStripped input.now))
+    ensures { Gives (IsList choice.now) (UnderChoices choice.now (AnswersStripped input.now)) NoNumber
         output.old output.new length.new result }
 {
     if !are_choices(choice) {
         return refused(length, UNKNOWN_FLAG);
     }
     let made = names::stripped(alloc, input, choice);
-    put(made, output, length)
+    put(Made::of(made), output, length)
 }
 
 /// The sections, with the place and the size of each, whatever they hold: `walrus_tools::section_list`.
@@ -144,10 +316,10 @@ pub extern "C" fn mulkavesh_sections(
     output: &mut [u8],
     length: &mut usize,
 ) -> u32
-    ensures { Gives ⊤ (AnswersSections input.now) output.old output.new length.new result }
+    ensures { Gives ⊤ (AnswersSections input.now) NoNumber output.old output.new length.new result }
 {
     let made = walrus_tools::section_list(alloc, input);
-    put(made, output, length)
+    put(Made::of(made), output, length)
 }
 
 /// The sections of a module and what stands in them, with the place and the size of each: `walrus_tools::part_list`.
@@ -158,56 +330,57 @@ pub extern "C" fn mulkavesh_parts(
     output: &mut [u8],
     length: &mut usize,
 ) -> u32
-    ensures { Gives ⊤ (AnswersPartList input.now) output.old output.new length.new result }
+    ensures { Gives ⊤ (AnswersPartList input.now) NoNumber output.old output.new length.new result }
 {
     let made = walrus_tools::part_list(alloc, input);
-    put(made, output, length)
+    put(Made::of(made), output, length)
 }
 
-/// By which references the function of this index stays, as a text: `walrus_tools::why` and `chain_lines`.
-#[unsafe(no_mangle)]
-pub extern "C" fn mulkavesh_why(
-    alloc: Global,
-    input: &[u8],
-    function: u32,
-    output: &mut [u8],
-    length: &mut usize,
-) -> u32
-    ensures { Gives ⊤ (AnswersChain (config_of defaults) input.now function WritesChain)
-        output.old output.new length.new result }
-{
-    let made = names::reasoned(alloc, input, function);
-    put(made, output, length)
-}
-
-/// The module in which the function that is exported under this name traps: `walrus_tools::snip`.
+/// The module in which the functions trap that a list of texts means: `walrus_tools::snip_functions`.
 #[unsafe(no_mangle)]
 pub extern "C" fn mulkavesh_snip(
     alloc: Global,
     input: &[u8],
-    name: &[u8],
+    flags: u32,
+    function: &[u8],
     output: &mut [u8],
     length: &mut usize,
 ) -> u32
-    ensures { Gives ⊤ (UnderName name.now (AnswersSnipped (config_of defaults) input.now name.now))
+    ensures { Gives (IsKnown flags × AllGo function.now)
+        (UnderTexts function.now (AnswersMeant (config_wanted (wanted flags)) input.now)) NoNumber
         output.old output.new length.new result }
 {
-    let made = names::snipped(alloc, input, name);
-    put(made, output, length)
+    let Some(wanted) = wanted_by(flags) else {
+        return refused(length, UNKNOWN_FLAG);
+    };
+    if !all_go(function) {
+        return refused(length, UNKNOWN_FLAG);
+    }
+    let made = names::snipped(alloc, input, wanted, function);
+    put(Made::of(made), output, length)
 }
 
-/// The module in which the functions that were imported from this module trap: `walrus_tools::stub`.
+/// The module in which the functions trap that were imported from modules and under names of two lists: `walrus_tools::stub_matching`.
 #[unsafe(no_mangle)]
 pub extern "C" fn mulkavesh_stub(
     alloc: Global,
     input: &[u8],
-    from: &[u8],
+    flags: u32,
+    module: &[u8],
+    name: &[u8],
     output: &mut [u8],
     length: &mut usize,
 ) -> u32
-    ensures { Gives ⊤ (UnderName from.now (AnswersStubbed (config_of defaults) input.now from.now))
+    ensures { Gives (IsKnown flags × IsList «module».now × IsList name.now)
+        (UnderLists «module».now name.now (AnswersMatching (config_wanted (wanted flags)) input.now)) NoNumber
         output.old output.new length.new result }
 {
-    let made = names::stubbed(alloc, input, from);
-    put(made, output, length)
+    let Some(wanted) = wanted_by(flags) else {
+        return refused(length, UNKNOWN_FLAG);
+    };
+    if !are_choices(module) || !are_choices(name) {
+        return refused(length, UNKNOWN_FLAG);
+    }
+    let made = names::stubbed(alloc, input, wanted, module, name);
+    put(Made::of(made), output, length)
 }

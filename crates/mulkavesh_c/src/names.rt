@@ -8,7 +8,7 @@ ghost use Rattle.walrus_tools.specs.StripAnswers.{AnswersStripped};
 ghost use Rattle.walrus_tools.specs.StubMatching.{AnswersMatching};
 ghost use Rattle.walrus_tools.specs.TrapEdit.{AnswersMeant};
 ghost use Rattle.walrus_tools.specs.Wanted.{config_wanted};
-ghost use Rattle.mulkavesh_c.specs.Names.{LacksChoices, LacksTexts, UnderChoices, UnderTexts, names_of};
+ghost use Rattle.mulkavesh_c.specs.Names.{LacksChoices, LacksTexts, UnderChoices, UnderLists, UnderTexts, names_of};
 
 use std::alloc::Global;
 use walrus_tools::{
@@ -70,8 +70,7 @@ pub(crate) fn stubbed(
     from: &[u8],
     name: &[u8],
 ) -> Result<Vec<u8>, Error>
-    ensures { UnderChoices from.now (λ modules. UnderChoices name.now
-        (AnswersMatching (config_wanted wanted) input.now modules)) result }
+    ensures { UnderLists from.now name.now (AnswersMatching (config_wanted wanted) input.now) result }
 {
     let modules = choices_of(alloc, from)?;
     let names = choices_of(alloc, name)?;

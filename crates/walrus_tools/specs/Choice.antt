@@ -1,5 +1,5 @@
 -- Choices by name, a list of them as bytes, and what they say of a text.
-use Rattle.std.specs.Prelude.{◌≡◌, ◌+◌, ◌*◌, ◌++◌, ℕ, Bool, true, false, List, [], ◌∷◌, map, length, Option, MatchOption, Contains, Vec, if◌then◌else◌}
+use Rattle.std.specs.Prelude.{◌≡◌, ◌+◌, ◌*◌, ◌++◌, ℕ, Bool, true, false, List, [], ◌∷◌, map, length, Option, MatchOption, Contains, All, Vec, if◌then◌else◌}
 use Rattle.std.specs.Borrow.{Bor}
 use Rattle.std.specs.declared.alloc.Global.{Global}
 use Rattle.walrus_tools.specs.Fits.{Fits}
@@ -31,6 +31,10 @@ AreChoices bytes (choice ∷ choices) = (rest : List ℕ) × IsChoice bytes choi
 -- the bytes are a list of choices
 abbrev pub IsList : List ℕ → Type 0
 IsList bytes = (choices : List Choice) × AreChoices bytes choices
+
+-- the bytes are a list of choices that all say that texts go
+abbrev pub AllGo : List ℕ → Type 0
+AllGo bytes = (choices : List Choice) × AreChoices bytes choices × All (λ (choice : Choice). choice.is_kept ≡ false) choices
 
 -- bytes are at most one list of choices
 abbrev pub OneList : Type 0

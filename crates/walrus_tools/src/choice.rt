@@ -1,7 +1,7 @@
 //! Choices by name, and a list of them as bytes, which is how a program hands them over.
 
 ghost use Rattle.std.specs.Prelude.{◌≡◌, ◌↔◌, IfOk, true};
-ghost use Rattle.walrus_tools.specs.Choice.{AreRead, FitsOne, Goes, IsFirst, IsList, OneList, Suits, choice_seen, choices_seen};
+ghost use Rattle.walrus_tools.specs.Choice.{AllGo, AreRead, FitsOne, Goes, IsFirst, IsList, OneList, Suits, choice_seen, choices_seen};
 
 use crate::fits::fits;
 use std::alloc::{AllocError, Global};
@@ -43,6 +43,23 @@ pub fn are_choices(bytes: &[u8]) -> bool
         let Some((_choice, behind)) = first_choice(left) else {
             return false;
         };
+        left = behind;
+    }
+    true
+}
+
+/// Whether the bytes are a list of choices that all say that such texts go. Takes no memory.
+pub fn all_go(bytes: &[u8]) -> bool
+    ensures { (result ≡ true) ↔ AllGo bytes.now }
+{
+    let mut left = bytes;
+    'records: while !left.is_empty() {
+        let Some((choice, behind)) = first_choice(left) else {
+            return false;
+        };
+        if choice.is_kept {
+            return false;
+        }
         left = behind;
     }
     true

@@ -32,7 +32,7 @@ mod traps;
 mod wanted;
 
 pub use beginnings::{Beginning, beginning_of, has_one_beginning};
-pub use choice::{Choice, are_choices, goes, read_choices};
+pub use choice::{Choice, all_go, are_choices, goes, read_choices};
 pub use examples::count_calls::count_calls;
 pub use examples::keep_listed::keep_listed;
 pub use examples::moves::moves;

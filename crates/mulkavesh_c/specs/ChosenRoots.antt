@@ -1,10 +1,9 @@
 -- A call under a choice of exports, and which NAME of it fits none.
 use Rattle.std.specs.Prelude.{ℕ, List, length, Some, None, Err, ◌≡◌, ◌⊎◌, ⊤}
-use Rattle.walrus_model.specs.Config.{Config}
 use Rattle.walrus_tools.specs.Choice.{AreChoices, Choice, IsList}
-use Rattle.walrus_tools.specs.ChosenModule.{TellsOfParsed}
+use Rattle.walrus_tools.specs.ChosenModule.{AnswersUnfit, TellsOfParsed}
 use Rattle.walrus_tools.specs.Ends.{Answers, IfNotFound}
-use Rattle.walrus_tools.specs.Facade.{Error, NotFound}
+use Rattle.walrus_tools.specs.Facade.{Config, Error, NotFound}
 use Rattle.walrus_tools.specs.Wanted.{config_wanted}
 use Rattle.mulkavesh_c.specs.Answer.{Answer, Gives}
 use Rattle.mulkavesh_c.specs.Flags.{IsKnown, wanted}
@@ -24,12 +23,12 @@ NumbersUnfit c bytes choice number = (choices : List Choice) → AreChoices choi
 abbrev pub FindsNothing : Config → (bytes : List ℕ) → Answer → Type 0
 FindsNothing c bytes answer = Answers c bytes (λ found. ⊥) ⊥ (IfNotFound ⊤) answer
 
--- what was made under the choices, and where something isn't found the number
-pub record MakesUnder (c : Config) (bytes : List ℕ) (choices : List Choice) (Answered : Answer → Type 0) (made : Made) : Type 0 where
-  pub answers : Answered made.answer
+-- what was made is this answer, or a refusal for which no number can be told; and where something isn't found it has the number
+pub record IsNumbered (c : Config) (bytes : List ℕ) (choices : List Choice) (answer : Answer) (made : Made) : Type 0 where
+  pub answers : (made.answer ≡ answer) ⊎ ((e : Error) × (made.answer ≡ Err e) × AnswersUnfit c bytes choices (Err e))
   pub numbers : made.answer ≡ Err NotFound → IsUnfit c bytes choices made.number
 
--- the same under the choices that the bytes of `choice` are
+-- what was made under the choices that the bytes of `choice` are, and where something isn't found with the number
 pub record MakesChosen (c : Config) (bytes choice : List ℕ) (Answered : List Choice → Answer → Type 0) (made : Made) : Type 0 where
   pub answers : UnderChoices choice Answered made.answer
   pub numbers : made.answer ≡ Err NotFound → NumbersUnfit c bytes choice made.number
