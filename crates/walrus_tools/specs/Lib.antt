@@ -42,3 +42,6 @@ pub mod StubMatching
 pub mod Trap
 pub mod TrapEdit
 pub mod Wanted
+pub mod Weigh
+pub mod WeighSteps
+pub mod WeighText
