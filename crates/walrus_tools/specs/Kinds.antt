@@ -1,5 +1,5 @@
--- How many items of each kind a module has, and how many of them gc keeps ("Structure > Modules > Indices").
-use Rattle.std.specs.Prelude.{ℕ, List, Option, Result, count_by, is_some, length}
+-- How many items of each kind there are ("Structure > Modules > Indices").
+use Rattle.std.specs.Prelude.{ℕ, List, Option, count_by, is_some, length}
 use Rattle.std.specs.List.{range_with_len}
 use Rattle.walrus_base.specs.Arena.{item_at}
 use Rattle.walrus_base.specs.Operators.{Item, Functions, Tables, Memories, Tags, Globals, Elements, DataSegments}
@@ -11,17 +11,8 @@ use Rattle.walrus_items.specs.Globals.{globals}
 use Rattle.walrus_items.specs.Memories.{memories}
 use Rattle.walrus_items.specs.Tables.{tables}
 use Rattle.walrus_items.specs.Tags.{tags}
-use Rattle.walrus_model.specs.Abstract.{Abstract}
-use Rattle.walrus_model.specs.Config.{Config}
-use Rattle.walrus_model.specs.Kept.{Kept}
-use Rattle.walrus_model.specs.Live.{IsLive}
-use Rattle.walrus_model.specs.Rules.{Holds}
-use Rattle.walrus_theorem.specs.Headline.{ReadsModule}
 use Rattle.walrus_theorem.specs.Report.{Counts}
-use Rattle.walrus_items.specs.declared.error.Error.{Error}
-use Rattle.walrus_tools.specs.Ends.{Answers}
-use Rattle.walrus_tools.specs.declared.tool.counts.Counted.{Counted}
-use Rattle.walrus_tools.specs.declared.tool.gc_counted.Kinds.{Kinds}
+use Rattle.walrus_tools.specs.declared.kinds.Kinds.{Kinds}
 
 -- of each kind so many items are those of which P holds
 pub record CountsKinds (P : Item → Type 0) (k : Kinds) : Type 0 where
@@ -32,18 +23,6 @@ pub record CountsKinds (P : Item → Type 0) (k : Kinds) : Type 0 where
   pub globals : Counts (λ i. P (Globals, i)) k.globals
   pub elements : Counts (λ i. P (Elements, i)) k.elements
   pub data_segments : Counts (λ i. P (DataSegments, i)) k.data_
-
--- the bytes read as a module that keeps the rules; `before` counts its items, and `after` those that are kept
-pub record IsCountedOf (c : Config) (bytes : List ℕ) (before after : Kinds) : Type 0 where
-  pub module_read : Abstract
-  pub reads : ReadsModule c bytes module_read
-  pub holds : Holds module_read
-  pub all : CountsKinds (IsLive module_read) before
-  pub kept : CountsKinds (Kept module_read) after
-
--- such counts, or a refusal with its cause: memory ran out, or the bytes aren't accepted
-abbrev pub AnswersCounted : Config → (bytes : List ℕ) → Result Counted Error → Type 0
-AnswersCounted c bytes result = Answers c bytes (λ (r : Counted). IsCountedOf c bytes r.before r.after) ⊥ (λ e. ⊥) result
 
 -- ---- in memory
 

@@ -48,3 +48,6 @@ pub mod Those
 pub mod Trap
 pub mod TrapEdit
 pub mod Wanted
+pub mod Weigh
+pub mod WeighSteps
+pub mod WeighText

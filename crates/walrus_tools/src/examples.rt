@@ -5,6 +5,8 @@ pub mod keep_listed;
 pub mod moves;
 pub mod rename_export;
 pub mod shrink;
+pub mod snip_export;
+pub mod stub_module;
 pub mod why_with_sizes;
 pub mod with_export;
 pub mod with_metadata;

@@ -1,6 +1,5 @@
 //! Tools for programs to call, as `mulkavesh` does for its subcommands, and the C interface. A file has the name of its call.
 
-pub mod counts;
 pub mod diagnose;
 pub mod dropped;
 pub mod exports;
@@ -11,12 +10,13 @@ pub mod gc_counted;
 pub mod imports;
 pub mod list;
 pub mod report;
+pub mod report_lines;
 pub mod section_parts;
 pub mod sections;
-pub mod snip;
+pub mod snip_counted;
 pub mod snip_functions;
 pub mod strip;
-pub mod stub;
+pub mod stub_counted;
 pub mod stub_matching;
 pub mod unfit;
 pub mod why;

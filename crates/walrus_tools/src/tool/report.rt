@@ -1,22 +1,30 @@
-//! What the program does under `--report`, from bytes to a text: how many items are kept and dropped.
+//! What a developer asks before anything is written: how many items and bytes there are, and how many would be left.
 
-ghost use Rattle.walrus.specs.Reported.{ReportsOn};
+ghost use Rattle.walrus_tools.specs.Choice.{choices_seen};
 ghost use Rattle.walrus_tools.specs.Wanted.{config_wanted};
+ghost use Rattle.walrus_tools.specs.Weigh.{AnswersReport};
 
+use crate::choice::Choice;
+use crate::tool::gc_counted::gc_counted;
 use crate::wanted::Wanted;
+use crate::weigh::Weighed;
 use std::alloc::Global;
-use walrus::tool::report_of;
-use walrus::{ModuleConfig, Result};
+use walrus::Result;
 
-/// How many items of the module are kept and dropped where what nothing reaches goes, in seven lines. What is written of names and
-/// producers changes nothing.
+/// What [`gc_counted`](crate::gc_counted) tells: how many items and bytes there are, and how many are left where of the exports those stay that are chosen,
+/// and what nothing reaches goes.
 ///
 /// # Errors
 ///
-/// `InvalidWasm` only where the bytes are no module that keeps the rules, and `Memory`.
-pub fn report(alloc: Global, bytes: &[u8], wanted: Wanted) -> Result<Vec<u8>>
-    ensures { ReportsOn (config_wanted wanted) bytes.now (λ text. text.items) result }
+/// Those of [`gc_chosen`](crate::gc_chosen).
+pub fn report(
+    alloc: Global,
+    bytes: &[u8],
+    wanted: Wanted,
+    choices: &[Choice<'_>],
+) -> Result<Weighed>
+    ensures { AnswersReport (config_wanted wanted) bytes.now (choices_seen choices.now) result }
 {
-    let config = ModuleConfig::of_choices(wanted.names, wanted.producers, wanted.legacy);
-    report_of(alloc, bytes, &config)
+    let smaller = gc_counted(alloc, bytes, wanted, choices)?;
+    Ok(smaller.told)
 }

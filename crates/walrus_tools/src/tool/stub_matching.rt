@@ -9,7 +9,7 @@ ghost use Rattle.walrus_tools.specs.Wanted.{config_wanted};
 use crate::choice::Choice;
 use crate::finish::finished;
 use crate::import_choice::chosen_imports;
-use crate::tool::stub::trap_import;
+use crate::trap_import::trap_import;
 use crate::wanted::Wanted;
 use std::alloc::Global;
 use walrus::{ImportId, ImportKey, Marks, Module, ModuleConfig, Result};
@@ -41,8 +41,8 @@ fn trap_hits<S>(alloc: Global, module: &mut Module<S>, marks: &Marks<ImportKey>)
     Ok(())
 }
 
-// All functions trap that chosen imports bring.
-fn stub_chosen<S>(
+/// All functions trap that chosen imports bring. `NotFound` where there is no such import, and `Memory`.
+pub(crate) fn stub_chosen<S>(
     alloc: Global,
     module: &mut Module<S>,
     modules: &[Choice<'_>],

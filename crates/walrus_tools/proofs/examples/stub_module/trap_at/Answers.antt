@@ -3,7 +3,7 @@ use Rattle.std.proofs.lemmas.Result.{err_from_is_err_and}
 use Rattle.walrus_items.specs.Imports.{imports}
 use Rattle.walrus_tools.proofs.StubCall.{next_from, passes_from}
 use Rattle.walrus_tools.specs.Stub.{comes_from}
-use Rattle.walrus_tools.proofs.tool.stub.trap_at.Goals as goal
+use Rattle.walrus_tools.proofs.examples.stub_module.trap_at.Goals as goal
 
 pub returns-then-not-is_from : goal.returns-then-not-is_from
 returns-then-not-is_from g c =

@@ -6,7 +6,7 @@ use Rattle.walrus_tools.proofs.EditEnds.{edit_finishes, memory_refused, parsed_w
 use Rattle.walrus_tools.proofs.StubCall.{stubs_held}
 use Rattle.walrus_tools.specs.Edits.{ForMemory}
 use Rattle.walrus_tools.specs.StubAnswers.{StubsHeld}
-use Rattle.walrus_tools.proofs.tool.stub.stub.Goals as goal
+use Rattle.walrus_tools.proofs.examples.stub_module.stub_module.Goals as goal
 
 pub returns-in_err-trap_all : goal.returns-in_err-trap_all
 returns-in_err-trap_all c =

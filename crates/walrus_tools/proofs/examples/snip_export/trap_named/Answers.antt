@@ -1,6 +1,6 @@
 use Rattle.std.proofs.lemmas.Result.{err_from_is_err_and}
 use Rattle.walrus_tools.proofs.SnipCall.{search_refused, snips}
-use Rattle.walrus_tools.proofs.tool.snip.trap_named.Goals as goal
+use Rattle.walrus_tools.proofs.examples.snip_export.trap_named.Goals as goal
 
 pub returns-in_err-id : goal.returns-in_err-id
 returns-in_err-id g c =

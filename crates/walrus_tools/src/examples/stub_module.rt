@@ -5,16 +5,13 @@ ghost use Rattle.std.specs.Prelude.{◌≡◌, ◌+◌};
 ghost use Rattle.walrus_base.specs.Id.{place};
 ghost use Rattle.walrus_items.specs.Imports.{imports};
 ghost use Rattle.walrus_module.specs.Flags.{config_of, defaults};
-ghost use Rattle.walrus_module.specs.Replaced.{ReplacesImport};
 ghost use Rattle.walrus_tools.specs.Stub.{comes_from};
-ghost use Rattle.walrus_tools.specs.StubAnswers.{AnswersStubbed, PutsTrap, StubsAll, StubsOne};
+ghost use Rattle.walrus_tools.specs.StubAnswers.{AnswersStubbed, StubsAll, StubsOne};
 
 use crate::finish::finished;
-use crate::traps::put_trap;
+use crate::trap_import::trap_import;
 use std::alloc::Global;
-use walrus::{
-    FunctionId, ImportId, ImportKind, InstrSeqBuilder, LocalId, Module, ModuleImports, Result,
-};
+use walrus::{ImportId, ImportKind, Module, ModuleImports, Result};
 
 // Whether the import of this id is there, comes from this module and brings a function.
 fn is_from(all: &ModuleImports, at: ImportId, from: &str) -> bool
@@ -27,21 +24,6 @@ fn is_from(all: &ModuleImports, at: ImportId, from: &str) -> bool
         ImportKind::Function(_) => true,
         _ => false,
     }
-}
-
-/// The function that this import brings is local under its id, and traps.
-pub(crate) fn trap_import<S>(
-    alloc: Global,
-    module: &mut Module<S>,
-    at: ImportId,
-) -> Result<FunctionId>
-    ensures { ReplacesImport PutsTrap at «module».old «module».new result }
-{
-    module.replace_import(
-        alloc,
-        at,
-        |body: &mut InstrSeqBuilder, _args: &Vec<LocalId>| -> Result<()> { put_trap(body) },
-    )
 }
 
 // The function that the import at this place brings traps, if it comes from this module.
@@ -73,7 +55,7 @@ fn trap_all<S>(alloc: Global, module: &mut Module<S>, from: &str) -> Result<()>
 ///
 /// `InvalidWasm` only where the bytes are no module that keeps the rules, `TooLarge` only where what is kept has a count or a size past
 /// 32 bits, and `Memory`.
-pub fn stub(alloc: Global, bytes: &[u8], from: &str) -> Result<Vec<u8>>
+pub fn stub_module(alloc: Global, bytes: &[u8], from: &str) -> Result<Vec<u8>>
     ensures { AnswersStubbed (config_of defaults) bytes.now from.now result }
 {
     let mut module = Module::from_buffer(alloc, bytes)?;

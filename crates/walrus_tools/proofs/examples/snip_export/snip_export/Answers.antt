@@ -5,7 +5,7 @@ use Rattle.walrus_module.specs.Settings.{settings}
 use Rattle.walrus_tools.proofs.EditEnds.{edit_finishes, edit_refused, parsed_whole}
 use Rattle.walrus_tools.proofs.SnipCall.{snips_held}
 use Rattle.walrus_tools.specs.SnipAnswers.{RefusesSnip, SnipsHeld}
-use Rattle.walrus_tools.proofs.tool.snip.snip.Goals as goal
+use Rattle.walrus_tools.proofs.examples.snip_export.snip_export.Goals as goal
 
 pub returns-in_err-trap_named : goal.returns-in_err-trap_named
 returns-in_err-trap_named c =

@@ -64,7 +64,7 @@ fn trap_named<S>(alloc: Global, module: &mut Module<S>, name: &str) -> Result<Fu
 /// `InvalidWasm` only where the bytes are no module that keeps the rules, `NotFound` only where no function is exported under the name,
 /// `NotReplaceable` only where that is imported or is exported under another name before, `TooLarge` only where what is kept has a count
 /// or a size past 32 bits, and `Memory`.
-pub fn snip(alloc: Global, bytes: &[u8], name: &str) -> Result<Vec<u8>>
+pub fn snip_export(alloc: Global, bytes: &[u8], name: &str) -> Result<Vec<u8>>
     ensures { AnswersSnipped (config_of defaults) bytes.now name.now result }
 {
     let mut module = Module::from_buffer(alloc, bytes)?;

@@ -4,7 +4,7 @@ use Rattle.walrus_model.specs.Config.{Config}
 use Rattle.walrus_tools.specs.Edits.{IsWhole}
 use Rattle.walrus_tools.specs.Stub.{comes_from}
 use Rattle.walrus_tools.specs.StubAnswers.{StubsSome}
-use Rattle.walrus_tools.proofs.tool.stub.trap_all.Given as goal
+use Rattle.walrus_tools.proofs.examples.stub_module.trap_all.Given as goal
 
 -- at the places so far all is done
 abbrev pub invariant-places : goal.invariant-places

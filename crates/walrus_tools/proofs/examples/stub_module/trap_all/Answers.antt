@@ -4,7 +4,7 @@ use Rattle.walrus_items.specs.Imports.{imports}
 use Rattle.walrus_tools.specs.Stub.{comes_from}
 use Rattle.walrus_tools.proofs.Places.{comes_past}
 use Rattle.walrus_tools.proofs.StubCall.{begins, ends}
-use Rattle.walrus_tools.proofs.tool.stub.trap_all.Goals as goal
+use Rattle.walrus_tools.proofs.examples.stub_module.trap_all.Goals as goal
 
 pub places-init : goal.places-init
 places-init g c = ((λ config whole. begins config (comes_from c.args.from.now (imports c.args.module.now.imports)) _ whole), c.index-at-end.ensures ∙ c.next_id.ensures)

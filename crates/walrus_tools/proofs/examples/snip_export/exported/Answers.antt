@@ -2,7 +2,7 @@ use Rattle.std.proofs.Common.{rules, ◌≡◌, ◌∙◌, false, sym}
 use Rattle.std.proofs.lemmas.Result.{err_from_is_err_and}
 use Rattle.walrus_items.specs.Exports.{exports}
 use Rattle.walrus_tools.proofs.SnipCall.{is_found, named_before, not_found}
-use Rattle.walrus_tools.proofs.tool.snip.exported.Goals as goal
+use Rattle.walrus_tools.proofs.examples.snip_export.exported.Goals as goal
 
 pub returns-in_err-id : goal.returns-in_err-id
 returns-in_err-id c =

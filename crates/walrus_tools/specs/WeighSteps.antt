@@ -1,0 +1,63 @@
+-- What the functions promise that write a module and tell of it: of the parts of the input, and of a module in memory.
+use Rattle.std.specs.Prelude.{ℕ, Bool, List, Option, Result, Ok, Err, MatchResult, is_some, if◌then◌else◌, ◌≡◌, ⊤}
+use Rattle.walrus_base.specs.Arena.{item_at}
+use Rattle.walrus_model.specs.Abstract.{Abstract}
+use Rattle.walrus_model.specs.Live.{IsLive}
+use Rattle.walrus_items.specs.Functions.{FunctionValue}
+use Rattle.walrus_items.specs.declared.custom.CustomSection.{Ghosts}
+use Rattle.walrus_items.specs.declared.error.Error.{Error}
+use Rattle.walrus_items.specs.declared.error.Error.TheVariants.{InvalidWasm, Memory, TooLarge}
+use Rattle.walrus_module.specs.Flags.{config_of}
+use Rattle.walrus_module.specs.Settings.{settings}
+use Rattle.walrus_module.specs.View.{view}
+use Rattle.walrus_module.specs.declared.entry.SectionEntry.{SectionEntry}
+use Rattle.walrus_module.specs.declared.module.Module.{Module}
+use Rattle.walrus_tools.specs.Ends.{LeavesLarge, LeavesWritten, LeftOf}
+use Rattle.walrus_tools.specs.Kinds.{CountsKinds}
+use Rattle.walrus_tools.specs.PartList.{IsNone}
+use Rattle.walrus_tools.specs.Parts.{HasParts, Part}
+use Rattle.walrus_tools.specs.Weigh.{IsWeighed, bytes_of, is_debug, is_dropped, part_size}
+use Rattle.walrus_tools.specs.declared.kinds.Kinds.{Kinds}
+use Rattle.walrus_tools.specs.declared.weigh.Smaller.{Smaller}
+use Rattle.walrus_tools.specs.declared.weigh.Weighed.{Weighed}
+
+-- ---- of the input
+
+-- the bytes of a part if it passes the test, and else none
+abbrev pub size_if : (passes : Part → Bool) → Part → ℕ
+size_if passes p = if passes p then part_size p else 0
+
+-- a function is there
+abbrev pub is_left : List (Option FunctionValue) → ℕ → Bool
+is_left slots i = is_some (item_at slots i)
+
+-- of these bytes so many are bodies of functions that aren't there, and so many debug information
+pub record IsInput (bytes : List ℕ) (slots : List (Option FunctionValue)) (bodies debug : ℕ) : Type 0 where
+  pub parts : List Part
+  pub has : HasParts bytes parts
+  pub bodies_are : bodies ≡ bytes_of (is_dropped (is_left slots)) parts
+  pub debug_is : debug ≡ bytes_of is_debug parts
+
+-- memory ran out, or the bytes are no module
+abbrev pub NoModule : (bytes : List ℕ) → Error → Type 0
+NoModule bytes (Memory e) = ⊤
+NoModule bytes (InvalidWasm kind) = IsNone bytes
+NoModule bytes _ = ⊥
+
+-- so many, or a refusal with its cause
+abbrev pub WeighsInput : (bytes : List ℕ) → List (Option FunctionValue) → Result (ℕ × ℕ) Error → Type 0
+WeighsInput bytes slots result = MatchResult result (λ w. IsInput bytes slots w.0 w.1) (NoModule bytes)
+
+-- ---- of a module in memory
+
+module _ {V : Type 0} {O : V → Type 0} (G : (v : V) → Ghosts (O v)) where
+  -- what is kept of the module was written, and this is told of it, if it was edited from one of so many items
+  pub record IsWeighedIn (bytes output : List ℕ) (before : Kinds) (m : Module (SectionEntry V O)) (told : Weighed) : Type 0 where
+    pub leaves : LeavesWritten (LeftOf (view G m)) (config_of (settings m)) output
+    pub weighed : (parsed : Abstract) → CountsKinds (IsLive parsed) before → IsWeighed bytes output parsed (view G m) told
+
+  -- such, or a refusal with its cause
+  abbrev pub WeighsReady : (bytes : List ℕ) → (before : Kinds) → Module (SectionEntry V O) → Result Smaller Error → Type 0
+  WeighsReady bytes before m (Ok s) = IsWeighedIn bytes s.output.items before m s.told
+  WeighsReady bytes before m (Err TooLarge) = LeavesLarge (LeftOf (view G m)) (config_of (settings m))
+  WeighsReady bytes before m (Err e) = NoModule bytes e
