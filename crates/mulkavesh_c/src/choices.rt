@@ -3,9 +3,8 @@
 ghost use Rattle.std.specs.Prelude.{◌≡◌, Err};
 ghost use Rattle.walrus_tools.specs.Choice.{choices_seen};
 ghost use Rattle.walrus_tools.specs.Wanted.{config_wanted};
-ghost use Rattle.walrus_tools.specs.Weighed.{AnswersReport};
 ghost use Rattle.mulkavesh_c.specs.ChosenRoots.{IsNumbered, MakesChosen};
-ghost use Rattle.mulkavesh_c.specs.Questions.{AnswersCallers, AnswersTo, AnswersWhy};
+ghost use Rattle.mulkavesh_c.specs.Questions.{AnswersCallers, AnswersLines, AnswersTo, AnswersWhy};
 
 use crate::answer::Made;
 use crate::names::choices_of;
@@ -23,7 +22,7 @@ fn reported(
     wanted: Wanted,
     choices: &[Choice<'_>],
 ) -> Result<Vec<u8>, Error>
-    ensures { AnswersReport (config_wanted wanted) input.now (choices_seen choices.now) result }
+    ensures { AnswersLines (config_wanted wanted) input.now (choices_seen choices.now) result }
 {
     let told = report(alloc, input, wanted, choices)?;
     Ok(report_lines(alloc, &told)?.into_bytes())

@@ -25,12 +25,11 @@ ghost use Rattle.walrus_tools.specs.StripAnswers.{AnswersStripped};
 ghost use Rattle.walrus_tools.specs.StubMatching.{AnswersMatching};
 ghost use Rattle.walrus_tools.specs.TrapEdit.{AnswersMeant};
 ghost use Rattle.walrus_tools.specs.Wanted.{config_wanted};
-ghost use Rattle.walrus_tools.specs.Weighed.{AnswersReport};
 ghost use Rattle.mulkavesh_c.specs.Answer.{Gives, NoNumber};
 ghost use Rattle.mulkavesh_c.specs.ChosenRoots.{GivesChosen};
 ghost use Rattle.mulkavesh_c.specs.Flags.{IsKnown, wanted};
 ghost use Rattle.mulkavesh_c.specs.Names.{UnderChoices, UnderLists, UnderTexts};
-ghost use Rattle.mulkavesh_c.specs.Questions.{AnswersCallers, AnswersTo, AnswersWhy};
+ghost use Rattle.mulkavesh_c.specs.Questions.{AnswersCallers, AnswersLines, AnswersTo, AnswersWhy};
 
 use crate::answer::{Made, UNKNOWN_FLAG, put, refused};
 use crate::flags::wanted_by;
@@ -108,7 +107,7 @@ pub extern "C" fn mulkavesh_report(
     output: &mut [u8],
     length: &mut usize,
 ) -> u32
-    ensures { GivesChosen flags input.now choice.now (λ c. AnswersReport c input.now)
+    ensures { GivesChosen flags input.now choice.now (λ c. AnswersLines c input.now)
         output.old output.new length.new result }
 {
     give(
