@@ -7,25 +7,27 @@ It is what tests/c.sh does with the callers that it compiled, but for rooms and 
 REFUSED is refused.c as a shared library, COUNT says how many mutants, and FOLDER.. hold modules: those with a file NAME.expect are rows, whose words
 stand in NAME.args. The calls `gc` and `report` are held against the program: the same bytes, and the status that its own one and what it tells come
 to. So is `diagnose`, which has to say that nothing is wrong exactly where the program accepts, and against the faults that were worked out by hand
-(tests/faults.txt). The other calls are held against what stands in the modules themselves, `sections` and `strip` also of mutants that are none. Prints
-the finds and the counts.
+(tests/faults.txt). The calls under a choice of exports, and `snip` and `stub`: tests/roots.py. The other calls are held against what stands in the modules
+themselves, `sections` and `strip` also of mutants that are none. Prints the finds and the counts.
 """
 import collections
 import concurrent.futures
 import pathlib
 import random
-import re
 import struct
 import subprocess
 import sys
 
 sys.dont_write_bytecode = True
+from answers import (
+    INVALID, NOT_FOUND, NO_NAME, UNKNOWN_FLAG, by_program, call, asked, choice, entries, fits, framed, function_names, imports, imports_in, placed, records, section,
+)
 from hostile import bodies, mutated, number, sections
 from refused import requests_of
+from roots import in_the_chains, no_list, refused_first, snipped, stubbed, under_choices
 
 FAULTS = pathlib.Path(__file__).resolve().parent / "faults.txt"
 SEED = 73
-NO_NAME = 2**32 - 1
 # The kinds of what is wrong with bytes.
 NONE, HEADER, SECTION, RULE, BODY = range(5)
 HEADER_BYTES = b"\0asm\1\0\0\0"
@@ -35,96 +37,13 @@ FRONTS = {
     9: (b"\0asm\x0d\0\1\0",),
 }
 RULES = 10
-INVALID, UNKNOWN_FLAG, NOT_FOUND = 1, 5, 6
 WORDS = {"--no-names": 1, "--no-producers": 2, "--no-legacy": 4}
 UNKNOWN_WORD = 8
-STATUSES = {
-    (0, b""): 0,
-    (1, b"walrus-gc: The input WebAssembly is invalid\n"): 1,
-    (1, b"walrus-gc: a count or size passes 32 bits\n"): 2,
-    (1, b"walrus-gc: out of memory\n"): 3,
-    (2, b"walrus-gc: unknown word\n"): 5,
-}
 OUT_OF_MEMORY = (3, b"")
 # Of larger modules not each request for memory is refused.
 MOST_BYTES_REFUSED = 2_200
 # A longer name can't be handed in a word.
 MOST_BYTES_OF_A_NAME = 1_000
-
-
-def run(command, data):
-    ran = subprocess.run(command, input=data, capture_output=True, timeout=120, check=False)
-    return ran.returncode, ran.stdout, ran.stderr
-
-
-def asked(caller, name, words):
-    """The command for a call with these words, of which bytes are told in hexadecimal."""
-    return [caller, name, *(word.hex() if isinstance(word, bytes) else str(word) for word in words)]
-
-
-def call(caller, name, data, *words):
-    """The status and the bytes that a call answers."""
-    status, output, _ = run(asked(caller, name, words), data)
-    return status, output
-
-
-def by_program(program, words, data):
-    """What the call has to answer, by what the program does."""
-    status, output, told = run([program, *words], data)
-    return STATUSES.get((status, told), f"no status: {status}, {told!r}"), output
-
-
-# ---- what stands in a module, read anew
-
-
-def names_of(content):
-    """The names of a list of imports or exports: (module or None, name, kind, index or None)."""
-    count, at = number(content, 0)
-    for _ in range(count):
-        size, at = number(content, at)
-        name, at = content[at : at + size], at + size
-        kind, (index, at) = content[at], number(content, at + 1)
-        yield name, kind, index
-
-
-def section(module, wanted):
-    return next((content for number_of, content in sections(module) if number_of == wanted), b"\0")
-
-
-def customs(module):
-    """The names of the custom sections and their bytes, in order."""
-    for number_of, content in sections(module):
-        if number_of == 0:
-            size, at = number(content, 0)
-            yield content[at : at + size], content[at + size :]
-
-
-def function_names(module):
-    """The names of functions by their indices, of the name section."""
-    found = {}
-    for name, content in customs(module):
-        at = 0
-        while name == b"name" and at < len(content):
-            kind, (size, at) = content[at], number(content, at + 1)
-            if kind == 1:
-                count, place = number(content, at)
-                for _ in range(count):
-                    index, place = number(content, place)
-                    length, place = number(content, place)
-                    found[index], place = content[place : place + length], place + length
-            at += size
-    return found
-
-
-def entries(listed):
-    """The entries of a list: index, size, and name or None."""
-    at = 0
-    while at < len(listed):
-        index, size, length = (int.from_bytes(listed[at + i : at + i + 4], "little") for i in (0, 4, 8))
-        at += 12
-        name = None if length == NO_NAME else listed[at : at + length]
-        at += 0 if length == NO_NAME else length
-        yield index, size, name
 
 
 # ---- finds
@@ -137,6 +56,7 @@ def beside_the_program(program, callers, data, words):
     wanted = by_program(program, words, data)
     for caller in callers:
         found = call(caller, name, data, flags)
+        found = (found[0], b"".join(found[1].splitlines(True)[:7])) if name == "report" else found
         if found != wanted:
             yield f"{name} {flags}: status {found[0]} and {len(found[1])} bytes, and not {wanted[0]} and {len(wanted[1])}"
 
@@ -195,7 +115,7 @@ def can_be(data, kind, of_it):
         return ends_sections(data, of_it)
     if kind == RULE:
         return sections(data) is not None and 1 <= of_it <= RULES
-    imported = sum(kind_of == 0 for _, kind_of in imports(data)) if kind == BODY else 0
+    imported = sum(kind_of == 0 for *_, kind_of in imports(data)) if kind == BODY else 0
     return (kind, of_it) == (NONE, 0) or kind == BODY and 0 <= of_it - imported < len(bodies(section(data, 10)))
 
 
@@ -227,91 +147,6 @@ def in_the_list(caller, data, flags):
         yield "list: other names"
 
 
-def in_the_chains(caller, data):
-    """Where a chain doesn't end in its function, or one is said to be there for what isn't listed, or the other way round."""
-    kept = {index for index, _, _ in entries(call(caller, "list", data, 0)[1])}
-    imported = sum(kind == 0 for _, kind in imports(data))
-    for index in range(imported + len(bodies(section(data, 10))) + 1):
-        status, told = call(caller, "why", data, index)
-        lines = told.decode().splitlines()
-        if index == imported + len(bodies(section(data, 10))):
-            if status != NOT_FOUND:
-                yield f"why {index}: status {status} behind the last function"
-        elif status or not lines or (lines[-1] == f"function {index}") == (lines == [f"function {index} isn't reached"]):
-            yield f"why {index}: status {status}, {lines}"
-        elif index >= imported and (lines[-1] == f"function {index}") != (index in kept):
-            yield f"why {index}: {lines}, and it is {'' if index in kept else 'not '}listed"
-
-
-def imports(module):
-    """The module and the kind of each import of the first section of imports."""
-    return imports_in(section(module, 2))
-
-
-def imports_in(content):
-    """The module and the kind of each import, of those whose kinds are functions, tables of one type, memories, globals and tags."""
-    count, at = number(content, 0)
-    for _ in range(count):
-        size, at = number(content, at)
-        name, at = content[at : at + size], at + size
-        size, at = number(content, at)
-        kind, at = content[at + size], at + size + 1
-        if kind in (0, 4):
-            _, at = number(content, at + (kind == 4))
-        elif kind == 3:
-            at += 2
-        else:
-            at += kind == 1
-            limits, at = content[at], at + 1
-            for _ in range(1 + (limits & 1)):
-                _, at = number(content, at)
-        yield name, kind
-
-
-def u32(data, at):
-    """The number of 32 bits that stands at a place, and the place behind it."""
-    value, behind = number(data, at)
-    if behind - at > 5 or value >= 2**32:
-        raise IndexError
-    return value, behind
-
-
-def framed(data):
-    """The id, name, count of entries, place and size of each section, and where they end; or None where the bytes don't begin as a module."""
-    if not data.startswith(b"\0asm\1\0\0\0"):
-        return None
-    found, at = [], 8
-    try:
-        while at < len(data):
-            size, begin = u32(data, at + 1)
-            content = data[begin : begin + size]
-            name = named(content) if data[at] == 0 else None
-            if len(content) < size:
-                break
-            found.append((data[at], name, counted(data[at], content), at, begin + size - at))
-            at = begin + size
-    except (IndexError, UnicodeDecodeError):
-        pass
-    return found, at
-
-
-def named(content):
-    """The name in front of a custom section's content."""
-    size, at = u32(content, 0)
-    if at + size > len(content):
-        raise IndexError
-    content[at : at + size].decode()
-    return content[at : at + size]
-
-
-def counted(kind, content):
-    """The count in front of the content of a list, where one stands there."""
-    try:
-        return u32(content, 0)[0] if 0 < kind < 14 and kind not in (8, 12) else None
-    except IndexError:
-        return None
-
-
 def in_the_parts(caller, data):
     """Where other sections are told than by `sections`, other functions than stand in sections of code, or data segments that don't fill theirs."""
     status, told = call(caller, "parts", data)
@@ -319,7 +154,7 @@ def in_the_parts(caller, data):
         if status != INVALID:
             yield f"parts: status {status}"
         return
-    imported = sum(kind == 0 for code, content, _ in placed(data) if code == 2 for _, kind in imports_in(content))
+    imported = sum(kind == 0 for code, content, _ in placed(data) if code == 2 for *_, kind in imports_in(content))
     known = call(caller, "sections", data)[1]
     wanted, found, after = [], known[:5], {138: imported, 139: 0}
     for number_of, content, place in placed(data):
@@ -347,15 +182,6 @@ def in_the_parts(caller, data):
         yield f"parts: {items}, and not {wanted}"
 
 
-def placed(data):
-    """The number, the content and the place of the content of each section."""
-    at = 8
-    while at < len(data):
-        size, begin = number(data, at + 1)
-        yield data[at], data[begin : begin + size], begin
-        at = begin + size
-
-
 def in_the_sections(caller, data):
     """Where other sections are told than stand there, or another status."""
     status, told = call(caller, "sections", data)
@@ -374,17 +200,6 @@ def in_the_sections(caller, data):
             yield f"sections: {is_counted} says whether {count} is a count"
     if (found, end, whole) != (*wanted, wanted[1] == len(data)):
         yield f"sections: {found}, {end}, {whole}, and not {wanted}"
-
-
-def choice(goes, stays=()):
-    """The list of records by which `strip` is told what goes and what stays after all."""
-    return b"".join(struct.pack("<BI", kind, len(name)) + name for kind, names in enumerate((goes, stays)) for name in names)
-
-
-def fits(pattern, name):
-    """Whether the name of a section fits one that may have stars."""
-    parts = re.findall(rb"\\\*|.", pattern, re.S)
-    return re.fullmatch(b"".join(b".*" if it == b"*" else re.escape(it[-1:]) for it in parts), name, re.S) is not None
 
 
 def without(data, goes, stays):
@@ -415,35 +230,6 @@ def stripped(callers, data, which=None):
         status, output = call(callers[number_of % len(callers)], "strip", data, 0, choice(goes, stays))
         if (status, output) != without(data, goes, stays):
             yield f"strip {goes} but {stays}: status {status} and {len(output)} bytes"
-
-
-def no_choice(callers, data):
-    """Where a choice that is no list of records is taken for one."""
-    whole = choice([b"*"], [b"name"])
-    for bad in [*(whole[:size] for size in range(1, len(whole)) if size != 6), b"\2" + whole[1:], choice([b"*"]) + b"\0", b"\xFF" * 5]:
-        for caller in callers:
-            if call(caller, "strip", data, 0, bad) != (UNKNOWN_FLAG, b""):
-                yield f"strip: the choice {bad.hex(' ')} is taken"
-
-
-def snipped_and_stubbed(program, caller, data):
-    """Where what is written isn't settled, or the export or an import isn't as it has to be."""
-    taken = 0
-    for name, kind, _ in names_of(section(data, 7)):
-        status, output = call(caller, "snip", data, 0, name)
-        taken += status == 0
-        if status not in (0, NOT_FOUND) or (status == 0) > (kind == 0):
-            yield f"snip {name}: status {status}"
-        if status == 0 and (by_program(program, [], output) != (0, output) or [one[:2] for one in names_of(section(output, 7))] != [one[:2] for one in names_of(section(data, 7))]):
-            yield f"snip {name}: not settled, or other exports"
-    if call(caller, "snip", data, 0, b"nothing has this name") != (NOT_FOUND, b""):
-        yield "snip: an export that isn't there"
-    for name in dict.fromkeys(name for name, _ in imports(data)):
-        status, output = call(caller, "stub", data, 0, name)
-        if status or by_program(program, [], output) != (0, output) or (name, 0) in imports(output):
-            yield f"stub {name}: status {status}, or not settled, or still imported"
-    if call(caller, "stub", data, 0, b"nothing has this name") != call(caller, "gc", data, 0):
-        yield "stub: an import that isn't there"
 
 
 def refused_in_turn(caller, refused, data, least, name, *words):
@@ -513,12 +299,16 @@ def main():
     taken = [path for path in modules if call(static, "gc", data[path])[0] == 0]
     small = [path for path in taken if len(data[path]) < 100_000]
     tries.all("lists", ((path.name, in_the_list, static, data[path], flags) for path in taken for flags in (0, 3)))
-    others = (lambda it: (it.name, in_the_chains, static, data[it]), lambda it: (it.name, snipped_and_stubbed, program, static, data[it]))
-    tries.all("chains, exports and imports", (one(path) for path in small if len(data[path]) < 12_000 for one in others))
+    tries.all("choices of exports", ((path.name, under_choices, program, callers, data[path]) for path in small))
+    least = [path for path in small if len(data[path]) < 12_000]
+    both = [(path.name, in_the_chains, callers[which], data[path], pairs) for path in least for which, pairs in enumerate(([], [(0, b"*")]))]
+    tries.all("chains", both)
+    tries.all("functions and imports that are replaced", ((path.name, one, program, static, data[path]) for path in least for one in (snipped, stubbed)))
     tries.all("sections", ((path.name, in_the_sections, caller, data[path]) for path in [*modules, *rows] for caller in callers))
     tries.all("parts", ((path.name, in_the_parts, caller, data[path]) for path in [*modules, *rows] for caller in callers))
     tries.all("sections that go", ((path.name, stripped, callers, data[path]) for path in [*modules, *rows]))
-    tries.all("choices that are none", ((path.name, no_choice, callers, data[path]) for path in small[:3]))
+    tries.all("lists that are none", ((path.name, no_list, callers, data[path]) for path in small[:3]))
+    tries.all("refusals", ((why, refused_first, static, given, flags) for why, flags, wanted, given in faults() if wanted != (0, 0)))
     bases = [data[path] for path in small]
     mutants = [mutated(random.Random(f"{SEED}:{i}"), bases) for i in range(int(count))]
     tries.all("mutants", ((f"mutant {i}", beside_the_program, program, [callers[i % 2]], mutant, ways[i % 16]) for i, mutant in enumerate(mutants)))
@@ -526,7 +316,8 @@ def main():
     tries.all("sections of mutants", ((f"mutant {i}", in_the_sections, callers[i % 2], mutant) for i, mutant in enumerate(mutants)))
     tries.all("parts of mutants", ((f"mutant {i}", in_the_parts, callers[i % 2], mutant) for i, mutant in enumerate(mutants)))
     tries.all("sections of mutants that go", ((f"mutant {i}", stripped, callers, mutant, i) for i, mutant in enumerate(mutants)))
-    calls = [(10, *it) for it in (("gc", 0), ("report", 0), ("list", 0), ("why", 0), ("snip", 0, b"fill"), ("stub", 0, b"env"))]
+    calls = [(10, *it) for it in (("gc", 0), ("report", 0), ("list", 0), ("dropped", 0), ("why", 0, b"", b"0"), ("callers", 0, b"", b"0"), ("snip", 0, choice([b"*"])))]
+    calls += [(10, "stub", 0, choice([b"*"])), (10, "gc", 0, records([(1, b"*"), (0, b"none")])), (5, "exports", 0), (5, "imports", 0)]
     calls += [(1, "diagnose", 0), (2, "sections"), (2, "parts"), (3, "strip", 0, choice([b"*"], [b"name"]))]
     tiny = [path for path in small if len(data[path]) < MOST_BYTES_REFUSED]
     inputs = [(path.name, data[path], *one) for path in tiny for one in calls]

@@ -1,6 +1,6 @@
-// call CALL [NUMBER [BYTES]] < IN > OUT: one call over standard input, whose answer goes to standard output and whose status is its own. BYTES are a name, or a
-// choice of sections, in hexadecimal. It asks for no memory itself, so that each request which is refused is one of the library's. Status 90 to 93: what a call
-// leaves isn't what the header says.
+// call CALL [FLAGS [BYTES [MORE]]] < IN > OUT: one call over standard input, whose answer goes to standard output and whose status is its own. BYTES, a list of
+// NAMEs, and MORE, another one or a text, are in hexadecimal. A number that is told where something isn't found goes to standard output, in decimal. It asks for no
+// memory itself, so that each request which is refused is one of the library's. Status 90 to 93: what a call leaves isn't what the header says.
 #include <unistd.h>
 
 #include "calls.h"
@@ -9,21 +9,22 @@
 #define UNTOUCHED 0xA5
 #define BEHIND 64
 
-static uint8_t input[MOST], output[MOST], given[1 << 16];
+static uint8_t input[MOST], output[MOST], given[2][1 << 16];
 
-// The bytes that the digits say, and how many they are.
-static size_t bytes_of(const char *digits) {
+// Puts the bytes that the digits say into one of the two places, and tells how many they are.
+static size_t bytes_of(const char *digits, int which) {
   size_t count = 0;
-  for (; digits[0] && digits[1] && count < sizeof given; digits += 2) {
+  for (; digits[0] && digits[1] && count < sizeof *given; digits += 2) {
     const char byte[] = {digits[0], digits[1], 0};
-    given[count++] = (uint8_t)strtoul(byte, NULL, 16);
+    given[which][count++] = (uint8_t)strtoul(byte, NULL, 16);
   }
   return count;
 }
 
-// What the words CALL, NUMBER and BYTES ask for; the last two may be left out.
+// What the words CALL, FLAGS, BYTES and MORE ask for; the last three may be left out.
 static struct asked asked_by(int count, char **words) {
-  struct asked asked = {words[0], count > 1 ? (uint32_t)strtoul(words[1], NULL, 10) : 0, given, bytes_of(count > 2 ? words[2] : "")};
+  uint32_t flags = count > 1 ? (uint32_t)strtoul(words[1], NULL, 10) : 0;
+  struct asked asked = {words[0], flags, given[0], bytes_of(count > 2 ? words[2] : "", 0), given[1], bytes_of(count > 3 ? words[3] : "", 1)};
   return asked;
 }
 
@@ -40,6 +41,14 @@ static int write_all(size_t size) {
     done += (size_t)put;
   }
   return 1;
+}
+
+// Puts a number in decimal in front of the output, and tells how many digits it has.
+static size_t digits_of(size_t number) {
+  size_t count = 1, place = 1;
+  for (size_t left = number; left > 9; left /= 10) count++;
+  for (; place <= count; place++, number /= 10) output[count - place] = (uint8_t)('0' + number % 10);
+  return count;
 }
 
 static int is_untouched(size_t from, size_t to) {
@@ -61,7 +70,10 @@ int main(int count, char **words) {
     if (status == MULKAVESH_NO_ROOM) return 91;
   }
   if (status == NO_SUCH_CALL) return (int)status;
-  if (status != MULKAVESH_DONE) return length == 0 && is_untouched(0, room + BEHIND) ? (int)status : 92;
+  if (status != MULKAVESH_DONE) {
+    if (!is_untouched(0, room + BEHIND) || (length && status != MULKAVESH_NOT_FOUND)) return 92;
+    return !length || write_all(digits_of(length)) ? (int)status : 94;
+  }
   if (length > room || !is_untouched(length, room + BEHIND)) return 93;
   return write_all(length) ? 0 : 94;
 }

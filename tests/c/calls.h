@@ -1,4 +1,4 @@
-// One form for all calls: by its name, with a number (flags, or an index) and bytes (a name, or a choice of sections), where it takes them.
+// One form for all calls: by its name, with flags, and bytes of two kinds where it takes them: first a list of NAMEs, and then another one or a text.
 #ifndef CALLS_H
 #define CALLS_H
 
@@ -9,26 +9,44 @@
 
 struct asked {
   const char *call;
-  uint32_t number;
+  uint32_t flags;
   const uint8_t *bytes;
   size_t count;
+  const uint8_t *more;
+  size_t more_count;
 };
 
 // What no call answers: there is no such call.
 #define NO_SUCH_CALL 100u
 
-static uint32_t answer(const struct asked *it, const uint8_t *input, size_t size, uint8_t *output, size_t room, size_t *length) {
-  if (!strcmp(it->call, "gc")) return mulkavesh_gc(input, size, it->number, output, room, length);
-  if (!strcmp(it->call, "report")) return mulkavesh_report(input, size, it->number, output, room, length);
-  if (!strcmp(it->call, "diagnose")) return mulkavesh_diagnose(input, size, it->number, output, room, length);
-  if (!strcmp(it->call, "list")) return mulkavesh_list(input, size, it->number, output, room, length);
-  if (!strcmp(it->call, "why")) return mulkavesh_why(input, size, it->number, output, room, length);
+// The calls that take a module and flags alone.
+static uint32_t of_flags(const struct asked *it, const uint8_t *input, size_t size, uint8_t *output, size_t room, size_t *length) {
+  if (!strcmp(it->call, "diagnose")) return mulkavesh_diagnose(input, size, it->flags, output, room, length);
   if (!strcmp(it->call, "sections")) return mulkavesh_sections(input, size, output, room, length);
   if (!strcmp(it->call, "parts")) return mulkavesh_parts(input, size, output, room, length);
-  if (!strcmp(it->call, "strip")) return mulkavesh_strip(input, size, it->bytes, it->count, output, room, length);
-  if (!strcmp(it->call, "snip")) return mulkavesh_snip(input, size, it->bytes, it->count, output, room, length);
-  if (!strcmp(it->call, "stub")) return mulkavesh_stub(input, size, it->bytes, it->count, output, room, length);
   return NO_SUCH_CALL;
+}
+
+// Those that take a choice of exports, and some a text.
+static uint32_t of_choice(const struct asked *it, const uint8_t *input, size_t size, uint8_t *output, size_t room, size_t *length) {
+  static const struct {
+    const char *call;
+    uint32_t (*is)(const uint8_t *, size_t, uint32_t, const uint8_t *, size_t, uint8_t *, size_t, size_t *);
+  } calls[] = {{"gc", mulkavesh_gc}, {"report", mulkavesh_report}, {"list", mulkavesh_list}, {"dropped", mulkavesh_dropped}, {"exports", mulkavesh_exports}, {"imports", mulkavesh_imports}};
+  for (size_t i = 0; i < sizeof calls / sizeof *calls; i++)
+    if (!strcmp(it->call, calls[i].call)) return calls[i].is(input, size, it->flags, it->bytes, it->count, output, room, length);
+  if (!strcmp(it->call, "why")) return mulkavesh_why(input, size, it->flags, it->bytes, it->count, it->more, it->more_count, output, room, length);
+  if (!strcmp(it->call, "callers")) return mulkavesh_callers(input, size, it->flags, it->bytes, it->count, it->more, it->more_count, output, room, length);
+  return NO_SUCH_CALL;
+}
+
+static uint32_t answer(const struct asked *it, const uint8_t *input, size_t size, uint8_t *output, size_t room, size_t *length) {
+  uint32_t status = of_flags(it, input, size, output, room, length);
+  if (status != NO_SUCH_CALL) return status;
+  if (!strcmp(it->call, "strip")) return mulkavesh_strip(input, size, it->bytes, it->count, output, room, length);
+  if (!strcmp(it->call, "snip")) return mulkavesh_snip(input, size, it->flags, it->bytes, it->count, output, room, length);
+  if (!strcmp(it->call, "stub")) return mulkavesh_stub(input, size, it->flags, it->bytes, it->count, it->more, it->more_count, output, room, length);
+  return of_choice(it, input, size, output, room, length);
 }
 
 #endif

@@ -9,6 +9,7 @@
 
 #define UNTOUCHED 0xA5
 #define BYTES(text) (const uint8_t *)text, sizeof text - 1
+#define NONE NULL, 0
 
 static long finds, calls;
 
@@ -51,7 +52,7 @@ static uint8_t *read_file(const char *path, size_t *size) {
 }
 
 static void find(const char *path, const struct asked *asked, size_t room, const char *why) {
-  printf("FIND %s: %s %u, with %zu bytes, room %zu: %s\n", path, asked->call, asked->number, asked->count, room, why);
+  printf("FIND %s: %s %u, with %zu and %zu bytes, room %zu: %s\n", path, asked->call, asked->flags, asked->count, asked->more_count, room, why);
   finds++;
 }
 
@@ -61,7 +62,7 @@ static int are_untouched(const uint8_t *bytes, size_t count) {
   return 1;
 }
 
-// One call in a room, which has to answer so.
+// One call in a room, which has to answer so. The length is that of the answer, or the number that is told where something isn't found.
 static void in_room(const char *path, const struct asked *asked, const uint8_t *input, size_t size, size_t room, uint32_t wanted, const uint8_t *output, size_t length) {
   uint8_t *here = take(room);
   size_t told = 12345;
@@ -70,7 +71,7 @@ static void in_room(const char *path, const struct asked *asked, const uint8_t *
   if (wanted == MULKAVESH_DONE && room < length) wanted = MULKAVESH_NO_ROOM;
   size_t written = wanted == MULKAVESH_DONE ? length : 0;
   if (status != wanted) find(path, asked, room, "another status");
-  else if (told != (wanted == MULKAVESH_DONE || wanted == MULKAVESH_NO_ROOM ? length : 0)) find(path, asked, room, "another length");
+  else if (told != length) find(path, asked, room, "another length");
   else if (written && memcmp(here, output, written)) find(path, asked, room, "other bytes");
   else if (!are_untouched(here + written, room - written)) find(path, asked, room, "the rest of the room is written");
   drop(here, room);
@@ -84,29 +85,45 @@ static void in_rooms(const char *path, const struct asked *asked, const uint8_t 
   uint8_t *output = take(ample);
   uint32_t status = answer(asked, input, size, output, ample, &length);
   if (status == MULKAVESH_NO_ROOM) find(path, asked, ample, "ample room is none");
-  for (size_t room = 0; room <= length + 1; room++) in_room(path, asked, input, size, room, status, output, length);
+  size_t last = status == MULKAVESH_DONE ? length + 1 : 1;
+  for (size_t room = 0; room <= last; room++) in_room(path, asked, input, size, room, status, output, length);
   drop(output, ample);
 }
 
+// A copy that ends where no memory is.
+static const uint8_t *copy(const uint8_t *bytes, size_t count) {
+  uint8_t *here = take(count);
+  return count ? memcpy(here, bytes, count) : here;
+}
+
+static const struct asked all[] = {
+    {"gc", 0, NONE, NONE}, {"gc", 7, NONE, NONE}, {"gc", 8, NONE, NONE}, {"gc", UINT32_MAX, NONE, NONE}, {"gc", 0, BYTES("\1\1\0\0\0*\0\2\0\0\0m*"), NONE},
+    {"gc", 0, BYTES("\1\1\0\0\0*\1\4\0\0\0none"), NONE}, {"gc", 0, BYTES("\1"), NONE}, {"gc", 0, BYTES("\1\xFF\xFF\xFF\xFF"), NONE},
+    {"report", 0, NONE, NONE}, {"report", 8, NONE, NONE}, {"report", 3, BYTES("\0\1\0\0\0*"), NONE},
+    {"diagnose", 0, NONE, NONE}, {"diagnose", 4, NONE, NONE}, {"diagnose", 8, NONE, NONE},
+    {"list", 0, NONE, NONE}, {"list", 8, NONE, NONE}, {"list", 0, BYTES("\0\1\0\0\0*"), NONE}, {"dropped", 0, NONE, NONE}, {"dropped", 0, BYTES("\0\1\0\0\0*"), NONE},
+    {"exports", 0, NONE, NONE}, {"exports", 0, BYTES("\1\2\0\0\0*e"), NONE}, {"imports", 0, NONE, NONE}, {"imports", 0, BYTES("\0\1\0\0\0*"), NONE},
+    {"why", 0, NONE, BYTES("0")}, {"why", 0, NONE, BYTES("5")}, {"why", 8, NONE, BYTES("0")}, {"why", 0, NONE, BYTES("4294967296")}, {"why", 0, NONE, NONE},
+    {"why", 0, NONE, BYTES("memory")}, {"why", 0, NONE, BYTES("\xFF")}, {"why", 0, BYTES("\0\1\0\0\0*"), BYTES("1")}, {"why", 0, BYTES("\1\4\0\0\0none"), BYTES("1")},
+    {"callers", 0, NONE, BYTES("0")}, {"callers", 0, NONE, BYTES("1")}, {"callers", 0, BYTES("\2"), BYTES("1")}, {"callers", 0, NONE, BYTES("\xFF")},
+    {"sections", 0, NONE, NONE}, {"parts", 0, NONE, NONE},
+    {"strip", 0, NONE, NONE}, {"strip", 0, BYTES("\0\x0F\0\0\0target_features"), NONE}, {"strip", 0, BYTES("\0\1\0\0\0*"), NONE},
+    {"strip", 0, BYTES("\0\2\0\0\0*s\1\4\0\0\0name"), NONE}, {"strip", 0, BYTES("\1\1\0\0\0*"), NONE}, {"strip", 0, BYTES("\0\0\0\0\0"), NONE},
+    {"strip", 0, BYTES("\0\2\0\0\0*"), NONE}, {"strip", 0, BYTES("\2\0\0\0\0"), NONE}, {"strip", 0, BYTES("\0"), NONE}, {"strip", 0, BYTES("\0\xFF\xFF\xFF\xFF"), NONE},
+    {"snip", 0, NONE, NONE}, {"snip", 0, BYTES("\0\1\0\0\0f"), NONE}, {"snip", 3, BYTES("\0\1\0\0\0*"), NONE}, {"snip", 0, BYTES("\0\1\0\0\0\xFF"), NONE},
+    {"snip", 0, BYTES("\1\1\0\0\0f"), NONE}, {"snip", 8, BYTES("\0\1\0\0\0f"), NONE}, {"snip", 0, BYTES("\0\1\0\0\0001\0\1\0\0\0002"), NONE},
+    {"stub", 0, BYTES("\0\3\0\0\0env"), NONE}, {"stub", 0, NONE, NONE}, {"stub", 0, BYTES("\0\1\0\0\0*"), BYTES("\0\1\0\0\0*\1\2\0\0\0f*")},
+    {"stub", 0, BYTES("\0\1\0\0\0\xFF"), NONE}, {"stub", 0, BYTES("\0\1\0\0\0*"), BYTES("\0")}, {"stub", 8, BYTES("\0\1\0\0\0*"), NONE}};
+
 int main(int count, char **paths) {
-  static const struct asked all[] = {
-      {"gc", 0, NULL, 0}, {"gc", 7, NULL, 0}, {"gc", 8, NULL, 0}, {"gc", UINT32_MAX, NULL, 0}, {"report", 0, NULL, 0}, {"report", 8, NULL, 0},
-      {"diagnose", 0, NULL, 0}, {"diagnose", 4, NULL, 0}, {"diagnose", 8, NULL, 0}, {"list", 0, NULL, 0}, {"list", 8, NULL, 0}, {"why", 0, NULL, 0}, {"why", 5, NULL, 0}, {"why", UINT32_MAX, NULL, 0},
-      {"sections", 0, NULL, 0}, {"parts", 0, NULL, 0}, {"strip", 0, NULL, 0}, {"strip", 0, BYTES("\0\x0F\0\0\0target_features")}, {"strip", 0, BYTES("\0\1\0\0\0*")},
-      {"strip", 0, BYTES("\0\2\0\0\0*s\1\4\0\0\0name")}, {"strip", 0, BYTES("\1\1\0\0\0*")}, {"strip", 0, BYTES("\0\0\0\0\0")},
-      {"strip", 0, BYTES("\0\2\0\0\0*")}, {"strip", 0, BYTES("\2\0\0\0\0")}, {"strip", 0, BYTES("\0")}, {"strip", 0, BYTES("\0\xFF\xFF\xFF\xFF")},
-      {"snip", 0, BYTES("f")}, {"snip", 0, BYTES("\xFF")}, {"stub", 0, BYTES("env")}, {"stub", 0, NULL, 0}, {"stub", 0, BYTES("\xFF")}};
   for (int i = 1; i < count; i++) {
     size_t size;
     uint8_t *input = read_file(paths[i], &size);
     for (size_t which = 0; which < sizeof all / sizeof *all; which++) {
-      // the bytes end where no memory is, too
       struct asked asked = all[which];
-      uint8_t *bytes = take(asked.count);
-      if (asked.count) memcpy(bytes, asked.bytes, asked.count);
-      asked.bytes = bytes;
+      asked.bytes = copy(asked.bytes, asked.count), asked.more = copy(asked.more, asked.more_count);
       in_rooms(paths[i], &asked, input, size);
-      drop(bytes, asked.count);
+      drop((uint8_t *)asked.bytes, asked.count), drop((uint8_t *)asked.more, asked.more_count);
     }
     drop(input, size);
   }

@@ -18,7 +18,7 @@ struct module {
 
 static struct module modules[64];
 static int count;
-static const struct asked asked = {"gc", 0, NULL, 0};
+static const struct asked asked = {"gc", 0, NULL, 0, NULL, 0};
 
 static uint8_t *some(size_t size) {
   uint8_t *bytes = malloc(size + 1);

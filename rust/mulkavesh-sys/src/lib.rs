@@ -8,14 +8,29 @@
 //! - [`MULKAVESH_DONE`]: the answer stands in the first `*length` bytes of `output`, and the bytes
 //!   behind it are as they were;
 //! - [`MULKAVESH_NO_ROOM`]: `output` is as it was, and `*length` is how much room the answer wants;
+//! - [`MULKAVESH_NOT_FOUND`]: `output` is as it was, and of a call with a choice of exports `*length`
+//!   is a number (see below); of others it is 0;
 //! - any other: `output` is as it was, and `*length` is 0.
+//!
+//! A list of NAMEs is a list of records, one behind the other: a byte, the length of a NAME as a
+//! number of 32 bits, little-endian, and the NAME. In a NAME `*` stands for any bytes, also for none,
+//! and `\*` for a star. What the byte, 0 or 1, says, the calls tell. Bytes that are no such list are
+//! refused with [`MULKAVESH_UNKNOWN_FLAG`].
+//!
+//! A choice of exports is such a list. The byte is 1 where exports that the NAME fits are kept, and 0
+//! where they go. Where a byte is 1, those go that no such NAME fits; then those go that a NAME behind
+//! 0 fits. So no bytes keep all. The start function and segments that aren't passive keep what they
+//! reach all the same. Where a NAME fits no export of the input, the status is
+//! [`MULKAVESH_NOT_FOUND`], and `*length` the number of the first such NAME, from 0 on; where each
+//! fits one and a function isn't found, it is the count of the NAMEs.
 //!
 //! # Safety
 //!
 //! What the caller of each call but [`mulkavesh_version`] owes:
 //!
-//! - `input`, `name`, `choice`, `from` and `output` have as many bytes as is told, `output` may be
-//!   written (its bytes need no value before), and nothing else writes them during the call;
+//! - `input`, `choice`, `function`, `module`, `name` and `output` have as many bytes as is told,
+//!   `output` may be written (its bytes need no value before), and nothing else writes them during
+//!   the call;
 //! - none of them is null, not even where the length is 0, and `length` isn't null and is aligned;
 //! - `output` and `*length` stand apart from each other and from all that is read;
 //! - `malloc`, `realloc` and `free` are of one allocator, and align as the C standard says;
@@ -39,10 +54,10 @@ pub const MULKAVESH_NO_MEMORY: u32 = 3;
 /// The room is smaller than the answer, whose length is told.
 pub const MULKAVESH_NO_ROOM: u32 = 4;
 
-/// A flag isn't known, or the choice of [`mulkavesh_strip`] is no list of records.
+/// A flag isn't known, or what has to be a list of NAMEs is none.
 pub const MULKAVESH_UNKNOWN_FLAG: u32 = 5;
 
-/// There is nothing of this name or index that the call could work on.
+/// There is nothing of this name or index that the call could work on, or a NAME fits nothing.
 pub const MULKAVESH_NOT_FOUND: u32 = 6;
 
 /// A flag: no names are written.
@@ -54,8 +69,64 @@ pub const MULKAVESH_NO_PRODUCERS: u32 = 2;
 /// A flag: bodies with legacy exceptions are refused.
 pub const MULKAVESH_NO_LEGACY: u32 = 4;
 
-/// What stands in a list for the length of a name that isn't there.
+/// What stands in a list for the length of a name, or for a size, that isn't there.
 pub const MULKAVESH_NO_NAME: u32 = u32::MAX;
+
+/// The kind of a type, in front of its index in what [`mulkavesh_why`] and [`mulkavesh_callers`] tell.
+pub const MULKAVESH_KIND_TYPE: u8 = 0;
+
+/// The kind of a function, there.
+pub const MULKAVESH_KIND_FUNCTION: u8 = 1;
+
+/// The kind of a table, there.
+pub const MULKAVESH_KIND_TABLE: u8 = 2;
+
+/// The kind of a memory, there.
+pub const MULKAVESH_KIND_MEMORY: u8 = 3;
+
+/// The kind of a tag, there.
+pub const MULKAVESH_KIND_TAG: u8 = 4;
+
+/// The kind of a global, there.
+pub const MULKAVESH_KIND_GLOBAL: u8 = 5;
+
+/// The kind of an element segment, there.
+pub const MULKAVESH_KIND_ELEMENT: u8 = 6;
+
+/// The kind of a data segment, there.
+pub const MULKAVESH_KIND_DATA: u8 = 7;
+
+/// The kind of a function, in front of its index in what [`mulkavesh_exports`] and
+/// [`mulkavesh_imports`] tell.
+pub const MULKAVESH_EXTERN_FUNCTION: u8 = 0;
+
+/// The kind of a table, there.
+pub const MULKAVESH_EXTERN_TABLE: u8 = 1;
+
+/// The kind of a memory, there.
+pub const MULKAVESH_EXTERN_MEMORY: u8 = 2;
+
+/// The kind of a global, there.
+pub const MULKAVESH_EXTERN_GLOBAL: u8 = 3;
+
+/// The kind of a tag, there.
+pub const MULKAVESH_EXTERN_TAG: u8 = 4;
+
+/// There is no chain, since the item isn't reached: what makes the first item of one stay, as
+/// [`mulkavesh_why`] tells it.
+pub const MULKAVESH_ROOT_NONE: u8 = 0;
+
+/// The first item of the chain is exported.
+pub const MULKAVESH_ROOT_EXPORTED: u8 = 1;
+
+/// It is the start function.
+pub const MULKAVESH_ROOT_START: u8 = 2;
+
+/// It is an active segment.
+pub const MULKAVESH_ROOT_ACTIVE: u8 = 3;
+
+/// It is a declared segment.
+pub const MULKAVESH_ROOT_DECLARED: u8 = 4;
 
 /// A function with a body: what [`mulkavesh_parts`] tells in place of the number of a section.
 pub const MULKAVESH_FUNCTION: u8 = 138;
@@ -149,22 +220,30 @@ extern "C" {
     /// patch.
     pub fn mulkavesh_version() -> u32;
 
-    /// The module without what nothing reaches.
+    /// The module of which the chosen exports are left, without what nothing reaches then.
     pub fn mulkavesh_gc(
         input: *const u8,
         input_length: usize,
         flags: u32,
+        choice: *const u8,
+        choice_length: usize,
         output: *mut u8,
         room: usize,
         length: *mut usize,
     ) -> u32;
 
-    /// How many items of each kind [`mulkavesh_gc`] keeps and drops, in seven lines. Of the flags
-    /// [`MULKAVESH_NO_LEGACY`] alone has a say.
+    /// What [`mulkavesh_gc`] keeps and drops, as lines of text: seven of items, as
+    /// `functions kept 19 dropped 1`, and of bytes `bytes read 2073 written 1991`,
+    /// `bytes of dropped functions 60`, which their bodies have in the input,
+    /// `bytes of debug information 0`, which `.debug` sections have there, and
+    /// `bytes of the rest 22 less`, or `more`. Where the output is longer than the input a line more
+    /// says why it may be.
     pub fn mulkavesh_report(
         input: *const u8,
         input_length: usize,
         flags: u32,
+        choice: *const u8,
+        choice_length: usize,
         output: *mut u8,
         room: usize,
         length: *mut usize,
@@ -191,6 +270,50 @@ extern "C" {
         input: *const u8,
         input_length: usize,
         flags: u32,
+        choice: *const u8,
+        choice_length: usize,
+        output: *mut u8,
+        room: usize,
+        length: *mut usize,
+    ) -> u32;
+
+    /// The functions with a body that [`mulkavesh_gc`] drops, as [`mulkavesh_list`] tells those that it
+    /// keeps, but with the bytes of the body in the input.
+    pub fn mulkavesh_dropped(
+        input: *const u8,
+        input_length: usize,
+        flags: u32,
+        choice: *const u8,
+        choice_length: usize,
+        output: *mut u8,
+        room: usize,
+        length: *mut usize,
+    ) -> u32;
+
+    /// The exports that stay, in the order of the input. For each a byte, a `MULKAVESH_EXTERN_..`; the
+    /// index of what is exported, in the input; the length of the name; and the name. Numbers are of
+    /// 32 bits, little-endian. Of the flags [`MULKAVESH_NO_LEGACY`] alone has a say.
+    pub fn mulkavesh_exports(
+        input: *const u8,
+        input_length: usize,
+        flags: u32,
+        choice: *const u8,
+        choice_length: usize,
+        output: *mut u8,
+        room: usize,
+        length: *mut usize,
+    ) -> u32;
+
+    /// The imports that [`mulkavesh_gc`] keeps, in the order of the input. For each a byte, a
+    /// `MULKAVESH_EXTERN_..`; the index of what is imported, in the input; the length of the module's
+    /// name, and that name; the length of its own name, and that one. Numbers are of 32 bits,
+    /// little-endian. Of the flags [`MULKAVESH_NO_LEGACY`] alone has a say.
+    pub fn mulkavesh_imports(
+        input: *const u8,
+        input_length: usize,
+        flags: u32,
+        choice: *const u8,
+        choice_length: usize,
         output: *mut u8,
         room: usize,
         length: *mut usize,
@@ -233,12 +356,10 @@ extern "C" {
     /// that the module may break other rules. Debug information, names and producers are custom
     /// sections as any.
     ///
-    /// `choice` is a list of records, each of a byte, the length of a NAME as a number of 32 bits,
-    /// little-endian, and the NAME. The byte is 0 where the custom sections whose name the NAME fits
-    /// go, and 1 where they stay after all. In a NAME `*` stands for any bytes, also for none, and
-    /// `\*` for a star. [`MULKAVESH_NOT_FOUND`] where a NAME behind 0 fits no custom section;
-    /// [`MULKAVESH_INVALID`] exactly where the bytes aren't a header and whole sections;
-    /// [`MULKAVESH_UNKNOWN_FLAG`] exactly where `choice` is no such list.
+    /// `choice` is a list of NAMEs. The byte is 0 where the custom sections whose name the NAME fits
+    /// go, and 1 where they stay after all. [`MULKAVESH_NOT_FOUND`] where a NAME behind 0 fits no
+    /// custom section; [`MULKAVESH_INVALID`] exactly where the bytes aren't a header and whole
+    /// sections.
     pub fn mulkavesh_strip(
         input: *const u8,
         input_length: usize,
@@ -249,42 +370,79 @@ extern "C" {
         length: *mut usize,
     ) -> u32;
 
-    /// Why [`mulkavesh_gc`] keeps the function of this index: a line for each item of a chain of
-    /// references that leads to it, or one that it isn't reached. Which chain it is isn't promised:
-    /// call again with more room until the room suffices. [`MULKAVESH_NOT_FOUND`] where the module
-    /// has no function of this index.
+    /// Why [`mulkavesh_gc`] keeps a function, or another item that is exported. `function` is the
+    /// index of a function, in decimal; or else the name of one, of which the first is meant; or else
+    /// that of an export, and then its item is meant.
+    ///
+    /// First the item: a byte, a `MULKAVESH_KIND_..`, and its index. Then a byte, a
+    /// `MULKAVESH_ROOT_..`. Then a byte that is 1 where the item is a function with a body that stays,
+    /// and how many functions stay that wouldn't if it trapped, itself among them, and how many bytes
+    /// their bodies have in the output; 0, 0 and 0 of others. Behind that the links of a chain of
+    /// references that leads to the item, from what is a root by itself down to the item. For each link
+    /// a byte, a `MULKAVESH_KIND_..`; its index; the bytes that its body has in the output, or
+    /// [`MULKAVESH_NO_NAME`] of what isn't a function with a body; the length of its name or
+    /// [`MULKAVESH_NO_NAME`]; the name; how many exports that stay are of it, and for each of them the
+    /// length of its name, and the name. Numbers are of 32 bits, little-endian, and indices those of
+    /// the input. Which chain it is isn't promised: call again with more room until the room suffices.
+    /// [`MULKAVESH_NOT_FOUND`] also where `function` means nothing.
     pub fn mulkavesh_why(
         input: *const u8,
         input_length: usize,
-        function: u32,
+        flags: u32,
+        choice: *const u8,
+        choice_length: usize,
+        function: *const u8,
+        function_length: usize,
         output: *mut u8,
         room: usize,
         length: *mut usize,
     ) -> u32;
 
-    /// The module where the function that is exported under this name is replaced by one that
-    /// traps, without what nothing reaches then. The old function stays where calls, tables or
-    /// further exports reach it. [`MULKAVESH_NOT_FOUND`] where no function is exported under the
-    /// name, or where that one is imported or is exported under another name before.
+    /// What stays and refers to the same item directly: links as [`mulkavesh_why`] tells them, by kind
+    /// and index.
+    pub fn mulkavesh_callers(
+        input: *const u8,
+        input_length: usize,
+        flags: u32,
+        choice: *const u8,
+        choice_length: usize,
+        function: *const u8,
+        function_length: usize,
+        output: *mut u8,
+        room: usize,
+        length: *mut usize,
+    ) -> u32;
+
+    /// The module where functions trap, whoever calls them, without what nothing reaches then.
+    /// `function` is a list of records as that of NAMEs, each with the byte 0. A NAME is the index of a
+    /// function, in decimal; or, with a star in it, means each function with a body whose name it fits,
+    /// or the name of one of whose exports; or is the name of a function, of which the first is meant;
+    /// or else that of an export of one. [`MULKAVESH_NOT_FOUND`] where a NAME means no function, or an
+    /// imported one.
     pub fn mulkavesh_snip(
         input: *const u8,
         input_length: usize,
-        name: *const u8,
-        name_length: usize,
+        flags: u32,
+        function: *const u8,
+        function_length: usize,
         output: *mut u8,
         room: usize,
         length: *mut usize,
     ) -> u32;
 
-    /// The module where each function that was imported from the module of this name is one of its
-    /// own, which traps, without what nothing reaches then. What it answers where no function is
-    /// imported from such a module is no promise. [`MULKAVESH_NOT_FOUND`] where the name isn't
-    /// UTF-8.
+    /// The module where functions that were imported are its own ones, which trap, without what nothing
+    /// reaches then: those from a module that `module`, a list of NAMEs, says, and under a name that
+    /// `name` says, another one. A list says what a NAME behind 0 fits, and none behind 1. No bytes for
+    /// `name` say each name, and none for `module` no module. [`MULKAVESH_NOT_FOUND`] where no function
+    /// is imported so.
     pub fn mulkavesh_stub(
         input: *const u8,
         input_length: usize,
-        from: *const u8,
-        from_length: usize,
+        flags: u32,
+        module: *const u8,
+        module_length: usize,
+        name: *const u8,
+        name_length: usize,
         output: *mut u8,
         room: usize,
         length: *mut usize,

@@ -7,7 +7,7 @@
 //! or the other. Prints both sizes; where anything fails, the file is as it was, and what is wrong
 //! with it is told.
 
-use mulkavesh::{gc, Flags};
+use mulkavesh::{gc, Flags, Roots};
 use std::error::Error;
 use std::fs::{self, OpenOptions};
 use std::io::{self, Write};
@@ -63,7 +63,7 @@ fn shrink(file: &Path, flags: Flags) -> Result<(usize, usize), Box<dyn Error>> {
     // What a link leads to is replaced, and not the link.
     let file = fs::canonicalize(file)?;
     let input = fs::read(&file)?;
-    let output = gc(&input, flags)?;
+    let output = gc(&input, flags, Roots::default())?;
     replace(&file, &output)?;
     Ok((input.len(), output.len()))
 }

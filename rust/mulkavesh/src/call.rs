@@ -1,20 +1,47 @@
 //! The one place where the library is called, and so the one with `unsafe`.
 
-use crate::{diagnose, Error, Flags};
+use crate::{bytes, choice, diagnose, Error, Flags, Roots};
 use mulkavesh_sys as library;
 
 type Plain = unsafe extern "C" fn(*const u8, usize, *mut u8, usize, *mut usize) -> u32;
 
-type Numbered = unsafe extern "C" fn(*const u8, usize, u32, *mut u8, usize, *mut usize) -> u32;
+type Flagged = unsafe extern "C" fn(*const u8, usize, u32, *mut u8, usize, *mut usize) -> u32;
 
-type WithBytes =
+type OfList =
     unsafe extern "C" fn(*const u8, usize, *const u8, usize, *mut u8, usize, *mut usize) -> u32;
 
-/// A function of the library, and what it takes beside the input and the room.
+type FlaggedList = unsafe extern "C" fn(
+    *const u8,
+    usize,
+    u32,
+    *const u8,
+    usize,
+    *mut u8,
+    usize,
+    *mut usize,
+) -> u32;
+
+type FlaggedLists = unsafe extern "C" fn(
+    *const u8,
+    usize,
+    u32,
+    *const u8,
+    usize,
+    *const u8,
+    usize,
+    *mut u8,
+    usize,
+    *mut usize,
+) -> u32;
+
+/// A function of the library, and what it takes beside the input, flags and the room: lists of
+/// NAMEs, as `choice` makes them, and in the second place of two a text too.
 enum Form<'a> {
     Plain(Plain),
-    Numbered(Numbered, u32),
-    WithBytes(WithBytes, &'a [u8]),
+    Flagged(Flagged),
+    OfList(OfList, &'a [u8]),
+    FlaggedList(FlaggedList, &'a [u8]),
+    FlaggedLists(FlaggedLists, &'a [u8], &'a [u8]),
 }
 
 /// What the library is asked, but for the input. None is made outside this file, so that each
@@ -23,60 +50,106 @@ pub(crate) struct Call<'a> {
     form: Form<'a>,
     /// Those that the call goes by: the default where it takes none.
     flags: Flags,
+    /// Those of which the form has the list: the default where it has none.
+    roots: Roots<'a>,
+}
+
+/// A choice of exports, and the list of it that the library takes.
+pub(crate) struct Chosen<'a> {
+    roots: Roots<'a>,
+    list: Vec<u8>,
+}
+
+impl<'a> Chosen<'a> {
+    pub(crate) fn of(roots: Roots<'a>) -> Result<Self, Error> {
+        let list = choice::roots(roots)?;
+        Ok(Chosen { roots, list })
+    }
 }
 
 impl<'a> Call<'a> {
-    fn flagged(call: Numbered, flags: Flags) -> Self {
-        let form = Form::Numbered(call, flags.bits());
-        Call { form, flags }
+    fn of(form: Form<'a>, flags: Flags) -> Self {
+        let roots = Roots::default();
+        Call { form, flags, roots }
     }
 
-    fn unflagged(form: Form<'a>) -> Self {
-        let flags = Flags::default();
-        Call { form, flags }
+    fn chosen(call: FlaggedList, flags: Flags, chosen: &'a Chosen<'_>) -> Self {
+        let form = Form::FlaggedList(call, &chosen.list);
+        let roots = chosen.roots;
+        Call { form, flags, roots }
     }
 
-    pub(crate) fn gc(flags: Flags) -> Self {
-        Call::flagged(library::mulkavesh_gc, flags)
+    fn explained(
+        call: FlaggedLists,
+        flags: Flags,
+        chosen: &'a Chosen<'_>,
+        function: &'a str,
+    ) -> Self {
+        let form = Form::FlaggedLists(call, &chosen.list, function.as_bytes());
+        let roots = chosen.roots;
+        Call { form, flags, roots }
     }
 
-    pub(crate) fn report(flags: Flags) -> Self {
-        Call::flagged(library::mulkavesh_report, flags)
+    pub(crate) fn gc(flags: Flags, chosen: &'a Chosen<'_>) -> Self {
+        Call::chosen(library::mulkavesh_gc, flags, chosen)
+    }
+
+    pub(crate) fn report(flags: Flags, chosen: &'a Chosen<'_>) -> Self {
+        Call::chosen(library::mulkavesh_report, flags, chosen)
+    }
+
+    pub(crate) fn list(flags: Flags, chosen: &'a Chosen<'_>) -> Self {
+        Call::chosen(library::mulkavesh_list, flags, chosen)
+    }
+
+    pub(crate) fn dropped(flags: Flags, chosen: &'a Chosen<'_>) -> Self {
+        Call::chosen(library::mulkavesh_dropped, flags, chosen)
+    }
+
+    pub(crate) fn exports(flags: Flags, chosen: &'a Chosen<'_>) -> Self {
+        Call::chosen(library::mulkavesh_exports, flags, chosen)
+    }
+
+    pub(crate) fn imports(flags: Flags, chosen: &'a Chosen<'_>) -> Self {
+        Call::chosen(library::mulkavesh_imports, flags, chosen)
+    }
+
+    pub(crate) fn why(flags: Flags, chosen: &'a Chosen<'_>, function: &'a str) -> Self {
+        Call::explained(library::mulkavesh_why, flags, chosen, function)
+    }
+
+    pub(crate) fn callers(flags: Flags, chosen: &'a Chosen<'_>, function: &'a str) -> Self {
+        Call::explained(library::mulkavesh_callers, flags, chosen, function)
     }
 
     pub(crate) fn diagnose(flags: Flags) -> Self {
-        Call::flagged(library::mulkavesh_diagnose, flags)
-    }
-
-    pub(crate) fn list(flags: Flags) -> Self {
-        Call::flagged(library::mulkavesh_list, flags)
+        Call::of(Form::Flagged(library::mulkavesh_diagnose), flags)
     }
 
     pub(crate) fn sections() -> Self {
-        Call::unflagged(Form::Plain(library::mulkavesh_sections))
+        let form = Form::Plain(library::mulkavesh_sections);
+        Call::of(form, Flags::default())
     }
 
     pub(crate) fn parts() -> Self {
-        Call::unflagged(Form::Plain(library::mulkavesh_parts))
+        let form = Form::Plain(library::mulkavesh_parts);
+        Call::of(form, Flags::default())
     }
 
-    /// The choice is a list of records, as `choice::records` makes it.
     pub(crate) fn strip(choice: &'a [u8]) -> Self {
-        Call::unflagged(Form::WithBytes(library::mulkavesh_strip, choice))
+        let form = Form::OfList(library::mulkavesh_strip, choice);
+        Call::of(form, Flags::default())
     }
 
-    pub(crate) fn why(function: u32) -> Self {
-        Call::unflagged(Form::Numbered(library::mulkavesh_why, function))
+    /// All in the list go.
+    pub(crate) fn snip(flags: Flags, functions: &'a [u8]) -> Self {
+        let form = Form::FlaggedList(library::mulkavesh_snip, functions);
+        Call::of(form, flags)
     }
 
-    pub(crate) fn snip(name: &'a str) -> Self {
-        let name = name.as_bytes();
-        Call::unflagged(Form::WithBytes(library::mulkavesh_snip, name))
-    }
-
-    pub(crate) fn stub(from: &'a str) -> Self {
-        let from = from.as_bytes();
-        Call::unflagged(Form::WithBytes(library::mulkavesh_stub, from))
+    pub(crate) fn stub(flags: Flags, modules: &'a [u8], names: &'a [u8]) -> Self {
+        let form = Form::FlaggedLists(library::mulkavesh_stub, modules, names);
+        Call::of(form, flags)
     }
 
     /// The answer for this input. One call serves where this much room, in bytes, is enough; where
@@ -95,7 +168,7 @@ impl<'a> Call<'a> {
                 }
                 library::MULKAVESH_TOO_LARGE => return Err(Error::TooLarge),
                 library::MULKAVESH_NO_MEMORY => return Err(Error::NoMemory),
-                library::MULKAVESH_NOT_FOUND => return Err(Error::NotFound),
+                library::MULKAVESH_NOT_FOUND => return Err(self.missing(length)),
                 other => unreachable!("the library answers with status {other}"),
             }
         }
@@ -110,11 +183,25 @@ impl<'a> Call<'a> {
         }
     }
 
+    /// What isn't there, where the library tells this number.
+    fn missing(&self, number: usize) -> Error {
+        match self
+            .roots
+            .name(number)
+            .map(|name| bytes::copied(name.as_bytes()))
+        {
+            None => Error::NotFound,
+            Some(Ok(name)) => Error::Unfit(name),
+            Some(Err(error)) => error,
+        }
+    }
+
     /// Makes the call once, and gives its status and the length that it tells. The answer, where
     /// there is one, takes the place of what stood in `output`.
     fn made(&self, input: &[u8], output: &mut Vec<u8>) -> (u32, usize) {
         let (start, size) = (input.as_ptr(), input.len());
         let (to, room) = (output.as_mut_ptr(), output.capacity());
+        let flags = self.flags.bits();
         let mut length = 0;
         let told: *mut usize = &mut length;
         // SAFETY: `start` and `size` are of one slice, as pointer and length of the others are, and
@@ -124,9 +211,20 @@ impl<'a> Call<'a> {
         let status = unsafe {
             match self.form {
                 Form::Plain(call) => call(start, size, to, room, told),
-                Form::Numbered(call, number) => call(start, size, number, to, room, told),
-                Form::WithBytes(call, bytes) => {
-                    call(start, size, bytes.as_ptr(), bytes.len(), to, room, told)
+                Form::Flagged(call) => call(start, size, flags, to, room, told),
+                Form::OfList(call, list) => {
+                    call(start, size, list.as_ptr(), list.len(), to, room, told)
+                }
+                Form::FlaggedList(call, list) => {
+                    let (place, count) = (list.as_ptr(), list.len());
+                    call(start, size, flags, place, count, to, room, told)
+                }
+                Form::FlaggedLists(call, list, more) => {
+                    let (place, count) = (list.as_ptr(), list.len());
+                    let (behind, rest) = (more.as_ptr(), more.len());
+                    call(
+                        start, size, flags, place, count, behind, rest, to, room, told,
+                    )
                 }
             }
         };
@@ -191,9 +289,13 @@ mod tests {
     fn a_refusal_needs_no_room() {
         let strip = Call::strip(C_GOES);
         assert_eq!(strip.answer(SECTIONS, 0), Err(Error::NotFound));
-        assert_eq!(Call::why(0).answer(SECTIONS, 0), Err(Error::NotFound));
+        let chosen = Chosen::of(Roots::default()).expect("a list");
+        let why = Call::why(NO_PRODUCERS, &chosen, "0");
+        assert_eq!(why.answer(SECTIONS, 0), Err(Error::NotFound));
         let invalid = Err(Error::Invalid(Fault::Header(Beginning::Empty)));
-        assert_eq!(Call::stub("a").answer(b"", 0), invalid);
+        let stub = Call::stub(NO_PRODUCERS, A_GOES, b"");
+        assert_eq!(stub.answer(SECTIONS, 0), Err(Error::NotFound));
+        assert_eq!(stub.answer(b"", 0), invalid);
         assert_eq!(Call::strip(A_GOES).answer(b"", 0), invalid);
         assert_eq!(Call::sections().answer(b"", 0), invalid);
         let told = Call::diagnose(NO_PRODUCERS).answer(b"", 0);
@@ -201,10 +303,24 @@ mod tests {
     }
 
     #[test]
+    fn the_name_that_fits_nothing_is_told() {
+        let roots = Roots {
+            keep: &["*"],
+            drop: &["é"],
+        };
+        let chosen = Chosen::of(roots).expect("a list");
+        let gc = Call::gc(NO_PRODUCERS, &chosen);
+        // There is no export at all.
+        assert_eq!(gc.answer(SECTIONS, 0), Err(Error::Unfit("*".to_string())));
+        assert_eq!(gc.missing(1), Error::Unfit("é".to_string()));
+        assert_eq!(gc.missing(2), Error::NotFound);
+    }
+
+    #[test]
     fn room_that_no_machine_has_is_refused() {
-        let gc = Call::gc(NO_PRODUCERS);
+        let strip = Call::strip(A_GOES);
         for guess in [isize::MAX as usize, usize::MAX] {
-            assert_eq!(gc.answer(SECTIONS, guess), Err(Error::NoMemory));
+            assert_eq!(strip.answer(SECTIONS, guess), Err(Error::NoMemory));
         }
     }
 

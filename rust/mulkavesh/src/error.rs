@@ -13,7 +13,7 @@ use std::{error, fmt};
 /// let text = "the input WebAssembly is invalid: the bytes don't begin as a WebAssembly module";
 /// assert_eq!(error.to_string(), text);
 /// ```
-#[derive(Debug, Clone, Copy, PartialEq, Eq, Hash)]
+#[derive(Debug, Clone, PartialEq, Eq, Hash)]
 pub enum Error {
     /// The input is no module that keeps the rules of the format; this is wrong with it, as
     /// [`diagnose`](crate::diagnose) tells it. [`strip`](crate::strip) and
@@ -26,6 +26,8 @@ pub enum Error {
     NoMemory,
     /// There is nothing of this name or index that the call could work on.
     NotFound,
+    /// This NAME of [`Roots`](crate::Roots), the first such one, fits no export of the input.
+    Unfit(String),
 }
 
 impl fmt::Display for Error {
@@ -35,6 +37,7 @@ impl fmt::Display for Error {
             Error::TooLarge => formatter.write_str("a count or size passes 32 bits"),
             Error::NoMemory => formatter.write_str("out of memory"),
             Error::NotFound => formatter.write_str("there is nothing of this name or index"),
+            Error::Unfit(name) => write!(formatter, "no export fits {name:?}"),
         }
     }
 }

@@ -1,6 +1,6 @@
 //! What is wrong with bytes.
 
-use crate::listed::number;
+use crate::bytes::number;
 use mulkavesh_sys as library;
 use std::fmt;
 

@@ -1,6 +1,6 @@
 //! What sections stand in bytes.
 
-use crate::listed::{named, number};
+use crate::bytes::{all, byte, named, number};
 use crate::Error;
 
 /// A section, as its framing tells of it.
@@ -55,12 +55,6 @@ pub struct Sections {
     pub is_whole: bool,
 }
 
-/// The byte at the front of the bytes, which tells, and the bytes behind it.
-fn byte(bytes: &[u8]) -> (u8, &[u8]) {
-    let (front, rest) = bytes.split_at(1);
-    (front[0], rest)
-}
-
 /// The section at the front of the bytes, and the bytes behind it.
 fn section(bytes: &[u8]) -> Result<(Section, &[u8]), Error> {
     let (id, rest) = byte(bytes);
@@ -85,16 +79,9 @@ impl Sections {
     /// What the library answers.
     pub(crate) fn of(answer: &[u8]) -> Result<Sections, Error> {
         let (is_whole, rest) = byte(answer);
-        let (end, mut rest) = number(rest);
-        let mut sections = Vec::new();
-        while !rest.is_empty() {
-            let (found, behind) = section(rest)?;
-            sections.try_reserve(1).map_err(|_| Error::NoMemory)?;
-            sections.push(found);
-            rest = behind;
-        }
+        let (end, rest) = number(rest);
         Ok(Sections {
-            sections,
+            sections: all(rest, section)?,
             end,
             is_whole: is_whole != 0,
         })

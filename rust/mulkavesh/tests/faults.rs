@@ -2,8 +2,20 @@
 //! repository, and the words for it.
 
 use mulkavesh::{
-    diagnose, gc, list, report, sections, snip, strip, stub, why, Beginning, Error, Fault, Flags,
-    Rule,
+    callers, diagnose, dropped, exports, gc, imports, list, report, sections, snip, strip, stub,
+    why, Beginning, Error, Fault, Flags, Roots, Rule,
+};
+
+/// All exports stay.
+const ALL: Roots<'static> = Roots {
+    keep: &[],
+    drop: &[],
+};
+
+/// One of these NAMEs fits no export, and that isn't looked at where the bytes are none.
+const UNFIT: Roots<'static> = Roots {
+    keep: &["none"],
+    drop: &[],
 };
 
 /// The lines, of which those that begin with `#` say why.
@@ -101,12 +113,23 @@ fn refusal<T>(answer: Result<T, Error>) -> Option<Error> {
 fn a_refusal_has_the_fault() {
     for it in lines() {
         let wanted = it.fault.map(Error::Invalid);
+        let (bytes, flags) = (&it.bytes, it.flags);
         let found = [
-            refusal(gc(&it.bytes, it.flags)),
-            refusal(report(&it.bytes, it.flags)),
-            refusal(list(&it.bytes, it.flags)),
+            refusal(gc(bytes, flags, ALL)),
+            refusal(report(bytes, flags, ALL)),
+            refusal(list(bytes, flags, ALL)),
+            refusal(dropped(bytes, flags, ALL)),
+            refusal(exports(bytes, flags, ALL)),
+            refusal(imports(bytes, flags, ALL)),
+            refusal(why(bytes, "0", flags, ALL)),
+            refusal(callers(bytes, "none", flags, ALL)),
+            refusal(snip(bytes, &["a"], flags)),
+            refusal(stub(bytes, &["env"], &[], flags)),
         ];
-        assert_eq!(found, [wanted; 3], "of {:02X?}", it.bytes);
+        assert!(found.iter().all(|it| *it == wanted), "of {bytes:02X?}");
+        if wanted.is_some() {
+            assert_eq!(gc(bytes, flags, UNFIT).err(), wanted, "of {bytes:02X?}");
+        }
     }
 }
 
@@ -130,24 +153,11 @@ fn a_refusal_of_the_framing_has_the_fault() {
     assert!(whole > 11, "one for each rule, and a body");
 }
 
-/// The calls without flags refuse as under none.
-#[test]
-fn a_refusal_without_flags_has_the_fault() {
-    for it in lines().iter().filter(|it| !it.flags.no_legacy) {
-        let wanted = it.fault.map(Error::Invalid);
-        let found = [
-            refusal(why(&it.bytes, 0)),
-            refusal(snip(&it.bytes, "a")),
-            refusal(stub(&it.bytes, "env")),
-        ];
-        assert_eq!(found, [wanted; 3], "of {:02X?}", it.bytes);
-    }
-}
-
 #[test]
 fn a_refusal_says_the_fault() {
     // A memory of at least two pages and at most one.
-    let refused = why(b"\0asm\x01\0\0\0\x05\x04\x01\x01\x02\x01", 0);
+    let module = b"\0asm\x01\0\0\0\x05\x04\x01\x01\x02\x01";
+    let refused = why(module, "0", Flags::default(), ALL);
     let text = "the input WebAssembly is invalid: the limits of a table or a memory aren't allowed";
     assert_eq!(
         refused.map_err(|error| error.to_string()),

@@ -4,7 +4,7 @@
 
 mod support;
 
-use mulkavesh::{diagnose, gc, report, Error, Fault, Flags};
+use mulkavesh::{diagnose, gc, report, Counts, Error, Fault, Flags, Report, Roots};
 use std::env;
 use std::io::Write;
 use std::path::{Path, PathBuf};
@@ -89,6 +89,24 @@ fn wanted(output: Output, fault: Option<Fault>) -> Result<Vec<u8>, Error> {
     Err(refusal)
 }
 
+/// The lines of the program for items that are kept and dropped.
+fn lines(report: Report) -> String {
+    let kinds = [
+        ("functions", report.functions),
+        ("tables", report.tables),
+        ("memories", report.memories),
+        ("tags", report.tags),
+        ("globals", report.globals),
+        ("elements", report.elements),
+        ("data", report.data),
+    ];
+    let line = |(kind, counts): (&str, Counts)| {
+        let Counts { kept, dropped } = counts;
+        format!("{kind} kept {kept} dropped {dropped}\n")
+    };
+    kinds.into_iter().map(line).collect()
+}
+
 /// The first place where two answers differ.
 fn difference(found: &[u8], wanted: &[u8]) -> String {
     let place = found.iter().zip(wanted).take_while(|(a, b)| a == b).count();
@@ -120,9 +138,15 @@ fn compare_all(program: &Path, input: &[u8], flags: Flags, what: &str) {
     let what = format!("{what} {words:?}");
     let output = run(program, &words, input);
     let fault = fault_of(input, flags, &output, &what);
-    compare(gc(input, flags), output, fault, &what);
+    let smaller = gc(input, flags, Roots::default());
+    let told = report(input, flags, Roots::default());
+    if let (Ok(smaller), Ok(told)) = (&smaller, &told) {
+        let sizes = (input.len() as u64, smaller.len() as u64);
+        assert_eq!((told.bytes.read, told.bytes.written), sizes, "{what}");
+    }
+    compare(smaller, output, fault, &what);
     words.push("--report");
-    let lines = report(input, flags).map(String::into_bytes);
+    let lines = told.map(|told| lines(told).into_bytes());
     compare(lines, run(program, &words, input), fault, &what);
 }
 
@@ -171,7 +195,7 @@ fn mutants_are_refused_as_the_program_refuses_them() {
             let bytes = mutant(&sample.bytes, which);
             let what = format!("mutant {which} of {}", sample.path.display());
             compare_all(&program, &bytes, Flags::default(), &what);
-            match gc(&bytes, Flags::default()) {
+            match gc(&bytes, Flags::default(), Roots::default()) {
                 Ok(_) => taken += 1,
                 Err(_) => refused += 1,
             }

@@ -2,7 +2,10 @@
 
 mod support;
 
-use mulkavesh::{gc, list, parts, report, sections, strip, stub, why, Error, Flags, Listed, Part};
+use mulkavesh::{
+    callers, dropped, exports, gc, imports, list, parts, report, sections, snip, strip, why, Error,
+    Flags, Kind, Listed, Part, Report, Roots,
+};
 use std::ops::Range;
 use std::thread;
 use support::Sample;
@@ -106,18 +109,16 @@ fn sizes_of_bodies(module: &[u8]) -> Vec<usize> {
     sizes
 }
 
-/// How many functions are kept and how many dropped, by a report.
-fn functions(report: &str) -> (usize, usize) {
-    let line = report.lines().next().expect("a first line");
-    let words: Vec<&str> = line.split(' ').collect();
-    match words[..] {
-        ["functions", "kept", kept, "dropped", dropped] => {
-            let number = |digits: &str| digits.parse().expect("a number");
-            (number(kept), number(dropped))
-        }
-        _ => panic!("the first line is {line:?}"),
-    }
-}
+const FLAGS: Flags = Flags {
+    no_names: false,
+    no_producers: false,
+    no_legacy: false,
+};
+
+const ALL: Roots<'static> = Roots {
+    keep: &[],
+    drop: &[],
+};
 
 /// The list is one of the bodies that are written, by rising index.
 fn is_of_bodies(list: &[Listed], output: &[u8]) {
@@ -127,32 +128,55 @@ fn is_of_bodies(list: &[Listed], output: &[u8]) {
     assert!(list.windows(2).all(|two| two[0].index < two[1].index));
 }
 
-/// Which functions stay, by asking why for each of so many.
-fn reached(input: &[u8], count: usize) -> Vec<u32> {
-    let is_reached = |index: &u32| {
-        let lines = why(input, *index).expect("a chain");
-        if lines == format!("function {index} isn't reached\n") {
-            return false;
+/// How many functions stay where this one, which has a body, traps.
+fn left_without(input: &[u8], index: u32) -> u64 {
+    let snipped = snip(input, &[&index.to_string()], FLAGS).expect("a module");
+    report(&snipped, FLAGS, ALL)
+        .expect("a report")
+        .functions
+        .kept
+}
+
+/// Whether the function is reached; then the chain ends in it, the one before it is among those that
+/// refer to it, and as many would go with it as aren't left where it traps.
+fn is_reached(input: &[u8], index: u32, kept: u64) -> bool {
+    let text = index.to_string();
+    let found = why(input, &text, FLAGS, ALL).expect("a reason");
+    assert_eq!((found.kind, found.index), (Kind::Function, index));
+    assert_eq!(found.links.is_empty(), found.root.is_none());
+    if let Some(alone) = found.alone {
+        let gone = kept - left_without(input, index);
+        assert_eq!(u64::from(alone.functions), gone + 1, "of {index}");
+    }
+    let referring = callers(input, &text, FLAGS, ALL).expect("callers");
+    match &found.links[..] {
+        [] => return false,
+        [.., before, last] => {
+            assert_eq!((last.kind, last.index), (Kind::Function, index));
+            assert!(referring.contains(before), "{before:?}");
         }
-        let last = lines.lines().last().expect("a line");
-        assert_eq!(last, format!("function {index}"));
-        true
-    };
-    (0..count as u32).filter(is_reached).collect()
+        [one] => assert_eq!((one.kind, one.index), (Kind::Function, index)),
+    }
+    true
 }
 
 /// Those that stay are as many as the report says: imported ones, and behind them the listed ones.
-fn is_of_report(list: &[Listed], input: &[u8], report: &str) {
-    let (kept, dropped) = functions(report);
-    assert!(list.len() <= kept, "{} are listed of {kept}", list.len());
+fn is_of_report(list: &[Listed], input: &[u8], report: &Report) {
+    let (kept, dropped) = (report.functions.kept, report.functions.dropped);
+    let listed = list.len() as u64;
+    assert!(listed <= kept, "{listed} are listed of {kept}");
     if input.len() > MOST_BYTES_OF_CHAINS {
         return;
     }
-    let reached = reached(input, kept + dropped);
-    assert_eq!(reached.len(), kept);
+    let count = (kept + dropped) as u32;
+    let reached: Vec<u32> = (0..count)
+        .filter(|index| is_reached(input, *index, kept))
+        .collect();
+    assert_eq!(reached.len() as u64, kept);
     let indices: Vec<u32> = list.iter().map(|listed| listed.index).collect();
-    assert_eq!(reached[kept - list.len()..], indices);
-    assert_eq!(why(input, (kept + dropped) as u32), Err(Error::NotFound));
+    assert_eq!(reached[reached.len() - list.len()..], indices);
+    let behind = why(input, &count.to_string(), FLAGS, ALL);
+    assert_eq!(behind, Err(Error::NotFound));
 }
 
 #[test]
@@ -160,10 +184,13 @@ fn lists_agree_with_reports_and_chains() {
     let samples = support::samples();
     for Sample { path, bytes } in &samples {
         println!("{}", path.display());
-        let flags = Flags::default();
-        let listed = list(bytes, flags).expect("a list");
-        is_of_bodies(&listed, &gc(bytes, flags).expect("a module"));
-        is_of_report(&listed, bytes, &report(bytes, flags).expect("a report"));
+        let listed = list(bytes, FLAGS, ALL).expect("a list");
+        is_of_bodies(&listed, &gc(bytes, FLAGS, ALL).expect("a module"));
+        is_of_report(
+            &listed,
+            bytes,
+            &report(bytes, FLAGS, ALL).expect("a report"),
+        );
     }
     let count = samples.len();
     support::say(&format!("compared: the lists of {count} modules"));
@@ -273,18 +300,77 @@ fn parts_are_those_that_stand_there() {
 #[test]
 fn a_second_run_changes_nothing() {
     for Sample { path, bytes } in support::samples() {
-        let once = gc(&bytes, Flags::default()).expect("a module");
-        let twice = gc(&once, Flags::default());
+        let once = gc(&bytes, FLAGS, ALL).expect("a module");
+        let twice = gc(&once, FLAGS, ALL);
         assert!(twice.as_ref() == Ok(&once), "{}", path.display());
-        let none = stub(&once, "a module of no import");
+        let none = snip(&once, &[], FLAGS);
         assert!(none == twice, "{}", path.display());
     }
+}
+
+/// The functions that go and those that stay are those that have a body, and what goes has as many
+/// bytes as the report says.
+fn are_all(input: &[u8], roots: Roots<'_>) {
+    let gone = dropped(input, FLAGS, roots).expect("a list");
+    let told = report(input, FLAGS, roots).expect("a report");
+    let bytes: u64 = gone.iter().map(|it| u64::from(it.size)).sum();
+    assert_eq!(bytes, told.bytes.dropped);
+    let stay = list(input, FLAGS, roots).expect("a list");
+    let mut indices: Vec<u32> = gone.iter().chain(&stay).map(|it| it.index).collect();
+    indices.sort_unstable();
+    let index = |part| match part {
+        Part::Function(item) => Some(item.index),
+        _ => None,
+    };
+    let parts = parts(input).expect("parts").into_iter();
+    assert_eq!(indices, parts.filter_map(index).collect::<Vec<u32>>());
+}
+
+/// What is exported and imported by what is written is what is told to stay.
+fn is_the_interface(input: &[u8], roots: Roots<'_>) {
+    let written = gc(input, FLAGS, roots).expect("a module");
+    let names = |module: &[u8], roots| {
+        let all = exports(module, FLAGS, roots).expect("exports").into_iter();
+        all.map(|it| (it.kind, it.name)).collect::<Vec<_>>()
+    };
+    assert_eq!(names(input, roots), names(&written, ALL));
+    let brought = |module: &[u8], roots| {
+        let all = imports(module, FLAGS, roots).expect("imports").into_iter();
+        all.map(|it| (it.kind, it.module, it.name))
+            .collect::<Vec<_>>()
+    };
+    assert_eq!(brought(input, roots), brought(&written, ALL));
+}
+
+#[test]
+fn exports_are_chosen() {
+    let mut count = 0;
+    for Sample { path, bytes } in support::samples() {
+        println!("{}", path.display());
+        let told = exports(&bytes, FLAGS, ALL).expect("exports");
+        // A star in a name would fit more.
+        let names = told.iter().map(|it| it.name.as_str());
+        let names: Vec<&str> = names.filter(|name| !name.contains('*')).collect();
+        let (keep, drop) = names.split_at(names.len() / 2);
+        for roots in [ALL, Roots { keep, drop: &[] }, Roots { keep: &[], drop }] {
+            are_all(&bytes, roots);
+            is_the_interface(&bytes, roots);
+            count += 1;
+        }
+        let unfit = Roots {
+            keep,
+            drop: &["no export has this name"],
+        };
+        let wanted = Error::Unfit("no export has this name".to_string());
+        assert_eq!(gc(&bytes, FLAGS, unfit), Err(wanted));
+    }
+    support::say(&format!("compared: {count} choices of exports"));
 }
 
 #[test]
 fn calls_in_several_threads_at_once_answer_the_same() {
     let samples = support::samples();
-    let answer = |sample: &Sample| gc(&sample.bytes, Flags::default());
+    let answer = |sample: &Sample| gc(&sample.bytes, FLAGS, ALL);
     let wanted: Vec<_> = samples.iter().map(answer).collect();
     thread::scope(|scope| {
         for _ in 0..THREADS {
