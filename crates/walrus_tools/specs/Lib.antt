@@ -1,4 +1,7 @@
+pub mod Alone
+pub mod AloneSteps
 pub mod Beginnings
+pub mod Callers
 pub mod Choice
 pub mod ChosenModule
 pub mod Count

@@ -7,7 +7,9 @@
 //! Main clause: `gc` in `src/tool/gc.rt`, with `RunsOn` (walrus): what a run makes of known bytes, or why it refuses them.
 #![tactic(auto)]
 
+mod alone;
 mod beginnings;
+mod callers;
 mod calls;
 mod choice;
 mod chooser;
