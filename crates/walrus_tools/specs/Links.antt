@@ -1,9 +1,9 @@
 -- What is told of an item of a module: its names and its cost ("Binary Format > Code Section"), and what makes it a root.
 use Rattle.std.specs.Prelude.{ℕ, ◌-◌, List, ◌∷◌, Option, Some, None, Contains, filter, find, map, option_map, string_bytes, ◌≡◌, ⊤}
+use Rattle.std.specs.Global.{Vec}
 use Rattle.std.specs.Option.{option_to_list}
 use Rattle.walrus_base.specs.Operators.{Elements, DataSegments, Item, function_item}
 use Rattle.walrus_code.specs.Code.{item_of}
-use Rattle.walrus_code.specs.Transform.{Transform}
 use Rattle.walrus_model.specs.Abstract.{Abstract, AnItem, DataSegment, DeclaredElements, ActiveElements, PassiveElements, Element, ElementKind, Export, Name}
 use Rattle.walrus_model.specs.Roots.{IsRootData}
 use Rattle.walrus_items.specs.Items.{is_item}
@@ -25,6 +25,13 @@ pub record LinkTold : Type 0 where
 abbrev pub link_seen : Link → LinkTold
 link_seen l = record { item = item_of l.item; name = option_to_list (text_of l.name); exports = map string_bytes l.exports.items; size = l.size }
 
+abbrev pub links_seen : Vec Link → List LinkTold
+links_seen links = map link_seen links.items
+
+-- those of a chain, or none
+abbrev pub links_in : Option (Vec Link) → Option (List LinkTold)
+links_in links = option_map links_seen links
+
 -- the names under which a module exports an item, in order
 abbrev pub exported_as : Abstract → Item → List Name
 exported_as m x = map (λ e. e.name) (filter (λ e. is_item e.item x) m.exports)
@@ -33,9 +40,9 @@ exported_as m x = map (λ e. e.name) (filter (λ e. is_item e.item x) m.exports)
 abbrev pub body_size : (ranges : List (ℕ × (ℕ × ℕ))) → Item → Option ℕ
 body_size ranges x = option_map (λ f. f.1.1 - f.1.0) (find (λ f. is_item (function_item f.0) x) ranges)
 
--- what is told of an item of a module that is written so
-abbrev pub link_of : Abstract → Transform → Item → LinkTold
-link_of m transform x = record { item = x; name = m.named (AnItem x); exports = exported_as m x; size = body_size transform.function_ranges x }
+-- what is told of an item of a module whose functions have these bodies
+abbrev pub link_of : Abstract → (ranges : List (ℕ × (ℕ × ℕ))) → Item → LinkTold
+link_of m ranges x = record { item = x; name = m.named (AnItem x); exports = exported_as m x; size = body_size ranges x }
 
 -- ---- what makes an item a root
 

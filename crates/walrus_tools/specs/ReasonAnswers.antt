@@ -1,57 +1,42 @@
 -- Why what a text means stays, and what refers to it: from bytes to values, and from bytes to bytes.
-use Rattle.std.specs.Prelude.{ℕ, true, List, Option, Some, None, AllPairs, Contains, Result, length, map, option_map, sum, unwrap_or, ◌≡◌, ◌⊎◌}
+use Rattle.std.specs.Prelude.{ℕ, List, Option, Some, None, Result, map, option_map, ◌≡◌, ◌⊎◌}
 use Rattle.std.specs.Global.{Vec}
-use Rattle.walrus_base.specs.Arena.{item_at}
 use Rattle.walrus_base.specs.Operators.{Item, function_item}
 use Rattle.walrus_code.specs.Transform.{Transform}
-use Rattle.walrus_model.specs.Abstract.{Abstract, Custom}
+use Rattle.walrus_model.specs.Abstract.{Abstract}
 use Rattle.walrus_model.specs.Config.{Config}
 use Rattle.walrus_model.specs.Reached.{Reached}
-use Rattle.walrus_items.specs.Functions.{functions}
+use Rattle.walrus_model.specs.Transform.{IsLocalFunction}
 use Rattle.walrus_items.specs.declared.error.Error.{Error}
 use Rattle.walrus_contents.specs.declared.parts.Contents.{Contents}
 use Rattle.walrus.specs.Why.{Explains}
-use Rattle.walrus_tools.specs.Alone.{AreGoers, TrapsOne}
+use Rattle.walrus_tools.specs.Alone.{IsAlone}
 use Rattle.walrus_tools.specs.Callers.{AreCallers}
 use Rattle.walrus_tools.specs.Choice.{Choice}
 use Rattle.walrus_tools.specs.ChosenModule.{KeepsChosen, RefusesChosen}
 use Rattle.walrus_tools.specs.Edits.{EditsTo, RefusesEdit, with_customs}
 use Rattle.walrus_tools.specs.Ends.{Answers, IfNotFound, LeavesLarge}
-use Rattle.walrus_tools.specs.FunctionMeaning.{has_body}
 use Rattle.walrus_tools.specs.ItemMeaning.{MeansIn}
-use Rattle.walrus_tools.specs.Links.{LinkTold, TellsRoot, body_size, link_of, link_seen}
+use Rattle.walrus_tools.specs.Links.{LinkTold, TellsRoot, link_of, links_seen}
 use Rattle.walrus_tools.specs.Measures.{IsMeasured}
 use Rattle.walrus_tools.specs.ReasonBytes.{IsLongLink, IsLongReason, ReasonTold, link_bytes, reason_bytes, reason_seen}
 use Rattle.walrus_tools.specs.Spelled.{AreLong, AreSpelled}
+use Rattle.walrus_tools.specs.declared.goers.Alone.{Alone}
 use Rattle.walrus_tools.specs.declared.links.Link.{Link}
-use Rattle.walrus_tools.specs.declared.reasons.Alone.{Alone}
 use Rattle.walrus_tools.specs.declared.reasons.Reason.{Reason}
 
 -- ---- what a function alone keeps
 
--- how many bytes the body of a function has, none where it has no body
-abbrev pub bytes_of : (ranges : List (ℕ × (ℕ × ℕ))) → (f : ℕ) → ℕ
-bytes_of ranges f = unwrap_or (body_size ranges (function_item f)) 0
-
--- Where function f of the edited module traps, other functions go with it: so many with it, whose bodies have so many bytes together.
-pub record IsAlone (customs : List Custom) (edited : Contents) (transform : Transform) (f : ℕ) (alone : Alone) : Type 0 where
-  pub trapped : Contents
-  pub traps : TrapsOne f edited trapped
-  pub functions : List ℕ
-  pub go : AreGoers (with_customs customs edited) (with_customs customs trapped) f functions
-  pub count : alone.functions ≡ length functions
-  pub bytes : alone.bytes ≡ sum (map (bytes_of transform.function_ranges) functions)
-
 -- the item is this function, which has a body and is reached
-pub record IsReachedBody (customs : List Custom) (edited : Contents) (x : Item) (f : ℕ) : Type 0 where
+pub record IsReachedBody (v : Abstract) (x : Item) (f : ℕ) : Type 0 where
   pub is : x ≡ function_item f
-  pub local : has_body (item_at (functions edited.funcs) f) ≡ true
-  pub reached : Reached (with_customs customs edited) x
+  pub local : IsLocalFunction v f
+  pub reached : Reached v x
 
--- that is told of a function with a body that is reached, and of no other item
-abbrev pub TellsAlone : List Custom → (edited : Contents) → Transform → Item → Option Alone → Type 0
-TellsAlone customs edited transform x None = (f : ℕ) → IsReachedBody customs edited x f → ⊥
-TellsAlone customs edited transform x (Some alone) = (f : ℕ) × IsReachedBody customs edited x f × IsAlone customs edited transform f alone
+-- of a function with a body that is reached it is told what goes with it, and of no other item
+abbrev pub TellsAlone : Abstract → Transform → Item → Option Alone → Type 0
+TellsAlone v transform x None = (f : ℕ) → IsReachedBody v x f → ⊥
+TellsAlone v transform x (Some alone) = (f : ℕ) × IsReachedBody v x f × IsAlone v f transform.function_ranges alone
 
 -- ---- values
 
@@ -63,23 +48,27 @@ module _ (c : Config) (bytes : List ℕ) (choices : List Choice) (text : List �
     pub measured : IsMeasured (KeepsChosen choices) c bytes module_left transform
     pub means : MeansIn measured.comes.module_edited text x
 
-  -- A chain leads to the item in the module of chosen exports, or none does. Told are its links, with names and sizes of what is left; what makes the first
-  -- one a root; and what the item alone keeps.
+  -- the module of chosen exports
+  abbrev pub asked_view : {x : Item} → IsAsked x → Abstract
+  asked_view asked = with_customs asked.measured.comes.customs asked.measured.comes.module_edited
+
+  -- A chain leads to the item in the module of chosen exports, or none does. Told are its links, with names and sizes of what is left; what makes the
+  -- first one a root; and what the item alone keeps.
   pub record IsReasoned (r : ReasonTold) : Type 0 where
     pub asked : IsAsked r.item
     pub chain : Option (List Item)
-    pub explains : Explains (with_customs asked.measured.comes.customs asked.measured.comes.module_edited) r.item chain
-    pub links : r.links ≡ option_map (map (link_of asked.module_left asked.transform)) chain
-    pub root : TellsRoot (with_customs asked.measured.comes.customs asked.measured.comes.module_edited) chain r.root
-    pub alone : TellsAlone asked.measured.comes.customs asked.measured.comes.module_edited asked.transform r.item r.alone
+    pub explains : Explains (asked_view asked) r.item chain
+    pub links : r.links ≡ option_map (map (link_of asked.module_left asked.transform.function_ranges)) chain
+    pub root : TellsRoot (asked_view asked) chain r.root
+    pub alone : TellsAlone (asked_view asked) asked.transform r.item r.alone
 
-  -- the items that are kept and refer to it, with names and sizes of what is left
+  -- the items that gc left and that refer to the one that is meant, with names and sizes of what is left
   pub record AreAsked (links : List LinkTold) : Type 0 where
     pub item : Item
     pub asked : IsAsked item
     pub callers : List Item
-    pub refer : AreCallers (with_customs asked.measured.comes.customs asked.measured.comes.module_edited) item callers
-    pub links_are : links ≡ map (link_of asked.module_left asked.transform) callers
+    pub refer : AreCallers asked.measured.comes.left.module_collected item callers
+    pub are : links ≡ map (link_of asked.module_left asked.transform.function_ranges) callers
 
 -- ---- from bytes
 
@@ -102,7 +91,7 @@ AnswersWhy c bytes choices text result = AnswersText c bytes choices text (λ (r
 
 -- what refers to the item that is meant
 abbrev pub AnswersCallers : Config → (bytes : List ℕ) → List Choice → (text : List ℕ) → Result (Vec Link) Error → Type 0
-AnswersCallers c bytes choices text result = AnswersText c bytes choices text (λ (ls : Vec Link). AreAsked c bytes choices text (map link_seen ls.items)) ⊥ result
+AnswersCallers c bytes choices text result = AnswersText c bytes choices text (λ (ls : Vec Link). AreAsked c bytes choices text (links_seen ls)) ⊥ result
 
 -- ---- from bytes to bytes
 

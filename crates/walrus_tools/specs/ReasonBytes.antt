@@ -5,10 +5,10 @@ use Rattle.walrus_code.specs.Code.{item_of}
 use Rattle.walrus_model.specs.Abstract.{Name}
 use Rattle.walrus_items.specs.Items.{space_number}
 use Rattle.walrus_tools.specs.ExportList.{text_bytes}
-use Rattle.walrus_tools.specs.Links.{LinkTold, link_seen}
+use Rattle.walrus_tools.specs.Links.{LinkTold, links_in}
 use Rattle.walrus_tools.specs.Numbers.{IsLongName, name_bytes, no_name, number_bytes}
 use Rattle.walrus_tools.specs.Spelled.{HasLong}
-use Rattle.walrus_tools.specs.declared.reasons.Alone.{Alone}
+use Rattle.walrus_tools.specs.declared.goers.Alone.{Alone}
 use Rattle.walrus_tools.specs.declared.reasons.Reason.{Reason}
 use Rattle.walrus_tools.specs.declared.roots.Root.{Root}
 use Rattle.walrus_tools.specs.declared.roots.Root.TheVariants.{Active, Declared, Exported, Start}
@@ -22,7 +22,7 @@ pub record ReasonTold : Type 0 where
 
 -- that of an answer
 abbrev pub reason_seen : Reason → ReasonTold
-reason_seen r = record { item = item_of r.item; links = option_map (λ ls. map link_seen ls.items) r.links; root = r.root; alone = r.alone }
+reason_seen r = record { item = item_of r.item; links = links_in r.links; root = r.root; alone = r.alone }
 
 -- ---- the bytes
 
