@@ -12,6 +12,8 @@ mod choice_samples;
 #[cfg(test)]
 mod chosen_samples;
 #[cfg(test)]
+mod list_samples;
+#[cfg(test)]
 mod samples;
 #[cfg(test)]
 mod section_samples;

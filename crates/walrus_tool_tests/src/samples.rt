@@ -4,9 +4,9 @@ use std::alloc::Global;
 use std::test::Fail;
 use test_support::{bytes_of, demand, demand_bytes, is_name, is_text};
 use walrus_tools::{
-    Chain, Kinds, Listed, Result, Wanted, chain_lines, count_calls, counts, fault, find,
-    function_list, gc, item_index, item_word, keep_listed, list, moves, rename_export, report,
-    shrink, snip, stub, why, why_called, why_with_sizes, with_export, with_metadata, with_places,
+    Chain, Kinds, Result, Wanted, chain_lines, count_calls, counts, fault, find, gc, item_index,
+    item_word, keep_listed, moves, rename_export, report, shrink, snip, stub, why, why_called,
+    why_with_sizes, with_export, with_metadata, with_places,
 };
 
 // Fails where a caller refused, or answered with other bytes than these.
@@ -40,7 +40,7 @@ fn one_of_two_functions_is_left(rt: HostRuntime) -> std::result::Result<(), Fail
     demand_output(rt.alloc(), shrink(rt.alloc(), &bytes), ONE)
 }
 
-// ---- gc, report, counts and list under flags
+// ---- gc, report and counts under flags
 
 fn no_producers() -> Wanted {
     Wanted {
@@ -99,43 +99,6 @@ fn one_of_two_is_counted(rt: HostRuntime) -> std::result::Result<(), Fail> {
         "the functions that were read",
     )?;
     demand(counted.after == functions(1), "the functions that are left")
-}
-
-// The same two functions, of which the exported one is called `g`.
-const TWO_NAMED: &str =
-    "00 61 73 6D 01 00 00 00 01 04 01 60 00 00 03 03 02 00 00 07 05 01 01 66 00 01 0A 08 02 03 00 01 0B 02 00 0B 00 0B 04 6E 61 6D 65 01 04 01 01 01 67";
-
-// Whether function 1, with a body of 2 bytes and this name, is the only one.
-fn is_one(all: &[Listed], name: &str) -> bool {
-    match all.get(0) {
-        Some(listed) => {
-            all.len() == 1 && listed.index == 1 && listed.size == 2 && is_name(&listed.name, name)
-        }
-        None => false,
-    }
-}
-
-#[test]
-fn one_of_two_is_listed(rt: HostRuntime) -> std::result::Result<(), Fail> {
-    let bytes = bytes_of(rt.alloc(), TWO_NAMED)?;
-    let functions = list(rt.alloc(), &bytes, no_producers())?;
-    demand(is_one(&functions, "g"), "function 1")
-}
-
-#[test]
-fn one_of_two_is_listed_in_bytes(rt: HostRuntime) -> std::result::Result<(), Fail> {
-    let bytes = bytes_of(rt.alloc(), TWO)?;
-    demand_output(
-        rt.alloc(),
-        function_list(rt.alloc(), &bytes, no_producers()),
-        "01 00 00 00 02 00 00 00 FF FF FF FF",
-    )?;
-    let named = bytes_of(rt.alloc(), TWO_NAMED)?;
-    demand_output(
-        rt.alloc(),
-        function_list(rt.alloc(), &named, no_producers()),
-        "01 00 00 00 02 00 00 00 01 00 00 00 67",
-    )
 }
 
 // ---- keep_listed

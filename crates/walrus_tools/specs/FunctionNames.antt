@@ -31,24 +31,3 @@ abbrev pub FindsCalled : (name : List ℕ) → List (Option FunctionValue) → L
 FindsCalled name functions exports (Ok id) = function_called name functions exports ≡ Some (place id)
 FindsCalled name functions exports (Err NotFound) = function_called name functions exports ≡ None
 FindsCalled name functions exports (Err _) = ⊥
-
--- the place of the function that is meant in what was read
-abbrev pub meant : (name : List ℕ) → Contents → Option ℕ
-meant name m = function_called name (functions m.funcs) (exports m.exports)
-
--- ---- from bytes to the index
-
--- the bytes are those of a module in which this function is meant
-pub record IsFound (c : Config) (bytes name : List ℕ) (function : ℕ) : Type 0 where
-  pub customs : List Custom
-  pub module_parsed : Contents
-  pub parsed : IsParsed c bytes (with_customs customs module_parsed)
-  pub is : meant name module_parsed ≡ Some function
-
--- no function is meant
-abbrev pub LacksCalled : (name : List ℕ) → Contents → Error → Type 0
-LacksCalled name m e = IfNotFound (meant name m ≡ None) e
-
--- the index, or a refusal with its cause: the bytes aren't accepted, or no function is meant, or its index has more than 32 bits
-abbrev pub AnswersFound : Config → (bytes name : List ℕ) → Result ℕ Error → Type 0
-AnswersFound c bytes name result = Answers c bytes (IsFound c bytes name) ((function : ℕ) × IsFound c bytes name function × (2 ^ 32 ≤ function)) (RefusesEdit (LacksCalled name) c bytes) result

@@ -1,4 +1,7 @@
+pub mod Alone
+pub mod AloneSteps
 pub mod Beginnings
+pub mod Callers
 pub mod Choice
 pub mod ChosenModule
 pub mod Count
@@ -19,8 +22,11 @@ pub mod FunctionList
 pub mod FunctionMeaning
 pub mod FunctionNames
 pub mod ImportList
+pub mod ItemMeaning
 pub mod KeptExports
 pub mod Kinds
+pub mod LinkSteps
+pub mod Links
 pub mod ListAnswers
 pub mod ListSection
 pub mod ListSteps
@@ -34,7 +40,11 @@ pub mod PartList
 pub mod PartSteps
 pub mod Parts
 pub mod PlacesSection
+pub mod ReasonAnswers
+pub mod ReasonBytes
+pub mod ReasonSteps
 pub mod Reasons
+pub mod RootSteps
 pub mod Sections
 pub mod Snip
 pub mod SnipAnswers

@@ -23,7 +23,7 @@ use Rattle.walrus_tools.specs.Edits.{AnswersEdited, RefusesEdit, with_customs}
 use Rattle.walrus_tools.specs.Ends.{Answers, IfNotFound}
 use Rattle.walrus_tools.specs.FunctionNames.{LacksCalled, meant}
 use Rattle.walrus_tools.specs.Measures.{IsMeasured, IsSame}
-use Rattle.walrus_tools.specs.declared.tool.why.Chain.{Chain}
+use Rattle.walrus_tools.specs.declared.lines.Chain.{Chain}
 
 -- ---- the text
 
@@ -84,53 +84,11 @@ abbrev pub AnswersReason : Config → (bytes : List ℕ) → (function : ℕ) �
 AnswersReason c bytes function (Ok text) = IsReason c bytes function (string_bytes text)
 AnswersReason c bytes function (Err e) = AnswersEdited IsSame (LacksFunction function) c bytes (Err e)
 
--- ---- from bytes to the chain
+-- ---- of what a module holds
 
 -- what an answer holds: a chain, or none
 abbrev pub chain_seen : Chain → Option (List Item)
 chain_seen answer = option_map items_in answer.links
-
--- the answer is of this item, and holds this chain
-abbrev pub HoldsChain : Chain → Item → Option (List Item) → Type 0
-HoldsChain answer x chain = (item_of answer.item ≡ x) × (chain_seen answer ≡ chain)
-
--- the bytes of an answer are the text of this chain to this item
-abbrev pub WritesChain : Vec ℕ → Item → Option (List Item) → Type 0
-WritesChain text x chain = text.items ≡ chain_text x chain
-
--- the bytes are those of a module with this function, to which this chain leads, or none
-pub record IsChain (c : Config) (bytes : List ℕ) (function : ℕ) (chain : Option (List Item)) : Type 0 where
-  pub customs : List Custom
-  pub module_parsed : Contents
-  pub parsed : IsParsed c bytes (with_customs customs module_parsed)
-  pub there : IsSome (item_at (functions module_parsed.funcs) function)
-  pub explains : Explains (with_customs customs module_parsed) (function_item function) chain
-
--- such a chain is told so
-pub record TellsChain (c : Config) (bytes : List ℕ) (function : ℕ) (Tells : Item → Option (List Item) → Type 0) : Type 0 where
-  pub chain : Option (List Item)
-  pub leads : IsChain c bytes function chain
-  pub told : Tells (function_item function) chain
-
--- a chain to the function of this index, told so, or a refusal with its cause: the bytes aren't accepted, or there is no such function
-abbrev pub AnswersChain : {X : Type 0} → Config → (bytes : List ℕ) → (function : ℕ) → (X → Item → Option (List Item) → Type 0) → Result X Error → Type 0
-AnswersChain c bytes function Tells result = Answers c bytes (λ x. TellsChain c bytes function (Tells x)) ⊥ (RefusesEdit (LacksFunction function) c bytes) result
-
--- a chain to the function that is meant by this name is told so
-pub record TellsCalled (c : Config) (bytes name : List ℕ) (Tells : Item → Option (List Item) → Type 0) : Type 0 where
-  pub function : ℕ
-  pub tells : TellsChain c bytes function Tells
-  pub is : meant name tells.leads.module_parsed ≡ Some function
-
--- such a chain, told so, or a refusal with its cause: the bytes aren't accepted, or no function is meant
-abbrev pub AnswersChainCalled : {X : Type 0} → Config → (bytes name : List ℕ) → (X → Item → Option (List Item) → Type 0) → Result X Error → Type 0
-AnswersChainCalled c bytes name Tells result = Answers c bytes (λ x. TellsCalled c bytes name (Tells x)) ⊥ (RefusesEdit (LacksCalled name) c bytes) result
-
--- ---- of what a module holds
-
--- the answer is of this item, to which its chain leads, or none does
-abbrev pub ExplainsIn : Abstract → Item → Chain → Type 0
-ExplainsIn v x answer = (item_of answer.item ≡ x) × Explains v x (chain_seen answer)
 
 -- the function of this index, or that there is none
 abbrev pub FindsFunction : List (Option FunctionValue) → ℕ → Result (Id FunctionKey) Error → Type 0

@@ -6,11 +6,20 @@ ghost use Rattle.walrus_code.specs.Code.{item_of};
 ghost use Rattle.walrus_items.specs.Transform.{range_of, transform_of};
 ghost use Rattle.walrus_tools.specs.Reasons.{chain_seen, chain_text, item_line, item_text, report_text, size_line, size_text, word_of};
 
-use crate::tool::why::Chain;
 use std::alloc::{AllocError, Global};
 use std::ops::Range;
 use std::result;
 use walrus::{CodeTransform, FunctionId, ItemId};
+
+/// Why an item stays where what nothing reaches goes. Its ids are those of the module that was read, whose indices are the ones in the bytes.
+#[derive(Drop)]
+pub struct Chain {
+    /// The item.
+    pub item: ItemId,
+    /// The items of a chain of references that leads to it: a root first, each refers to the next, and the item is the last. None where it
+    /// isn't reached.
+    pub links: Option<Vec<ItemId>>,
+}
 
 /// The lines of the chain, or the one that the item isn't reached, and then those of the functions.
 pub(crate) fn report(

@@ -17,7 +17,7 @@ use walrus::{
 };
 
 // A function of the type of this one and with its parameters, which traps.
-fn trap_of(alloc: Global, old: &LocalFunction) -> Result<LocalFunction>
+pub(crate) fn trap_of(alloc: Global, old: &LocalFunction) -> Result<LocalFunction>
     ensures { MatchResult result (IsTrapOf old.now) (λ e. e ≡ out_of_memory) }
 {
     let args = old.args(alloc)?;

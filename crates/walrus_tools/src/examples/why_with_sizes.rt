@@ -4,8 +4,7 @@ ghost use Rattle.walrus_module.specs.Flags.{config_of, defaults};
 ghost use Rattle.walrus_tools.specs.Reasons.{AnswersReason};
 
 use crate::functions::function_at;
-use crate::lines::report;
-use crate::tool::why::Chain;
+use crate::lines::{Chain, report};
 use std::alloc::Global;
 use walrus::passes::gc;
 use walrus::passes::why::chain_to;

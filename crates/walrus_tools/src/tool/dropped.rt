@@ -45,7 +45,8 @@ fn add_dropped(
         index: function.index,
         size: function.size,
         name,
-    })
+    })?;
+    Ok(())
 }
 
 // The functions among these parts that don't stay.

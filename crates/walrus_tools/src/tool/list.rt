@@ -111,8 +111,8 @@ pub fn list(
 
 // ---- the list as bytes
 
-// Puts the length of the name and the name behind the bytes, or what says that there is none.
-fn add_name(to: &mut Vec<u8>, name: &Option<String>) -> Result<()>
+/// Puts the length of the name and the name behind the bytes, or what says that there is none.
+pub(crate) fn add_name(to: &mut Vec<u8>, name: &Option<String>) -> Result<()>
     ensures value { OnOk result (to.new.items ≡ to.old.items
         ++ name_bytes (option_to_list (text_of name.now))) }
     ensures fits { OnOk result (IsLongName (option_to_list (text_of name.now)) → ⊥) }
