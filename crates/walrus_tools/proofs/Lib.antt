@@ -8,6 +8,7 @@ mod ChoiceLists
 mod Choosers
 mod ChosenEnds
 mod ChosenImports
+mod ChosenListed
 mod Closures
 mod CountEnds
 mod CountRead
@@ -36,6 +37,7 @@ mod MatchingEnds
 mod MeantLemmas
 mod MeantTexts
 mod MeantThere
+mod MeasuredEnds
 mod MetadataEnds
 mod MovesEnds
 mod MovesOnce
@@ -53,6 +55,7 @@ mod PlacedEnds
 mod PlacedOps
 mod PlacedSlots
 mod Places
+pub use Rattle.walrus.proofs.DeviceLemmas
 mod ReadBodies
 mod ReasonEnds
 pub mod Records
@@ -63,13 +66,15 @@ mod SizeEnds
 mod SizeLemmas
 mod SnipCall
 mod SnipStep
+mod SpelledEnds
+mod Spellings
 mod Stars
 mod StripLemmas
 mod StubCall
 mod StubStep
 mod StubTurn
+mod ThoseLemmas
 mod TrapBody
 mod TrapSound
 mod TrapTurn
 mod TrapWhole
-pub use Rattle.walrus.proofs.DeviceLemmas
