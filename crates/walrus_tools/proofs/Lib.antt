@@ -55,7 +55,6 @@ mod PlacedEnds
 mod PlacedOps
 mod PlacedSlots
 mod Places
-pub use Rattle.walrus.proofs.DeviceLemmas
 mod ReadBodies
 mod ReasonEnds
 pub mod Records
@@ -78,3 +77,4 @@ mod TrapBody
 mod TrapSound
 mod TrapTurn
 mod TrapWhole
+pub use Rattle.walrus.proofs.DeviceLemmas
