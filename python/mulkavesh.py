@@ -2,6 +2,7 @@
 
     import mulkavesh
     smaller = mulkavesh.gc(module)
+    smallest = mulkavesh.gc(module, keep=["main", "wasi_*"])
 
 Each function is a call of the shared library libmulkavesh.so, goes from the bytes of a module to bytes, a text or a list, and keeps
 nothing. The library is looked for as this file is imported: in the folder that the environment variable MULKAVESH_LIB names; where that
@@ -12,8 +13,13 @@ first, so that nothing can change them during the call. Other threads go on mean
 a process with threads no call may be made (`multiprocessing` with the start method "fork").
 
 Each call with a module raises `InvalidModule` where the bytes are no module that keeps the rules, with what is wrong as its `fault`;
-`TooLarge` where what is to be written has a count or a size past 32 bits; and `MemoryError`. `strip`, `why`, `snip` and `stub` also raise
+`TooLarge` where what is to be written has a count or a size past 32 bits; and `MemoryError`. `strip`, `why`, `callers`, `snip` and `stub` also raise
 `NotFound`. `diagnose` never raises `InvalidModule`: it answers the fault; `strip` and `sections` look at the framing alone, and `parts` at no rule.
+
+Exports are chosen by `keep` and `drop`, each a NAME or several: `gc`, `report`, `list_functions`, `dropped`, `exports`, `imports`, `why` and `callers` take them.
+Where `keep` has any, the exports go that none of these fits, and then those that one of `drop` fits; the start function and segments that aren't
+passive keep what they reach all the same. In a NAME `*` stands for any bytes, also for none, and `\\*` for a star. A NAME that fits no export of
+the module is `NotFound`, as its `name`.
 """
 import ctypes
 import ctypes.util
@@ -23,15 +29,17 @@ import os
 import pathlib
 import struct
 from dataclasses import dataclass
-from typing import Any, Dict, Iterable, Iterator, List, Optional, Tuple, Type, Union
+from typing import Any, Dict, Iterable, Iterator, List, Optional, Sequence, Tuple, Type, Union
 
 __all__ = [
-    "Beginning", "Fault", "FaultKind", "Function", "InvalidModule", "Item", "MulkaveshError", "NotFound", "Rule", "Section", "Sections", "TooLarge",
-    "diagnose", "gc", "list_functions", "parts", "report", "sections", "snip", "strip", "stub", "version", "why",
+    "Alone", "Beginning", "Counts", "Export", "Fault", "FaultKind", "Function", "Import", "InvalidModule", "Item", "Link", "MulkaveshError", "NotFound", "Reason",
+    "Report", "Root", "Rule", "Section", "Sections", "Sizes", "TooLarge", "callers", "diagnose", "dropped", "exports", "gc", "imports", "list_functions", "parts",
+    "report", "sections", "snip", "strip", "stub", "version", "why",
 ]
 
 Bytes = Union[bytes, bytearray, memoryview]
 Name = Union[str, Bytes]
+Names = Union[Name, Iterable[Name]]
 
 
 class Status(enum.IntEnum):
@@ -67,18 +75,134 @@ class TooLarge(MulkaveshError):
 
 
 class NotFound(MulkaveshError):
-    """There is nothing of this name or index that the call could work on."""
+    """There is nothing of this name or index that the call could work on.
+
+    `name` is the first NAME of `keep` and then of `drop` that fits no export, where one does; else None.
+    """
+
+    def __init__(self, text: str = "", name: Optional[Name] = None) -> None:
+        super().__init__(text)
+        self.name = name
 
 
 @dataclass(frozen=True)
 class Function:
-    """A function with a body that `gc` keeps: its index in the input, the bytes of its body in the output, and its name as the input's name
-    section has it, or None.
+    """A function with a body: its index in the input, where imported functions have the first ones; the bytes of its body, in the output where `gc`
+    keeps it, and in the input where `gc` drops it; and its name as the input's name section has it, or None.
     """
 
     index: int
     size: int
     name: Optional[str]
+
+
+@dataclass(frozen=True)
+class Export:
+    """An export that stays: the kind of its item, as `function`, `table`, `memory`, `global` or `tag`, the index of that in the input, and the name of
+    the export.
+    """
+
+    kind: str
+    index: int
+    name: str
+
+
+@dataclass(frozen=True)
+class Import:
+    """An import that stays: the kind of its item, as of an `Export`, the index of that in the input, and the names of the module and of the import."""
+
+    kind: str
+    index: int
+    module: str
+    name: str
+
+
+@dataclass(frozen=True)
+class Counts:
+    """How many items of a kind `gc` keeps, and how many it drops."""
+
+    kept: int
+    dropped: int
+
+
+@dataclass(frozen=True)
+class Sizes:
+    """How many bytes `gc` reads and writes; how many the bodies of functions that it drops have in the input, and how many custom sections of debug
+    information (`.debug*`), which all go.
+    """
+
+    read: int
+    written: int
+    dropped: int
+    debug: int
+
+    @property
+    def rest(self) -> int:
+        """By how many bytes the rest of the input became less; below 0 where it became more. Functions stand by falling size in the output, so that
+        indices may take more bytes there.
+        """
+        return self.read - self.dropped - self.debug - self.written
+
+
+@dataclass(frozen=True)
+class Report:
+    """What `gc` keeps and drops: of each kind of items, imported ones among them, and of bytes."""
+
+    functions: Counts
+    tables: Counts
+    memories: Counts
+    tags: Counts
+    globals: Counts
+    elements: Counts
+    data: Counts
+    bytes: Sizes
+
+
+class Root(enum.IntEnum):
+    """What makes an item stay by itself, the first of these that does: that it is exported, the start function, an active segment or a declared one."""
+
+    EXPORTED = 1
+    START = 2
+    ACTIVE = 3
+    DECLARED = 4
+
+
+@dataclass(frozen=True)
+class Link:
+    """An item that stays: its kind, as `function`, `table`, `memory`, `tag`, `global`, `element`, `data` or `type`, and its index in the input; the bytes
+    of its body in the output, of a function with a body, or None; its name as the input's name section has it, or None; and the names under which it is
+    exported, of the exports that stay.
+    """
+
+    kind: str
+    index: int
+    size: Optional[int]
+    name: Optional[str]
+    exports: Tuple[str, ...]
+
+
+@dataclass(frozen=True)
+class Alone:
+    """What a function keeps alone, itself among it: how many functions stay that wouldn't if its body trapped, and how many bytes their bodies have in
+    the output.
+    """
+
+    functions: int
+    bytes: int
+
+
+@dataclass(frozen=True)
+class Reason:
+    """Why an item stays, or that it doesn't: its kind and its index in the input; a chain of references that leads to it, where a root is the first
+    link and the item the last, or no links where it isn't reached; what makes the first one a root, or None; and, of a function with a body that stays,
+    what it keeps alone.
+    """
+
+    kind: str
+    index: int
+    links: Tuple[Link, ...]
+    root: Optional[Root]
+    alone: Optional[Alone]
 
 
 # What the standard calls the sections of each id.
@@ -224,18 +348,23 @@ _LIBRARY = "libmulkavesh.so"
 _VERSION = (0, 1)
 _READ = (ctypes.c_char_p, ctypes.c_size_t)
 _WRITTEN = (ctypes.c_void_p, ctypes.c_size_t, ctypes.POINTER(ctypes.c_size_t))
+_FLAGS = (ctypes.c_uint32,)
 # What each call takes between the module that it reads and the room that it writes.
 _BETWEEN: Dict[str, Tuple[Any, ...]] = {
-    "gc": (ctypes.c_uint32,),
-    "report": (ctypes.c_uint32,),
-    "diagnose": (ctypes.c_uint32,),
-    "list": (ctypes.c_uint32,),
+    "gc": (*_FLAGS, *_READ),
+    "report": (*_FLAGS, *_READ),
+    "list": (*_FLAGS, *_READ),
+    "dropped": (*_FLAGS, *_READ),
+    "exports": (*_FLAGS, *_READ),
+    "imports": (*_FLAGS, *_READ),
+    "why": (*_FLAGS, *_READ, *_READ),
+    "callers": (*_FLAGS, *_READ, *_READ),
+    "snip": (*_FLAGS, *_READ),
+    "stub": (*_FLAGS, *_READ, *_READ),
+    "diagnose": _FLAGS,
     "sections": (),
     "parts": (),
     "strip": _READ,
-    "why": (ctypes.c_uint32,),
-    "snip": _READ,
-    "stub": _READ,
 }
 
 
@@ -283,23 +412,28 @@ _library = _loaded()
 
 # A smaller module, or a list, is seldom longer than the input by more.
 _MARGIN = 256
-# Seven lines of a word and two numbers of ten digits are shorter, and some two hundred lines of a chain.
-_ROOM_OF_A_REPORT, _ROOM_OF_A_CHAIN = 512, 4096
+# A dozen lines of a few words and two numbers are shorter, and some hundred links of a chain.
+_ROOM_OF_A_REPORT, _ROOM_OF_A_CHAIN = 1024, 4096
 # Few modules have more than some forty sections.
 _ROOM_OF_SECTIONS = 1024
 # What is wrong, and the place, the rule or the index.
 _FAULT = struct.Struct("<II")
 # The flags.
 _NO_NAMES, _NO_PRODUCERS, _NO_LEGACY = 1, 2, 4
-# The numbers in front of each name in a list, and what stands there for the length of a name that isn't there.
+# The numbers in front of each name in a list, and what stands there for the length of a name, or for a size, that isn't there.
 _ENTRY, _NO_NAME = struct.Struct("<III"), 2**32 - 1
+# What stands in front of the names of an export or an import; in front of a text; and in front of a reason and of the name of a link.
+_EXTERN, _LENGTH, _REASON, _LINK = struct.Struct("<BI"), struct.Struct("<I"), struct.Struct("<BIB?II"), struct.Struct("<BIII")
+# The kinds of items by the numbers of links, and by those of exports and imports.
+_OF_LINKS = ("type", "function", "table", "memory", "tag", "global", "element", "data")
+_OF_EXTERNS = ("function", "table", "memory", "global", "tag")
 # What stands in front of all sections, and in front of the name of each.
 _FRAMING, _SECTION = struct.Struct("<?I"), struct.Struct("<B?IIII")
 # What is told in place of the number of a section that isn't one.
 _FUNCTION = 138
 _SEGMENT = 139
 _ITEMS = {_FUNCTION: "function", _SEGMENT: "data"}
-# What stands in front of each name in a choice of sections: whether those that it fits stay after all, and its length.
+# What stands in front of each NAME in a list: whether what it fits stays, and its length.
 _CHOSEN = struct.Struct("<?I")
 _INVALID = "the input is no module that keeps the rules"
 _REFUSALS: Dict[int, Tuple[Type[Exception], str]] = {
@@ -350,9 +484,11 @@ def _invalid(data: bytes, legacy: bool) -> InvalidModule:
     return InvalidModule(_INVALID, _fault_of(told) if status == Status.DONE else None)
 
 
-def _answer(call: str, module: Bytes, *words: Any, room: int = 0, missing: str = "", legacy: bool = True) -> bytes:
-    """What a call answers: in a guessed room, and again in more until that suffices. `missing` says what wasn't found, and `legacy` whether
-    the call takes legacy exceptions.
+def _answer(
+    call: str, module: Bytes, *words: Any, room: int = 0, missing: str = "", legacy: bool = True, roots: Sequence[Name] = ()
+) -> bytes:
+    """What a call answers: in a guessed room, and again in more until that suffices. `missing` says what wasn't found, but for one of the NAMEs
+    `roots` whose number is told; and `legacy` says whether the call takes legacy exceptions.
     """
     data = _whole(module)
     status, output, length = _tried(call, data, words, room or len(data) + _MARGIN)
@@ -363,10 +499,27 @@ def _answer(call: str, module: Bytes, *words: Any, room: int = 0, missing: str =
     if status == Status.INVALID:
         del output
         raise _invalid(data, legacy)
+    if status == Status.NOT_FOUND and length < len(roots):
+        raise NotFound(f"no export fits {roots[length]!r}", roots[length])
     if status == Status.NOT_FOUND:
         raise NotFound(missing)
     kind, text = _REFUSALS.get(status, (MulkaveshError, f"the library answered status {status}"))
     raise kind(text)
+
+
+def _list(*names: Tuple[Sequence[Name], bool]) -> bytes:
+    """A list of NAMEs, of which some say what stays, and the others what goes."""
+    return b"".join(_chosen(name, stays) for some, stays in names for name in some)
+
+
+def _under_roots(
+    call: str, module: Bytes, flags: int, roots: Tuple[Names, Names], function: Optional[bytes] = None, *, room: int = 0, missing: str = ""
+) -> bytes:
+    """What a call answers under a choice of exports, by the NAMEs of those that are kept and of those that are dropped."""
+    keep, drop = map(_several, roots)
+    choice = _list((keep, True), (drop, False))
+    words = (flags, choice, len(choice), *(() if function is None else (function, len(function))))
+    return _answer(call, module, *words, room=room, missing=missing, legacy=not flags & _NO_LEGACY, roots=[*keep, *drop])
 
 
 def _entries(listed: bytes, at: int, entry: struct.Struct) -> Iterator[Tuple[Any, ...]]:
@@ -377,6 +530,57 @@ def _entries(listed: bytes, at: int, entry: struct.Struct) -> Iterator[Tuple[Any
         end = at if length == _NO_NAME else at + length
         yield (*numbers, None if length == _NO_NAME else listed[at:end].decode())
         at = end
+
+
+def _text(told: bytes, at: int) -> Tuple[str, int]:
+    """The text behind its length at a place, and the place behind it."""
+    (length,) = _LENGTH.unpack_from(told, at)
+    start = at + _LENGTH.size
+    return told[start : start + length].decode(), start + length
+
+
+def _texts(told: bytes, at: int, count: int) -> Tuple[Tuple[str, ...], int]:
+    """So many texts at a place, and the place behind them."""
+    found = []
+    for _ in range(count):
+        text, at = _text(told, at)
+        found.append(text)
+    return tuple(found), at
+
+
+def _externs(told: bytes, count: int) -> Iterator[Tuple[Any, ...]]:
+    """What stands in a list of exports or imports, each with so many names: the kind, the index, and the names."""
+    at = 0
+    while at < len(told):
+        kind, index = _EXTERN.unpack_from(told, at)
+        names, at = _texts(told, at + _EXTERN.size, count)
+        yield (_OF_EXTERNS[kind], index, *names)
+
+
+def _links(told: bytes, at: int) -> Iterator[Link]:
+    """The links that the library tells, from a place on."""
+    while at < len(told):
+        kind, index, size, length = _LINK.unpack_from(told, at)
+        start = at + _LINK.size
+        at = start if length == _NO_NAME else start + length
+        name = None if length == _NO_NAME else told[start:at].decode()
+        (count,) = _LENGTH.unpack_from(told, at)
+        exported, at = _texts(told, at + _LENGTH.size, count)
+        yield Link(_OF_LINKS[kind], index, None if size == _NO_NAME else size, name, exported)
+
+
+def _reason(told: bytes) -> Reason:
+    """The reason that the library tells."""
+    kind, index, root, is_alone, functions, size = _REASON.unpack_from(told)
+    links = tuple(_links(told, _REASON.size))
+    return Reason(_OF_LINKS[kind], index, links, Root(root) if root else None, Alone(functions, size) if is_alone else None)
+
+
+def _report(lines: str) -> Report:
+    """What the lines say that the library tells: seven of items, and three of bytes in front of what follows from them."""
+    numbers = [[int(word) for word in line.split() if word.isdigit()] for line in lines.splitlines()]
+    (read, written), (lost,), (debug,) = numbers[7:10]
+    return Report(*(Counts(kept, gone) for kept, gone in numbers[:7]), bytes=Sizes(read, written, lost, debug))
 
 
 def _sections(told: bytes) -> Sections:
@@ -393,11 +597,31 @@ def _part(told: Section) -> Union[Section, Item]:
 
 
 def _chosen(name: Name, stays: bool) -> bytes:
-    """The part of a choice that says that the sections which this name fits go, or that they stay after all."""
+    """The part of a list that says that what this NAME fits goes, or that it stays."""
     word = _bytes_of(name)
     if len(word) >= 2**32:
         raise TooLarge("the length of a name passes 32 bits")
     return _CHOSEN.pack(stays, len(word)) + word
+
+
+def _several(names: Names) -> List[Name]:
+    """The NAMEs, of which one may stand alone."""
+    return [names] if isinstance(names, (str, bytes, bytearray, memoryview)) else list(names)
+
+
+def _function(function: Union[int, Name]) -> bytes:
+    """The text that means a function: of an index its digits."""
+    if isinstance(function, (str, bytes, bytearray, memoryview)):
+        return _bytes_of(function)
+    index = operator.index(function)
+    if not 0 <= index < 2**32:
+        raise ValueError(f"{index} is no index of a function: those are 0 to 2**32 - 1")
+    return b"%d" % index
+
+
+def _fits(what: str, names: Sequence[Any]) -> str:
+    """What is said where nothing fits one of these NAMEs."""
+    return f"{what} {'' if len(names) == 1 else 'one of '}{', '.join(map(repr, names))}"
 
 
 # ---- the calls
@@ -408,17 +632,19 @@ def version() -> Tuple[int, int, int]:
     return _version_of(_library)
 
 
-def gc(module: Bytes, *, names: bool = True, producers: bool = True, legacy: bool = True) -> bytes:
-    """The module without what nothing reaches: the bytes that the program walrus-gc writes.
+def gc(module: Bytes, *, keep: Names = (), drop: Names = (), names: bool = True, producers: bool = True, legacy: bool = True) -> bytes:
+    """The module of which the chosen exports are left, without what nothing reaches then.
 
-    Where `names` or `producers` is false, none are written; where `legacy` is false, bodies with legacy exceptions are refused.
+    Where `names` or `producers` is false, none are written; where `legacy` is false, bodies with legacy exceptions are refused. `NotFound` where a NAME of
+    `keep` or `drop` fits no export.
     """
-    return _answer("gc", module, _flags(names, producers, legacy), legacy=legacy)
+    return _under_roots("gc", module, _flags(names, producers, legacy), (keep, drop))
 
 
-def report(module: Bytes, *, legacy: bool = True) -> str:
-    """How many items of each kind `gc` keeps and drops, in seven lines as `functions kept 19 dropped 1`. Imported ones count too."""
-    return _answer("report", module, _flags(True, True, legacy), room=_ROOM_OF_A_REPORT, legacy=legacy).decode()
+def report(module: Bytes, *, keep: Names = (), drop: Names = (), names: bool = True, producers: bool = True, legacy: bool = True) -> Report:
+    """How many items of each kind, imported ones among them, and how many bytes `gc` keeps and drops where it is asked the same."""
+    flags = _flags(names, producers, legacy)
+    return _report(_under_roots("report", module, flags, (keep, drop), room=_ROOM_OF_A_REPORT).decode())
 
 
 def diagnose(module: Bytes, *, legacy: bool = True) -> Optional[Fault]:
@@ -429,10 +655,26 @@ def diagnose(module: Bytes, *, legacy: bool = True) -> Optional[Fault]:
     return _fault_of(_answer("diagnose", module, _flags(True, True, legacy), room=_FAULT.size))
 
 
-def list_functions(module: Bytes, *, legacy: bool = True) -> List[Function]:
+def list_functions(module: Bytes, *, keep: Names = (), drop: Names = (), legacy: bool = True) -> List[Function]:
     """The functions with a body that `gc` keeps, by rising index."""
-    listed = _answer("list", module, _flags(True, True, legacy), legacy=legacy)
+    listed = _under_roots("list", module, _flags(True, True, legacy), (keep, drop))
     return [Function(*entry) for entry in _entries(listed, 0, _ENTRY)]
+
+
+def dropped(module: Bytes, *, keep: Names = (), drop: Names = (), legacy: bool = True) -> List[Function]:
+    """The functions with a body that `gc` drops, by rising index, with the bytes that each has in the input."""
+    listed = _under_roots("dropped", module, _flags(True, True, legacy), (keep, drop))
+    return [Function(*entry) for entry in _entries(listed, 0, _ENTRY)]
+
+
+def exports(module: Bytes, *, keep: Names = (), drop: Names = (), legacy: bool = True) -> List[Export]:
+    """The exports that stay, in the order of the input."""
+    return [Export(*entry) for entry in _externs(_under_roots("exports", module, _flags(True, True, legacy), (keep, drop)), 1)]
+
+
+def imports(module: Bytes, *, keep: Names = (), drop: Names = (), legacy: bool = True) -> List[Import]:
+    """The imports that `gc` keeps, in the order of the input."""
+    return [Import(*entry) for entry in _externs(_under_roots("imports", module, _flags(True, True, legacy), (keep, drop)), 2)]
 
 
 def sections(module: Bytes) -> Sections:
@@ -453,7 +695,7 @@ def parts(module: Bytes) -> List[Union[Section, Item]]:
     return [_part(it) for it in _sections(_answer("parts", module, room=len(module) // 4 + _ROOM_OF_SECTIONS)).sections]
 
 
-def strip(module: Bytes, *names: Name, keep: Union[Name, Iterable[Name]] = ()) -> bytes:
+def strip(module: Bytes, *names: Name, keep: Names = ()) -> bytes:
     """The module without the custom sections whose names fit one of `names` and none of `keep`. All else is as it stands, byte for byte.
 
     In these `*` stands for any bytes, also for none, and `\\*` for a star. Debug information (`.debug*`), names (`name`) and producers
@@ -462,39 +704,49 @@ def strip(module: Bytes, *names: Name, keep: Union[Name, Iterable[Name]] = ()) -
 
     `NotFound` where one of `names` fits no custom section; `InvalidModule` exactly where the bytes aren't a header and whole sections.
     """
-    stay = [keep] if isinstance(keep, (str, bytes, bytearray, memoryview)) else keep
-    choice = b"".join([*(_chosen(name, False) for name in names), *(_chosen(name, True) for name in stay)])
-    missing = f"no custom section fits {'' if len(names) == 1 else 'one of '}{', '.join(map(repr, names))}"
-    return _answer("strip", module, choice, len(choice), missing=missing)
+    choice = _list((names, False), (_several(keep), True))
+    return _answer("strip", module, choice, len(choice), missing=_fits("no custom section fits", names))
 
 
-def why(module: Bytes, function: int) -> str:
-    """Why `gc` keeps the function of this index in the input: a line for each item of a chain of references that leads to it, a root
-    first, as `function 3`; or the line `function 3 isn't reached`. Which chain it is isn't promised.
+def why(module: Bytes, function: Union[int, Name], *, keep: Names = (), drop: Names = (), legacy: bool = True) -> Reason:
+    """Why `gc` keeps a function, or another item that is exported: a chain of references that leads to it, and what would go with it.
 
-    `NotFound` where the module has no function of this index, `ValueError` where the index isn't 0 to 2**32 - 1.
+    `function` is the index of a function in the input, as a number or in decimal; or else the name of one, of which the first is meant; or else that of
+    an export, and then its item is meant. Which chain it is isn't promised.
+
+    `NotFound` where it means nothing, `ValueError` where a number isn't 0 to 2**32 - 1.
     """
-    index = operator.index(function)
-    if not 0 <= index < 2**32:
-        raise ValueError(f"{index} is no index of a function: those are 0 to 2**32 - 1")
-    return _answer("why", module, index, room=_ROOM_OF_A_CHAIN, missing=f"the module has no function {index}").decode()
+    flags, missing = _flags(True, True, legacy), f"the module has no function or export {function!r}"
+    return _reason(_under_roots("why", module, flags, (keep, drop), _function(function), room=_ROOM_OF_A_CHAIN, missing=missing))
 
 
-def snip(module: Bytes, name: Name) -> bytes:
-    """The module where the function that is exported under this name is replaced by one that traps, without what nothing reaches then. The old
-    function stays where calls, tables or further exports reach it.
-
-    `NotFound` where no function is exported under the name, or where that one is imported or is exported under another name before.
+def callers(module: Bytes, function: Union[int, Name], *, keep: Names = (), drop: Names = (), legacy: bool = True) -> List[Link]:
+    """What stays and refers directly to a function, or to another item that is exported, by kind and index. What `function` means, `why` says, and
+    what is refused.
     """
-    word = _bytes_of(name)
-    return _answer("snip", module, word, len(word), missing=f"no function is exported as {name!r} that could be replaced")
+    flags, missing = _flags(True, True, legacy), f"the module has no function or export {function!r}"
+    return [*_links(_under_roots("callers", module, flags, (keep, drop), _function(function), room=_ROOM_OF_A_CHAIN, missing=missing), 0)]
 
 
-def stub(module: Bytes, from_module: Name) -> bytes:
-    """The module where each function that was imported from the module of this name is one of its own, which traps, without what nothing
-    reaches then. What it answers where no function is imported from such a module is no promise.
+def snip(module: Bytes, *functions: Union[int, Name], names: bool = True, producers: bool = True, legacy: bool = True) -> bytes:
+    """The module where these functions trap, whoever calls them, without what nothing reaches then.
 
-    `NotFound` where the name isn't UTF-8, as the name of a module is.
+    Each is the index of a function, as a number or in decimal; or, with a `*` in it, a NAME, which means each function with a body whose name it fits, or
+    the name of one of whose exports; or the name of a function, of which the first is meant; or else that of an export of one.
+
+    `NotFound` where one means no function, or an imported one; `ValueError` where a number isn't 0 to 2**32 - 1.
     """
-    word = _bytes_of(from_module)
-    return _answer("stub", module, word, len(word), missing=f"{from_module!r} is no name of a module, since it isn't UTF-8")
+    flags, choice = _flags(names, producers, legacy), _list(([_function(it) for it in functions], False))
+    return _answer("snip", module, flags, choice, len(choice), missing=_fits("no function with a body is meant by", functions), legacy=legacy)
+
+
+def stub(module: Bytes, *modules: Name, imports: Names = (), names: bool = True, producers: bool = True, legacy: bool = True) -> bytes:
+    """The module where functions that were imported are its own ones, which trap, without what nothing reaches then: those from a module that one of
+    `modules` fits, and under a name that one of `imports` fits, or under any where there are none. In these `*` stands for any bytes, and `\\*` for a star.
+
+    `NotFound` where no function is imported so.
+    """
+    flags, some = _flags(names, producers, legacy), _several(imports)
+    chosen, named = _list((modules, False)), _list((some, False))
+    missing = _fits("no function is imported from", modules) + (_fits(" as", some) if some else "")
+    return _answer("stub", module, flags, chosen, len(chosen), named, len(named), missing=missing, legacy=legacy)

@@ -22,7 +22,10 @@ from unittest import mock
 
 import mulkavesh
 import packing
-from mulkavesh import Beginning, Fault, FaultKind, Function, InvalidModule, Item, MulkaveshError, NotFound, Rule, Section, Sections, TooLarge
+from mulkavesh import (
+    Alone, Beginning, Counts, Export, Fault, FaultKind, Function, Import, InvalidModule, Item, Link, MulkaveshError, NotFound, Reason, Report, Root, Rule, Section,
+    Sections, Sizes, TooLarge,
+)
 from tests import worked
 
 HERE = pathlib.Path(__file__).resolve().parent.parent
@@ -33,12 +36,29 @@ CALLS: Dict[str, Callable[[Any], Any]] = {
     "report": mulkavesh.report,
     "diagnose": mulkavesh.diagnose,
     "list": mulkavesh.list_functions,
+    "dropped": mulkavesh.dropped,
+    "exports": mulkavesh.exports,
+    "imports": mulkavesh.imports,
     "sections": mulkavesh.sections,
     "parts": mulkavesh.parts,
     "strip": lambda module: mulkavesh.strip(module, "a"),
     "why": lambda module: mulkavesh.why(module, 0),
+    "callers": lambda module: mulkavesh.callers(module, 0),
     "snip": lambda module: mulkavesh.snip(module, "a"),
     "stub": lambda module: mulkavesh.stub(module, "env"),
+}
+
+
+# Those that take a choice of exports.
+CHOSEN: Dict[str, Callable[..., Any]] = {
+    "gc": mulkavesh.gc,
+    "report": mulkavesh.report,
+    "list": mulkavesh.list_functions,
+    "dropped": mulkavesh.dropped,
+    "exports": mulkavesh.exports,
+    "imports": mulkavesh.imports,
+    "why": lambda module, **choice: mulkavesh.why(module, 0, **choice),
+    "callers": lambda module, **choice: mulkavesh.callers(module, 0, **choice),
 }
 
 
@@ -71,7 +91,17 @@ class Answers(unittest.TestCase):
         self.assertEqual(mulkavesh.gc(worked.LEGACY, names=False, producers=False), worked.LEGACY_LEFT)
 
     def test_report(self) -> None:
-        self.assertEqual(mulkavesh.report(worked.TWO), worked.REPORT)
+        none, sizes = Counts(0, 0), Sizes(36, 31, 3, 0)
+        self.assertEqual(mulkavesh.report(worked.TWO, producers=False), Report(Counts(1, 1), none, none, none, none, none, none, sizes))
+        self.assertEqual(sizes.rest, 2)
+        told = mulkavesh.report(worked.TWO).bytes
+        self.assertEqual((told.written, told.rest), (72, -39))
+        debug = bytes.fromhex("00 08 06") + b".debug" + b"\1"
+        self.assertEqual(mulkavesh.report(worked.TWO + debug, producers=False).bytes, Sizes(46, 31, 3, 10))
+        self.assertEqual(mulkavesh.report(worked.ROOTS, drop=()).elements, Counts(2, 0))
+        self.assertEqual(mulkavesh.report(worked.KINDS, keep="E"), mulkavesh.report(worked.KINDS, drop=["T", b"G", "X"]))
+        self.assertEqual(mulkavesh.report(worked.KINDS, keep="E").memories, Counts(1, 0))
+        self.assertEqual(mulkavesh.report(worked.KINDS, keep="E").tables, Counts(0, 1))
 
     def test_diagnose(self) -> None:
         self.assertIsNone(mulkavesh.diagnose(worked.TWO))
@@ -101,14 +131,43 @@ class Answers(unittest.TestCase):
         self.assertEqual(mulkavesh.list_functions(worked.TWO_NAMED), [Function(1, 2, "é")])
         self.assertEqual(mulkavesh.list_functions(worked.CALLS), [Function(0, 4, None), Function(1, 3, None)])
         self.assertEqual(mulkavesh.list_functions(worked.HEADER), [])
+        self.assertEqual(mulkavesh.list_functions(worked.CALLS, drop="a"), [])
+
+    def test_dropped(self) -> None:
+        self.assertEqual(mulkavesh.dropped(worked.TWO), [Function(0, 3, None)])
+        self.assertEqual(mulkavesh.dropped(worked.TWO_NAMED), [Function(0, 3, "g")])
+        self.assertEqual(mulkavesh.dropped(worked.CALLS), [])
+        self.assertEqual(mulkavesh.dropped(worked.CALLS, drop="*"), [Function(0, 4, None), Function(1, 3, None)])
+
+    def test_exports(self) -> None:
+        wanted = [Export("function", 0, "a"), Export("function", 0, "b"), Export("function", 1, "*")]
+        self.assertEqual(mulkavesh.exports(worked.THREE), wanted)
+        self.assertEqual(mulkavesh.exports(worked.THREE, keep=["a", r"\*"]), [wanted[0], wanted[2]])
+        self.assertEqual(mulkavesh.exports(worked.THREE, keep="*", drop=("a", "b")), wanted[2:])
+        kinds = zip(("table", "memory", "global", "tag"), "TEGX")
+        self.assertEqual(mulkavesh.exports(worked.KINDS), [Export(kind, 0, name) for kind, name in kinds])
+
+    def test_imports(self) -> None:
+        self.assertEqual(mulkavesh.imports(worked.IMPORTS), [Import("function", 0, "env", "f"), Import("function", 2, "m", "h")])
+        self.assertEqual(mulkavesh.imports(worked.IMPORTS, drop=b"a"), [])
+        kinds = zip(("table", "memory", "global", "tag"), "tegx")
+        self.assertEqual(mulkavesh.imports(worked.KINDS), [Import(kind, 0, "m", name) for kind, name in kinds])
+
+    def test_chosen_exports(self) -> None:
+        for choice in ({"keep": "a"}, {"keep": ["a"]}, {"drop": ["b", r"\*"]}, {"keep": b"*", "drop": iter(("b", r"\*"))}, {"keep": "a*"}):
+            self.assertEqual(mulkavesh.gc(worked.THREE, producers=False, **choice), worked.AS_A)  # type: ignore[arg-type]
+        self.assertEqual(mulkavesh.gc(worked.THREE, producers=False, drop="*"), worked.HEADER)
+        self.assertEqual(mulkavesh.gc(worked.THREE, producers=False, keep="a", drop="a"), worked.HEADER)
+        self.assertEqual(mulkavesh.gc(worked.THREE, keep=(), drop=[]), mulkavesh.gc(worked.THREE))
 
     def test_answers_that_need_more_room(self) -> None:
         module, wanted = worked.listed_in_more(), [Function(index, 2, None) for index in range(120)]
         self.assertGreater(12 * len(wanted), len(module) + 256)
         self.assertEqual(mulkavesh.list_functions(module), wanted)
-        chain = "".join(f"function {index}\n" for index in range(500))
-        self.assertGreater(len(chain), 4096)
-        self.assertEqual(mulkavesh.why(worked.chained(), 499), chain)
+        found = mulkavesh.why(worked.chained(), 499)
+        self.assertEqual([link.index for link in found.links], [*range(500)])
+        self.assertEqual((found.root, found.alone), (Root.EXPORTED, Alone(1, 2)))
+        self.assertEqual(len(mulkavesh.dropped(worked.chained(), drop="a")), 500)
 
     def test_sections(self) -> None:
         wanted = [Section(1, None, 8, 6, 1), Section(3, None, 14, 5, 2), Section(7, None, 19, 7, 1), Section(10, None, 26, 10, 2)]
@@ -174,21 +233,56 @@ class Answers(unittest.TestCase):
             self.assertEqual(mulkavesh.strip(worked.SECTIONS, "*", keep=name), worked.BOTH_GONE)
         for name in ("a", b"a", bytearray(b"a"), memoryview(b"a")):
             self.assertEqual(mulkavesh.snip(worked.CALLS, name), worked.SNIPPED)
+            self.assertEqual(mulkavesh.gc(worked.THREE, producers=False, keep=name), worked.AS_A)
+            self.assertEqual(mulkavesh.why(worked.CALLS, name), mulkavesh.why(worked.CALLS, 0))
+            self.assertEqual(mulkavesh.callers(worked.CALLS, name), [])
         for name in ("env", b"env", bytearray(b"env"), memoryview(b"env")):
             self.assertEqual(mulkavesh.stub(worked.IMPORTS, name), worked.STUBBED)
 
     def test_why(self) -> None:
-        self.assertEqual(mulkavesh.why(worked.TWO, 1), "function 1\n")
-        self.assertEqual(mulkavesh.why(worked.TWO, 0), "function 0 isn't reached\n")
-        self.assertEqual(mulkavesh.why(worked.CALLS, 1), "function 0\nfunction 1\n")
+        a, called = Link("function", 0, 4, None, ("a",)), Link("function", 1, 3, None, ())
+        self.assertEqual(mulkavesh.why(worked.CALLS, 1), Reason("function", 1, (a, called), Root.EXPORTED, Alone(1, 3)))
+        for function in (0, "0", "a", b"a"):
+            self.assertEqual(mulkavesh.why(worked.CALLS, function), Reason("function", 0, (a,), Root.EXPORTED, Alone(2, 7)))
+        self.assertEqual(mulkavesh.why(worked.TWO, 0), Reason("function", 0, (), None, None))
+        self.assertEqual(mulkavesh.why(worked.CALLS, 1, drop="*"), Reason("function", 1, (), None, None))
+        self.assertIsInstance(mulkavesh.why(worked.CALLS, 0).root, Root)
+
+    def test_why_by_name(self) -> None:
+        found = mulkavesh.why(worked.TWO_NAMED, "é")
+        self.assertEqual(found.links, (Link("function", 1, 2, "é", ("f",)),))
+        self.assertEqual(mulkavesh.why(worked.TWO_NAMED, "f"), found)
+        self.assertEqual(mulkavesh.why(worked.TWO_NAMED, "g"), Reason("function", 0, (), None, None))
+        for kind, name in zip(("table", "memory", "global", "tag"), "TEGX"):
+            link = Link(kind, 0, None, None, (name,))
+            self.assertEqual(mulkavesh.why(worked.KINDS, name), Reason(kind, 0, (link,), Root.EXPORTED, None))
+
+    def test_roots(self) -> None:
+        self.assertEqual(mulkavesh.why(worked.ROOTS, 0).root, Root.START)
+        for function, segment, root in ((1, 0, Root.ACTIVE), (2, 1, Root.DECLARED)):
+            found = mulkavesh.why(worked.ROOTS, function)
+            self.assertEqual((found.root, [(link.kind, link.index) for link in found.links]), (root, [("element", segment), ("function", function)]))
+
+    def test_callers(self) -> None:
+        self.assertEqual(mulkavesh.callers(worked.CALLS, 1), [Link("function", 0, 4, None, ("a",))])
+        self.assertEqual(mulkavesh.callers(worked.CALLS, 0), [])
+        self.assertEqual(mulkavesh.callers(worked.CALLS, 1, drop="a"), [])
+        self.assertEqual(mulkavesh.callers(worked.ROOTS, 1), [Link("element", 0, None, None, ())])
 
     def test_snip(self) -> None:
-        self.assertEqual(mulkavesh.snip(worked.CALLS, "a"), worked.SNIPPED)
+        for functions in ((0,), ("0",), ("a",), ("a*",), ("*",), (1, "a"), ("a", "a", 0)):
+            self.assertEqual(mulkavesh.snip(worked.CALLS, *functions), worked.SNIPPED)  # type: ignore[arg-type]
+        self.assertEqual(mulkavesh.snip(worked.CALLS, 1), worked.CALLED_TRAPS)
+        self.assertEqual(mulkavesh.snip(worked.CALLS, 1, producers=False) + worked.PRODUCERS, worked.CALLED_TRAPS)
+        self.assertEqual(mulkavesh.snip(worked.CALLS), mulkavesh.gc(worked.CALLS))
+        self.assertEqual(mulkavesh.snip(worked.TWO_NAMED, "g", names=False), worked.ONE + worked.PRODUCERS)
 
     def test_stub(self) -> None:
         self.assertEqual(mulkavesh.stub(worked.IMPORTS, "env"), worked.STUBBED)
-        self.assertEqual(mulkavesh.stub(worked.IMPORTS, "nothing"), mulkavesh.gc(worked.IMPORTS))
-        self.assertEqual(mulkavesh.stub(worked.TWO, ""), worked.ONE + worked.PRODUCERS)
+        self.assertEqual(mulkavesh.stub(worked.IMPORTS, "e*", imports="f"), worked.STUBBED)
+        self.assertEqual(mulkavesh.stub(worked.IMPORTS, "none", "*", imports=["f", b"g", "none"]), worked.STUBBED)
+        self.assertEqual(mulkavesh.stub(worked.IMPORTS, "env", producers=False) + worked.PRODUCERS, worked.STUBBED)
+        self.assertEqual(mulkavesh.stub(worked.IMPORTS, "env", imports="g"), mulkavesh.gc(worked.IMPORTS))
 
     def test_modules_of_each_kind(self) -> None:
         every_other = memoryview(b"".join(bytes((byte, 0)) for byte in worked.TWO))[::2]
@@ -210,7 +304,7 @@ class Answers(unittest.TestCase):
 class Refusals(unittest.TestCase):
     """What each call refuses."""
 
-    def assert_invalid(self, fault: Fault, call: Callable[..., Any], *words: Any, **choices: bool) -> None:
+    def assert_invalid(self, fault: Fault, call: Callable[..., Any], *words: Any, **choices: Any) -> None:
         with self.assertRaises(InvalidModule) as raised:
             call(*words, **choices)
         self.assertEqual(raised.exception.fault, fault)
@@ -234,19 +328,20 @@ class Refusals(unittest.TestCase):
             fault, legacy = Fault(FaultKind(kind), number), not flags & 4
             with self.subTest(words, module=module.hex(" ")):
                 self.assert_invalid(fault, mulkavesh.gc, module, names=not flags & 1, producers=not flags & 2, legacy=legacy)
-                self.assert_invalid(fault, mulkavesh.report, module, legacy=legacy)
-                self.assert_invalid(fault, mulkavesh.list_functions, module, legacy=legacy)
+                for call in CHOSEN.values():
+                    self.assert_invalid(fault, call, bytearray(module), legacy=legacy)
+                    self.assert_invalid(fault, call, module, keep="none", legacy=legacy)
                 self.assert_framing(fault, module)
-                if legacy:
-                    self.assert_invalid(fault, mulkavesh.why, bytearray(module), 0)
-                    self.assert_invalid(fault, mulkavesh.snip, module, "a")
-                    self.assert_invalid(fault, mulkavesh.stub, module, "env")
+                self.assert_invalid(fault, mulkavesh.snip, module, "a", legacy=legacy)
+                self.assert_invalid(fault, mulkavesh.stub, module, "env", legacy=legacy)
             count += 1
         self.assertGreater(count, 13)
 
     def test_faults_of_legacy_exceptions(self) -> None:
-        for call in (mulkavesh.gc, mulkavesh.report, mulkavesh.list_functions):
+        for call in CHOSEN.values():
             self.assert_invalid(Fault(FaultKind.BODY, 0), call, worked.LEGACY, legacy=False)
+        self.assert_invalid(Fault(FaultKind.BODY, 0), mulkavesh.snip, worked.LEGACY, 0, legacy=False)
+        self.assert_invalid(Fault(FaultKind.BODY, 0), mulkavesh.stub, worked.LEGACY, "*", legacy=False)
 
     def test_what_a_refusal_says(self) -> None:
         with self.assertRaises(InvalidModule) as raised:
@@ -293,20 +388,48 @@ class Refusals(unittest.TestCase):
         self.assertRaisesRegex(NotFound, "no custom section fits one of 'a', b'c'$", mulkavesh.strip, worked.SECTIONS, "a", b"c")
         self.assertRaises(NotFound, mulkavesh.strip, worked.SECTIONS, "")
         self.assertRaises(NotFound, mulkavesh.strip, worked.TWO, "*")
-        self.assertRaisesRegex(NotFound, "no function 2$", mulkavesh.why, worked.TWO, 2)
-        self.assertRaises(NotFound, mulkavesh.why, worked.TWO, 2**32 - 1)
-        self.assertRaisesRegex(NotFound, "exported as 'c'", mulkavesh.snip, worked.TWICE, "c")
-        self.assertRaises(NotFound, mulkavesh.snip, worked.TWICE, "b")
+        for call in (mulkavesh.why, mulkavesh.callers):
+            self.assertRaisesRegex(NotFound, "no function or export 2$", call, worked.TWO, 2)
+            self.assertRaisesRegex(NotFound, "no function or export 'b'$", call, worked.CALLS, "b")
+            for nothing in (2**32 - 1, "4294967296", "-1", "", "*", b"\xFF"):
+                self.assertRaises(NotFound, call, worked.CALLS, nothing)
+        self.assertRaisesRegex(NotFound, "meant by 'b'$", mulkavesh.snip, worked.CALLS, "b")
+        self.assertRaisesRegex(NotFound, "meant by one of 'a', 2$", mulkavesh.snip, worked.CALLS, "a", 2)
+        for imported in (0, 1, 2, "4", r"\*"):
+            self.assertRaises(NotFound, mulkavesh.snip, worked.IMPORTS, imported)
+        self.assertRaisesRegex(NotFound, "from 'en'$", mulkavesh.stub, worked.IMPORTS, "en")
+        self.assertRaisesRegex(NotFound, "from one of 'en', b'' as 'f'$", mulkavesh.stub, worked.IMPORTS, "en", b"", imports="f")
+        self.assertRaises(NotFound, mulkavesh.stub, worked.IMPORTS)
+        self.assertRaises(NotFound, mulkavesh.stub, worked.IMPORTS, "env", imports="h")
+
+    def test_names_that_fit_no_export(self) -> None:
+        for name, call in CHOSEN.items():
+            for choice, wanted in (({"keep": "c"}, "c"), ({"keep": ["a", b"c", "d"]}, b"c"), ({"keep": "a", "drop": ["b", "é"]}, "é"), ({"drop": ("", "c")}, "")):
+                with self.subTest(name, **choice):
+                    with self.assertRaises(NotFound) as raised:
+                        call(worked.THREE, **choice)
+                    self.assertEqual((str(raised.exception), raised.exception.name), (f"no export fits {wanted!r}", wanted))
+        with self.assertRaises(NotFound) as raised:
+            mulkavesh.why(worked.THREE, "none", keep="c")
+        self.assertEqual(raised.exception.name, "c")
+        copied = pickle.loads(pickle.dumps(raised.exception))
+        self.assertEqual((type(copied), str(copied), copied.name), (NotFound, "no export fits 'c'", "c"))
+        with self.assertRaises(NotFound) as raised:
+            mulkavesh.why(worked.THREE, "none", keep="a")
+        self.assertIsNone(raised.exception.name)
 
     def test_names_that_are_not_utf_8(self) -> None:
         for name in (b"\xFF", "\uDCFF", "a\uD800"):
             self.assertRaises(NotFound, mulkavesh.strip, worked.SECTIONS, name)
+            self.assertRaises(NotFound, mulkavesh.gc, worked.CALLS, keep=name)
+            self.assertRaises(NotFound, mulkavesh.why, worked.CALLS, name)
             self.assertRaises(NotFound, mulkavesh.snip, worked.CALLS, name)
-            self.assertRaisesRegex(NotFound, "isn't UTF-8", mulkavesh.stub, worked.IMPORTS, name)
+            self.assertRaises(NotFound, mulkavesh.stub, worked.IMPORTS, name)
 
     def test_indices_out_of_range(self) -> None:
         for index in (-1, 2**32, 2**32 + 1, -(2**32), 2**64):
-            self.assertRaises(ValueError, mulkavesh.why, worked.TWO, index)
+            for call in (mulkavesh.why, mulkavesh.callers, mulkavesh.snip):
+                self.assertRaises(ValueError, call, worked.TWO, index)
 
     def test_other_types(self) -> None:
         for name, call in CALLS.items():
@@ -316,10 +439,15 @@ class Refusals(unittest.TestCase):
         for name in (None, 5, ["a"]):
             self.assertRaises(TypeError, mulkavesh.strip, worked.SECTIONS, name)
             self.assertRaises(TypeError, mulkavesh.strip, worked.SECTIONS, "a", keep=[name])
+            self.assertRaises(TypeError, mulkavesh.stub, worked.IMPORTS, name)
+            self.assertRaises(TypeError, mulkavesh.gc, worked.CALLS, keep=[name])
         for keep in (None, 5):
             self.assertRaises(TypeError, mulkavesh.strip, worked.SECTIONS, "a", keep=keep)
-        for index in (None, 0.5, "0"):
-            self.assertRaises(TypeError, mulkavesh.why, worked.TWO, index)
+            self.assertRaises(TypeError, mulkavesh.stub, worked.IMPORTS, "env", imports=keep)
+            self.assertRaises(TypeError, mulkavesh.gc, worked.CALLS, drop=keep)
+        for index in (None, 0.5, ["a"]):
+            for call in (mulkavesh.why, mulkavesh.callers, mulkavesh.snip):
+                self.assertRaises(TypeError, call, worked.TWO, index)
 
     def test_each_status(self) -> None:
         """What each status raises; those that only huge modules come to are told by a library that answers nothing else."""
@@ -460,7 +588,7 @@ class Declared(unittest.TestCase):
         declared = {}
         for name, parameters in re.findall(r"^uint32_t (\w+)\((.*)\);", HEADER.read_text(encoding="utf-8"), re.M):
             declared[name] = [self.IN_C[kind] for kind in re.findall(r"(const uint8_t \*|uint8_t \*|uint32_t |size_t \*|size_t )\w", parameters)]
-        self.assertEqual(len(declared), 11)
+        self.assertEqual(len(declared), 15)
         for name, kinds in declared.items():
             call = getattr(getattr(mulkavesh, "_library"), name)
             self.assertEqual((name, list(call.argtypes), call.restype), (name, kinds, ctypes.c_uint32))
@@ -469,9 +597,12 @@ class Declared(unittest.TestCase):
     def test_the_numbers_of_the_header(self) -> None:
         numbers = {name: int(number) for name, number in re.findall(r"MULKAVESH_(\w+) = (\d+)", HEADER.read_text(encoding="utf-8"))}
         wanted = {name: getattr(mulkavesh, f"_{name}") for name in ("NO_NAMES", "NO_PRODUCERS", "NO_LEGACY")}
-        for of_python, front in ((mulkavesh.Status, ""), (FaultKind, "FAULT_"), (Beginning, "BEGINS_"), (Rule, "RULE_")):
+        for of_python, front in ((mulkavesh.Status, ""), (FaultKind, "FAULT_"), (Beginning, "BEGINS_"), (Rule, "RULE_"), (Root, "ROOT_")):
             wanted.update((front + name, member.value) for name, member in of_python.__members__.items())
-        self.assertEqual(numbers, {**wanted, "FAULT_NONE": 0, "FUNCTION": getattr(mulkavesh, "_FUNCTION"), "SEGMENT": getattr(mulkavesh, "_SEGMENT")})
+        for of_python, front in (("_OF_LINKS", "KIND_"), ("_OF_EXTERNS", "EXTERN_")):
+            wanted.update((front + word.upper(), number) for number, word in enumerate(getattr(mulkavesh, of_python)))
+        wanted.update((name, getattr(mulkavesh, f"_{name}")) for name in ("FUNCTION", "SEGMENT"))
+        self.assertEqual(numbers, {**wanted, "FAULT_NONE": 0, "ROOT_NONE": 0})
 
     def test_all_is_typed_and_told(self) -> None:
         for name, function in inspect.getmembers(mulkavesh, inspect.isfunction):

@@ -26,12 +26,18 @@ def of_program(module: bytes, words: List[str]) -> Tuple[int, bytes, bytes]:
     return ran.returncode, ran.stdout, ran.stderr
 
 
+def lines(report: mulkavesh.Report) -> str:
+    """The lines of the program for what is kept and dropped."""
+    kinds = ("functions", "tables", "memories", "tags", "globals", "elements", "data")
+    return "".join(f"{kind} kept {getattr(report, kind).kept} dropped {getattr(report, kind).dropped}\n" for kind in kinds)
+
+
 def of_call(module: bytes, words: List[str]) -> Tuple[int, bytes, bytes]:
     """What the program has to do under these words, by the calls."""
     names, producers, legacy = (word not in words for word in WORDS)
     try:
         if "--report" in words:
-            return 0, mulkavesh.report(module, legacy=legacy).encode(), b""
+            return 0, lines(mulkavesh.report(module, names=names, producers=producers, legacy=legacy)).encode(), b""
         return 0, mulkavesh.gc(module, names=names, producers=producers, legacy=legacy), b""
     except mulkavesh.InvalidModule:
         return INVALID

@@ -1,10 +1,12 @@
-"""The calls `strip`, `sections` and `parts` over the modules of tests/samples, and of ../shared/samples where that is there, beside what stands in them, read anew."""
+"""The calls `strip`, `sections` and `parts` over the modules of tests/samples, and of ../shared/samples where that is there, beside what stands in them, read anew;
+and those under a choice of exports, beside one another.
+"""
 import pathlib
 import unittest
 from typing import Callable, Iterator, List, Optional, Tuple
 
 import mulkavesh
-from mulkavesh import Item, NotFound, Section, Sections
+from mulkavesh import Item, NotFound, Reason, Section, Sections
 
 TOP = pathlib.Path(__file__).resolve().parent.parent.parent
 FOLDERS = (TOP / "tests" / "samples", TOP.parent / "shared" / "samples")
@@ -106,6 +108,54 @@ class Samples(unittest.TestCase):
                     self.assertTrue(stripped(module, goes, stay) == wanted)
                     gone += len(module) - len(wanted or module)
         self.assertGreater(gone, 100)
+
+    def test_chosen_exports(self) -> None:
+        for name, module in samples():
+            names = [export.name.replace("*", r"\*") for export in mulkavesh.exports(module)]
+            half = len(names) // 2
+            for keep, drop in (([], []), (names[:half], []), ([], names[half:]), (names, names[::2])):
+                with self.subTest(name, keep=keep, drop=drop):
+                    self.choose(module, keep, drop)
+            with self.assertRaises(NotFound) as raised:
+                mulkavesh.gc(module, keep=names, drop="no export has this name")
+            self.assertEqual(raised.exception.name, "no export has this name")
+
+    def choose(self, module: bytes, keep: List[str], drop: List[str]) -> None:
+        """What goes and what stays is all that is there, and what is written has what is told to stay."""
+        written, report = mulkavesh.gc(module, keep=keep, drop=drop), mulkavesh.report(module, keep=keep, drop=drop)
+        stay, go = mulkavesh.list_functions(module, keep=keep, drop=drop), mulkavesh.dropped(module, keep=keep, drop=drop)
+        self.assertEqual(sorted(it.size for it in stay), sorted(size for _, size in bodies(written)))
+        functions = [it for it in mulkavesh.parts(module) if isinstance(it, Item) and it.kind == "function"]
+        self.assertEqual(sorted(it.index for it in stay + go), [it.index for it in functions])
+        sizes = {it.index: it.size for it in functions}
+        self.assertEqual([it.size for it in go], [sizes[it.index] for it in go])
+        self.assertEqual((report.bytes.written, report.bytes.dropped), (len(written), sum(it.size for it in go)))
+        self.assertEqual([(it.kind, it.name) for it in mulkavesh.exports(module, keep=keep, drop=drop)], [(it.kind, it.name) for it in mulkavesh.exports(written)])
+        of_module, of_written = mulkavesh.imports(module, keep=keep, drop=drop), mulkavesh.imports(written)
+        self.assertEqual([(it.kind, it.module, it.name) for it in of_module], [(it.kind, it.module, it.name) for it in of_written])
+        self.assertEqual(sum(it.kind == "function" for it in of_module) + len(stay), report.functions.kept)
+
+    def test_reasons(self) -> None:
+        for name, module in samples():
+            if len(module) < 20_000:
+                with self.subTest(name):
+                    self.explain(module)
+
+    def explain(self, module: bytes) -> None:
+        """Each function that stays has a chain, and with it goes what isn't left where it traps."""
+        kept, stay = mulkavesh.report(module).functions.kept, {it.index: it for it in mulkavesh.list_functions(module)}
+        for it in mulkavesh.dropped(module):
+            self.assertEqual(mulkavesh.why(module, it.index), Reason("function", it.index, (), None, None))
+        for index, it in stay.items():
+            found = mulkavesh.why(module, index)
+            last = found.links[-1]
+            self.assertEqual((last.kind, last.index, last.size, last.name), ("function", index, it.size, it.name))
+            assert found.alone
+            left = mulkavesh.report(mulkavesh.snip(module, index)).functions.kept
+            self.assertEqual(found.alone.functions, kept - left + 1)
+            self.assertGreaterEqual(found.alone.bytes, it.size)
+            callers = mulkavesh.callers(module, index)
+            self.assertTrue(len(found.links) == 1 or found.links[-2] in callers)
 
 
 if __name__ == "__main__":

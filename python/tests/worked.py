@@ -17,9 +17,6 @@ def module(*sections: str) -> bytes:
 # A function that nothing reaches, and one that is exported as `f`; what is left of them, without producers.
 TWO = module(TYPE, "03 03 02 00 00", "07 05 01 01 66 00 01", "0A 08 02 03 00 01 0B 02 00 0B")
 ONE = module(TYPE, "03 02 01 00", "07 05 01 01 66 00 00", "0A 04 01 02 00 0B")
-REPORT = "functions kept 1 dropped 1\n" + "".join(
-    f"{items} kept 0 dropped 0\n" for items in ("tables", "memories", "tags", "globals", "elements", "data")
-)
 
 # The same with the names `g` and, in two bytes of UTF-8, `é`.
 TWO_NAMED = TWO + bytes.fromhex("00 0F 04") + b"name" + bytes.fromhex("01 08 02 00 01 67 01 02 C3 A9")
@@ -59,12 +56,26 @@ STUBBED = module(
     "0A 0E 02 08 00 10 00 20 00 10 02 0B 03 00 00 0B",
 ) + PRODUCERS
 
-# The exported `a` calls a function that nothing else calls; both gone, and `a` traps.
+# The exported `a` calls a function that nothing else calls; that one gone, and `a` traps; and `a` there, and that one traps.
 CALLS = module(TYPE, "03 03 02 00 00", "07 05 01 01 61 00 00", "0A 0A 02 04 00 10 01 0B 03 00 01 0B")
 SNIPPED = module(TYPE, "03 02 01 00", "07 05 01 01 61 00 00", "0A 05 01 03 00 00 0B") + PRODUCERS
+CALLED_TRAPS = module(TYPE, "03 03 02 00 00", "07 05 01 01 61 00 00", "0A 0A 02 04 00 10 01 0B 03 00 00 0B") + PRODUCERS
 
-# One function, exported as `a` and as `b`.
-TWICE = module(TYPE, "03 02 01 00", "07 09 02 01 61 00 00 01 62 00 00", "0A 06 01 04 00 01 01 0B")
+# One function, exported as `a` and as `b`, and another one, exported as `*`; and the first alone, exported as `a`.
+THREE = module(TYPE, "03 03 02 00 00", "07 0D 03 01 61 00 00 01 62 00 00 01 2A 00 01", "0A 08 02 03 00 01 0B 02 00 0B")
+AS_A = module(TYPE, "03 02 01 00", "07 05 01 01 61 00 00", "0A 05 01 03 00 01 0B")
+
+# A table, a memory, a global and a tag, imported from `m` as `t`, `e`, `g` and `x` and exported as `T`, `E`, `G` and `X`.
+KINDS = module(
+    TYPE, "02 1E 04 01 6D 01 74 01 70 00 00 01 6D 01 65 02 00 00 01 6D 01 67 03 7F 00 01 6D 01 78 04 00 00",
+    "07 11 04 01 54 01 00 01 45 02 00 01 47 03 00 01 58 04 00",
+)
+
+# Function 0 is the start function; an active segment names function 1, and a declared one function 2; a data segment is active, and another one isn't.
+ROOTS = module(
+    TYPE, "03 04 03 00 00 00", "04 04 01 70 00 01", "05 03 01 00 01", "08 01 00", "09 0B 02 00 41 00 0B 01 01 03 00 01 02",
+    "0A 0A 03 02 00 0B 02 00 0B 02 00 0B", "0B 09 02 00 41 00 0B 00 01 01 07",
+)
 
 
 FAULTS = pathlib.Path(__file__).resolve().parent.parent.parent / "tests" / "faults.txt"
