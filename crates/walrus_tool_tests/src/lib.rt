@@ -19,3 +19,5 @@ mod section_samples;
 mod snip_samples;
 #[cfg(test)]
 mod stub_samples;
+#[cfg(test)]
+mod weigh_samples;

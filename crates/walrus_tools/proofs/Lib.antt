@@ -48,6 +48,7 @@ mod OneNumber
 mod PartItems
 mod PartListLemmas
 mod PartRows
+mod PartSizes
 mod PartText
 mod PlacedEnds
 mod PlacedOps
@@ -72,4 +73,6 @@ mod TrapBody
 mod TrapSound
 mod TrapTurn
 mod TrapWhole
+mod WeighEnds
+mod WeighLines
 pub use Rattle.walrus.proofs.DeviceLemmas
