@@ -133,10 +133,10 @@ fn the_first_of_no_export_is_told(rt: HostRuntime) -> std::result::Result<(), Fa
     let alloc = rt.alloc();
     let bytes = bytes_of(alloc, TWO)?;
     let fit = [kept(b"f"), dropped(b"*b"), kept(b"*")];
-    demand(unfit(alloc, &bytes, &fit)? == None, "each fits")?;
-    demand(unfit(alloc, &bytes, &[])? == None, "no choices")?;
+    demand(unfit(alloc, &bytes, PLAIN, &fit)? == None, "each fits")?;
+    demand(unfit(alloc, &bytes, PLAIN, &[])? == None, "no choices")?;
     let others = [dropped(b"ab"), kept(b"b*"), kept(b"a")];
-    demand(unfit(alloc, &bytes, &others)? == Some(1), "a star")?;
+    demand(unfit(alloc, &bytes, PLAIN, &others)? == Some(1), "a star")?;
     let plain = [kept(b"f"), kept(b"ab"), kept(b"a")];
-    demand(unfit(alloc, &bytes, &plain)? == Some(2), "a name")
+    demand(unfit(alloc, &bytes, PLAIN, &plain)? == Some(2), "a name")
 }

@@ -21,3 +21,5 @@ mod section_samples;
 mod snip_samples;
 #[cfg(test)]
 mod stub_samples;
+#[cfg(test)]
+mod weigh_samples;

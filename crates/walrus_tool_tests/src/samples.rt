@@ -4,8 +4,8 @@ use std::alloc::Global;
 use std::test::Fail;
 use test_support::{bytes_of, demand, demand_bytes, is_name, is_text};
 use walrus_tools::{
-    Chain, Kinds, Result, Wanted, chain_lines, count_calls, counts, fault, find, gc, item_index,
-    item_word, keep_listed, moves, rename_export, report, shrink, snip, stub, why, why_called,
+    Chain, Result, Wanted, chain_lines, count_calls, fault, find, gc, item_index, item_word,
+    keep_listed, moves, rename_export, shrink, snip_export, stub_module, why, why_called,
     why_with_sizes, with_export, with_metadata, with_places,
 };
 
@@ -40,7 +40,7 @@ fn one_of_two_functions_is_left(rt: HostRuntime) -> std::result::Result<(), Fail
     demand_output(rt.alloc(), shrink(rt.alloc(), &bytes), ONE)
 }
 
-// ---- gc, report and counts under flags
+// ---- gc under flags
 
 fn no_producers() -> Wanted {
     Wanted {
@@ -61,44 +61,6 @@ fn one_is_left_and_no_producers(rt: HostRuntime) -> std::result::Result<(), Fail
         gc(rt.alloc(), &bytes, no_producers()),
         ONE_ALONE,
     )
-}
-
-// `functions kept 1 dropped 1`, and six lines of none.
-const REPORT: &str =
-    "66 75 6E 63 74 69 6F 6E 73 20 6B 65 70 74 20 31 20 64 72 6F 70 70 65 64 20 31 0A 74 61 62 6C 65 73 20 6B 65 70 74 20 30 20 64 72 6F 70 70 65 64 20 30 0A 6D 65 6D 6F 72 69 65 73 20 6B 65 70 74 20 30 20 64 72 6F 70 70 65 64 20 30 0A 74 61 67 73 20 6B 65 70 74 20 30 20 64 72 6F 70 70 65 64 20 30 0A 67 6C 6F 62 61 6C 73 20 6B 65 70 74 20 30 20 64 72 6F 70 70 65 64 20 30 0A 65 6C 65 6D 65 6E 74 73 20 6B 65 70 74 20 30 20 64 72 6F 70 70 65 64 20 30 0A 64 61 74 61 20 6B 65 70 74 20 30 20 64 72 6F 70 70 65 64 20 30 0A";
-
-#[test]
-fn one_of_two_is_reported(rt: HostRuntime) -> std::result::Result<(), Fail> {
-    let bytes = bytes_of(rt.alloc(), TWO)?;
-    demand_output(
-        rt.alloc(),
-        report(rt.alloc(), &bytes, no_producers()),
-        REPORT,
-    )
-}
-
-// So many functions, and nothing else.
-fn functions(count: usize) -> Kinds {
-    Kinds {
-        functions: count,
-        tables: 0,
-        memories: 0,
-        tags: 0,
-        globals: 0,
-        elements: 0,
-        data_: 0,
-    }
-}
-
-#[test]
-fn one_of_two_is_counted(rt: HostRuntime) -> std::result::Result<(), Fail> {
-    let bytes = bytes_of(rt.alloc(), TWO)?;
-    let counted = counts(rt.alloc(), &bytes, no_producers())?;
-    demand(
-        counted.before == functions(2),
-        "the functions that were read",
-    )?;
-    demand(counted.after == functions(1), "the functions that are left")
 }
 
 // ---- keep_listed
@@ -250,7 +212,7 @@ fn other_indices_and_taken_names_are_refused(rt: HostRuntime) -> std::result::Re
     )
 }
 
-// ---- stub
+// ---- stub_module
 
 // Functions `f` and `g` from `env`, and `h` from `m`; the exported `a` calls `h` and gives what `f` makes of its argument.
 const IMPORTS: &str =
@@ -263,10 +225,10 @@ const STUBBED: &str =
 #[test]
 fn imports_from_one_module_trap(rt: HostRuntime) -> std::result::Result<(), Fail> {
     let bytes = bytes_of(rt.alloc(), IMPORTS)?;
-    demand_output(rt.alloc(), stub(rt.alloc(), &bytes, "env"), STUBBED)
+    demand_output(rt.alloc(), stub_module(rt.alloc(), &bytes, "env"), STUBBED)
 }
 
-// ---- snip
+// ---- snip_export
 
 // The exported `a` calls a function that nothing else calls.
 const CALLS: &str =
@@ -279,7 +241,7 @@ const SNIPPED: &str =
 #[test]
 fn an_export_traps(rt: HostRuntime) -> std::result::Result<(), Fail> {
     let bytes = bytes_of(rt.alloc(), CALLS)?;
-    demand_output(rt.alloc(), snip(rt.alloc(), &bytes, "a"), SNIPPED)
+    demand_output(rt.alloc(), snip_export(rt.alloc(), &bytes, "a"), SNIPPED)
 }
 
 // One function, exported as `a` and as `b`.
@@ -293,15 +255,15 @@ const STAYS: &str =
 #[test]
 fn what_is_reached_otherwise_stays(rt: HostRuntime) -> std::result::Result<(), Fail> {
     let bytes = bytes_of(rt.alloc(), TWICE)?;
-    demand_output(rt.alloc(), snip(rt.alloc(), &bytes, "a"), STAYS)
+    demand_output(rt.alloc(), snip_export(rt.alloc(), &bytes, "a"), STAYS)
 }
 
 #[test]
 fn other_names_are_refused(rt: HostRuntime) -> std::result::Result<(), Fail> {
     let bytes = bytes_of(rt.alloc(), TWICE)?;
-    let later = snip(rt.alloc(), &bytes, "b");
+    let later = snip_export(rt.alloc(), &bytes, "b");
     demand(is_refused(later, "cannot replace function"), "a later name")?;
-    let none = snip(rt.alloc(), &bytes, "c");
+    let none = snip_export(rt.alloc(), &bytes, "c");
     demand(is_refused(none, "not found"), "a name of no export")
 }
 

@@ -8,9 +8,11 @@ use Rattle.walrus_model.specs.Abstract.{Abstract}
 use Rattle.walrus_model.specs.Config.{Config}
 use Rattle.walrus_model.specs.Names.{body_of_function, body_of_kind}
 use Rattle.walrus_model.specs.Pipeline.{Collected}
+use Rattle.walrus_model.specs.Dead.{HasDead}
 use Rattle.walrus_theorem.specs.Chain.{Leaves}
 use Rattle.walrus_theorem.specs.Refused.{PassesLimits}
 use Rattle.walrus_theorem.specs.WellMade.{IsWellMade}
+use Rattle.walrus_theorem.proofs.NoCause.{well_no_cause}
 use Rattle.walrus_theorem.proofs.WellStays.{collected_well}
 use Rattle.walrus_items.specs.declared.custom.CustomSection.{Ghosts}
 use Rattle.walrus_items.specs.declared.error.Error.{Error}
@@ -86,6 +88,12 @@ module _ {V : Type 0} {O : V → Type 0} (G : (v : V) → Ghosts (O v)) where
     search_refused error.DeadItem h = absurd (sound h)
     search_refused (error.Caller text) h = absurd (ready.quiet h)
     search_refused _ h = absurd h
+
+    -- ---- what gc leaves
+
+    -- nothing is named that isn't there
+    pub none_dead : (kept : Module (SectionEntry V O)) → Collected (view G m) (view G kept) → HasDead (view G kept) → ⊥
+    none_dead kept collected = (well_no_cause config (view G kept) (collected_well config (view G m) (view G kept) ready.made ready.reached collected)).all_there
 
     -- ---- what emission answers
 

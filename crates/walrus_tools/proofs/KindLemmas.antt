@@ -1,9 +1,8 @@
--- Items that are counted in memory are those of the module that was read.
-use Rattle.std.proofs.Common.{◌≡◌, ℕ, List, Option, Some, None, Result, Ok, Err, length, inl, inr, refl, sym, ◌∙◌, subst}
-use Rattle.std.specs.Prelude.{IfOk, IsSome, MatchResult, is_some}
-use Rattle.std.specs.Global.{Vec}
+-- What is counted in memory: the items of a module, and those that gc leaves of them.
+use Rattle.std.proofs.Common.{◌≡◌, ℕ, List, Option, Some, None, length, inl, inr, refl, sym, subst}
+use Rattle.std.specs.Prelude.{IsSome, is_some}
 use Rattle.walrus_base.specs.Arena.{item_at}
-use Rattle.walrus_base.specs.Operators.{Space, Item, Types, Functions, Tables, Memories, Tags, Globals, Elements, DataSegments}
+use Rattle.walrus_base.specs.Operators.{Item, Functions, Tables, Memories, Tags, Globals, Elements, DataSegments}
 use Rattle.walrus_base.proofs.Lookups.{still_some}
 use Rattle.walrus_base.proofs.Standing.{was_some}
 use Rattle.walrus_contents.specs.View.{data_of, element_of, function, global_of, memory_of, table_of, tag_of}
@@ -15,26 +14,17 @@ use Rattle.walrus_items.specs.Memories.{memories}
 use Rattle.walrus_items.specs.Tables.{tables}
 use Rattle.walrus_items.specs.Tags.{tags}
 use Rattle.walrus_items.specs.declared.custom.CustomSection.{Ghosts}
-use Rattle.walrus_items.specs.declared.error.Error.{Error}
-use Rattle.walrus_items.specs.declared.error.Error.TheVariants as error
 use Rattle.walrus_model.specs.Abstract.{Abstract}
-use Rattle.walrus_model.specs.Config.{Config}
 use Rattle.walrus_model.specs.Kept.{Kept}
 use Rattle.walrus_model.specs.Live.{IsLive}
-use Rattle.walrus_module.specs.Parsed.{IsParsed}
 use Rattle.walrus_module.specs.View.{contents_of, view}
 use Rattle.walrus_module.specs.declared.entry.SectionEntry.{SectionEntry}
 use Rattle.walrus_module.specs.declared.module.Module.{Module}
 use Rattle.walrus_theorem.specs.Report.{Counts}
-use Rattle.walrus_theorem.proofs.StepRead.{read_is_plain}
 use Rattle.walrus.specs.Collected.{Collects, KeepsOnly}
-use Rattle.walrus.specs.Headline.{RunsOn}
 use Rattle.walrus.proofs.Marking.{below}
 use Rattle.walrus.proofs.ReportLemmas.{counted_below}
-use Rattle.walrus.proofs.ReportedLemmas.{kept_read, live_read}
-use Rattle.walrus_tools.specs.Kinds.{CountsKinds, IsCountedOf, kinds_in, there}
-use Rattle.walrus_tools.specs.declared.tool.gc_counted.Kinds.{Kinds}
-use Rattle.walrus_tools.specs.declared.tool.gc_counted.Smaller.{Smaller}
+use Rattle.walrus_tools.specs.Kinds.{CountsKinds, kinds_in, there}
 
 -- ---- slots
 
@@ -56,7 +46,8 @@ module _ {V : Type 0} {O : V → Type 0} (G : (v : V) → Ghosts (O v)) (old new
   abbrev seen : Abstract
   seen = view G old
 
-  all_kinds : CountsKinds (IsLive seen) (kinds_in (contents_of old))
+  -- the items of the module
+  pub all_kinds : CountsKinds (IsLive seen) (kinds_in (contents_of old))
   all_kinds = record {
     functions = there_are (functions old.funcs) _ (λ i. still_some (function old.locals) _) (λ i. was_some (function old.locals) _);
     tables = there_are (tables old.tables) _ (λ i. still_some table_of _) (λ i. was_some table_of _);
@@ -68,11 +59,12 @@ module _ {V : Type 0} {O : V → Type 0} (G : (v : V) → Ghosts (O v)) (old new
   }
 
   module _ (c : Collects G old new) where
-    kept_live : (x : Item) → Kept seen x → IsLive seen x
+    pub kept_live : (x : Item) → Kept seen x → IsLive seen x
     kept_live x (inl reached) = (c.sound x reached).live
     kept_live x (inr spare) = subst (λ (y : Item). IsLive seen y) (sym spare.is) spare.first.live
 
-    kept_kinds : CountsKinds (Kept seen) (kinds_in (contents_of new))
+    -- those that gc left of them are those that are kept
+    pub kept_kinds : CountsKinds (Kept seen) (kinds_in (contents_of new))
     kept_kinds = record {
       functions = kept_are (functions old.funcs) (functions new.funcs) _ (λ i. IsLive seen (Functions, i)) c.items.functions (λ i. was_some (function old.locals) _) (λ i. kept_live (Functions, i));
       tables = kept_are (tables old.tables) (tables new.tables) _ (λ i. IsLive seen (Tables, i)) c.items.tables (λ i. was_some table_of _) (λ i. kept_live (Tables, i));
@@ -82,64 +74,3 @@ module _ {V : Type 0} {O : V → Type 0} (G : (v : V) → Ghosts (O v)) (old new
       elements = kept_are (elements old.elements) (elements new.elements) _ (λ i. IsLive seen (Elements, i)) c.items.elements (λ i. was_some element_of _) (λ i. kept_live (Elements, i));
       data_segments = kept_are (data_segments old.data_) (data_segments new.data_) _ (λ i. IsLive seen (DataSegments, i)) c.items.data_segments (λ i. was_some data_of _) (λ i. kept_live (DataSegments, i));
     }
-
--- ---- the module that was read
-
-read_kinds : (P Q : Item → Type 0) (k : Kinds) → ((space : Space) → (space ≡ Types → ⊥) → (n : ℕ) → Counts (λ i. P (space, i)) n → Counts (λ i. Q (space, i)) n) → CountsKinds P k → CountsKinds Q k
-read_kinds P Q k to counts = record {
-  functions = to Functions (λ e. absurd (cc)) k.functions counts.functions;
-  tables = to Tables (λ e. absurd (cc)) k.tables counts.tables;
-  memories = to Memories (λ e. absurd (cc)) k.memories counts.memories;
-  tags = to Tags (λ e. absurd (cc)) k.tags counts.tags;
-  globals = to Globals (λ e. absurd (cc)) k.globals counts.globals;
-  elements = to Elements (λ e. absurd (cc)) k.elements counts.elements;
-  data_segments = to DataSegments (λ e. absurd (cc)) k.data_ counts.data_segments;
-}
-
-module _ {V : Type 0} {O : V → Type 0} (G : (v : V) → Ghosts (O v)) (old new : Module (SectionEntry V O)) (c : Config) (bytes : List ℕ) (parsed : IsParsed c bytes (view G old)) (collects : Collects G old new) where
-  counted_as : IsCountedOf c bytes (kinds_in (contents_of old)) (kinds_in (contents_of new))
-  counted_as =
-      let plain = read_is_plain c bytes parsed.module_read parsed.reads in
-      record {
-        module_read = parsed.module_read;
-        reads = parsed.reads;
-        holds = parsed.holds;
-        all = read_kinds _ _ _ (live_read c parsed.module_read (view G old) parsed.parsed plain parsed.holds) (all_kinds G old new);
-        kept = read_kinds _ _ _ (kept_read c parsed.module_read (view G old) parsed.parsed plain parsed.holds) (kept_kinds G old new collects);
-      }
-
-  -- such are the counts of before and after
-  pub counts_told : (before after : Kinds) → before ≡ kinds_in (contents_of old) → after ≡ kinds_in (contents_of new) → IsCountedOf c bytes before after
-  counts_told before after all kept =
-      subst (λ (k : Kinds). IsCountedOf c bytes k after) (sym all) (subst (λ (k : Kinds). IsCountedOf c bytes (kinds_in (contents_of old)) k) (sym kept) counted_as)
-
-  -- what was counted goes with what was written
-  pub counted_with : (result : Result Smaller Error) (made : Result (Vec ℕ) Error) (before after : Kinds) → before ≡ kinds_in (contents_of old) → after ≡ kinds_in (contents_of new)
-      → MatchResult result (λ s. (made ≡ Ok s.output) × ((s.before ≡ before) × (s.after ≡ after))) (λ e. made ≡ Err e) → IfOk result (λ s. IsCountedOf c bytes s.before s.after)
-  counted_with (Ok s) made before after all kept h = counts_told s.before s.after (h.1.0 ∙ all) (h.1.1 ∙ kept)
-  counted_with (Err e) made before after all kept h = tt
-
--- ---- what was written is what is handed on
-
-module _ (c : Config) (bytes : List ℕ) where
-  same_refusal : (e : Error) → RunsOn c bytes (λ (o : Vec ℕ). o.items) (Err e) → RunsOn c bytes (λ (s : Smaller). s.output.items) (Err e)
-  same_refusal (error.Memory e) r = r
-  same_refusal (error.InvalidWasm k) r = r
-  same_refusal error.DeadItem r = r
-  same_refusal error.NoIndex r = r
-  same_refusal error.TwoIndices r = r
-  same_refusal error.TooLarge r = r
-  same_refusal error.NotWritable r = r
-  same_refusal error.NotFound r = r
-  same_refusal error.SeveralMemories r = r
-  same_refusal error.NoMemory r = r
-  same_refusal error.SeveralFunctionTables r = r
-  same_refusal error.NotExported r = r
-  same_refusal error.NotImported r = r
-  same_refusal error.NotReplaceable r = r
-  same_refusal (error.Caller text) r = r
-
-  pub runs_with : (before after : Kinds) (result : Result Smaller Error) (made : Result (Vec ℕ) Error) → MatchResult result (λ s. (made ≡ Ok s.output) × ((s.before ≡ before) × (s.after ≡ after))) (λ e. made ≡ Err e)
-      → RunsOn c bytes (λ (o : Vec ℕ). o.items) made → RunsOn c bytes (λ (s : Smaller). s.output.items) result
-  runs_with before after (Ok s) made h r = subst (λ (x : Result (Vec ℕ) Error). RunsOn c bytes (λ (o : Vec ℕ). o.items) x) h.0 r
-  runs_with before after (Err e) made h r = same_refusal e (subst (λ (x : Result (Vec ℕ) Error). RunsOn c bytes (λ (o : Vec ℕ). o.items) x) h r)

@@ -50,6 +50,7 @@ mod OneNumber
 mod PartItems
 mod PartListLemmas
 mod PartRows
+mod PartSizes
 mod PartText
 mod PlacedEnds
 mod PlacedOps
@@ -77,4 +78,6 @@ mod TrapBody
 mod TrapSound
 mod TrapTurn
 mod TrapWhole
+mod WeighEnds
+mod WeighLines
 pub use Rattle.walrus.proofs.DeviceLemmas

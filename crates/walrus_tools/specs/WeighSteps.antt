@@ -1,12 +1,12 @@
 -- What the functions promise that write a module and tell of it: of the parts of the input, and of a module in memory.
-use Rattle.std.specs.Prelude.{ℕ, Bool, List, Option, Result, Ok, Err, MatchResult, is_some, if◌then◌else◌, ◌≡◌, ⊤}
+use Rattle.std.specs.Prelude.{ℕ, Bool, List, Option, Result, Ok, Err, MatchResult, is_some, sum_by, if◌then◌else◌, ◌≡◌}
 use Rattle.walrus_base.specs.Arena.{item_at}
 use Rattle.walrus_model.specs.Abstract.{Abstract}
 use Rattle.walrus_model.specs.Live.{IsLive}
 use Rattle.walrus_items.specs.Functions.{FunctionValue}
 use Rattle.walrus_items.specs.declared.custom.CustomSection.{Ghosts}
 use Rattle.walrus_items.specs.declared.error.Error.{Error}
-use Rattle.walrus_items.specs.declared.error.Error.TheVariants.{InvalidWasm, Memory, TooLarge}
+use Rattle.walrus_items.specs.declared.error.Error.TheVariants.{TooLarge}
 use Rattle.walrus_module.specs.Flags.{config_of}
 use Rattle.walrus_module.specs.Settings.{settings}
 use Rattle.walrus_module.specs.View.{view}
@@ -14,10 +14,11 @@ use Rattle.walrus_module.specs.declared.entry.SectionEntry.{SectionEntry}
 use Rattle.walrus_module.specs.declared.module.Module.{Module}
 use Rattle.walrus_tools.specs.Ends.{LeavesLarge, LeavesWritten, LeftOf}
 use Rattle.walrus_tools.specs.Kinds.{CountsKinds}
-use Rattle.walrus_tools.specs.PartList.{IsNone}
-use Rattle.walrus_tools.specs.Parts.{HasParts, Part}
+use Rattle.walrus_tools.specs.PartList.{AnswersParts}
+use Rattle.walrus_tools.specs.Parts.{HasParts, Part, part_record}
 use Rattle.walrus_tools.specs.Weigh.{IsWeighed, bytes_of, is_debug, is_dropped, part_size}
 use Rattle.walrus_tools.specs.declared.kinds.Kinds.{Kinds}
+use Rattle.walrus_tools.specs.declared.parts.Part.{Part as RawPart}
 use Rattle.walrus_tools.specs.declared.weigh.Smaller.{Smaller}
 use Rattle.walrus_tools.specs.declared.weigh.Weighed.{Weighed}
 
@@ -26,6 +27,10 @@ use Rattle.walrus_tools.specs.declared.weigh.Weighed.{Weighed}
 -- the bytes of a part if it passes the test, and else none
 abbrev pub size_if : (passes : Part → Bool) → Part → ℕ
 size_if passes p = if passes p then part_size p else 0
+
+-- how many bytes have together those of these parts in memory that pass the test
+abbrev pub sizes : (passes : Part → Bool) → List RawPart → ℕ
+sizes passes parts = sum_by (λ (p : RawPart). size_if passes (part_record p)) parts
 
 -- a function is there
 abbrev pub is_left : List (Option FunctionValue) → ℕ → Bool
@@ -38,15 +43,13 @@ pub record IsInput (bytes : List ℕ) (slots : List (Option FunctionValue)) (bod
   pub bodies_are : bodies ≡ bytes_of (is_dropped (is_left slots)) parts
   pub debug_is : debug ≡ bytes_of is_debug parts
 
--- memory ran out, or the bytes are no module
-abbrev pub NoModule : (bytes : List ℕ) → Error → Type 0
-NoModule bytes (Memory e) = ⊤
-NoModule bytes (InvalidWasm kind) = IsNone bytes
-NoModule bytes _ = ⊥
+-- memory ran out, or the bytes have no parts
+abbrev pub HasNoParts : (bytes : List ℕ) → Error → Type 0
+HasNoParts bytes e = AnswersParts bytes (Err e)
 
 -- so many, or a refusal with its cause
 abbrev pub WeighsInput : (bytes : List ℕ) → List (Option FunctionValue) → Result (ℕ × ℕ) Error → Type 0
-WeighsInput bytes slots result = MatchResult result (λ w. IsInput bytes slots w.0 w.1) (NoModule bytes)
+WeighsInput bytes slots result = MatchResult result (λ w. IsInput bytes slots w.0 w.1) (HasNoParts bytes)
 
 -- ---- of a module in memory
 
@@ -60,4 +63,4 @@ module _ {V : Type 0} {O : V → Type 0} (G : (v : V) → Ghosts (O v)) where
   abbrev pub WeighsReady : (bytes : List ℕ) → (before : Kinds) → Module (SectionEntry V O) → Result Smaller Error → Type 0
   WeighsReady bytes before m (Ok s) = IsWeighedIn bytes s.output.items before m s.told
   WeighsReady bytes before m (Err TooLarge) = LeavesLarge (LeftOf (view G m)) (config_of (settings m))
-  WeighsReady bytes before m (Err e) = NoModule bytes e
+  WeighsReady bytes before m (Err e) = HasNoParts bytes e

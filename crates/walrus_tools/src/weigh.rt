@@ -1,14 +1,15 @@
 //! What becomes of a module that was edited: what nothing reaches goes, the module is written, and what is told of it is counted.
 
-ghost use Rattle.std.specs.Prelude.{◌≡◌, ◌<◌, ◌^◌, map};
+ghost use Rattle.std.specs.Prelude.{◌≡◌, ◌<◌, ◌^◌};
 ghost use Rattle.walrus_items.specs.Functions.{functions};
 ghost use Rattle.walrus_tools.specs.Parts.{part_record};
-ghost use Rattle.walrus_tools.specs.Weigh.{bytes_of, is_debug, is_dropped};
+ghost use Rattle.walrus_tools.specs.Weigh.{is_debug, is_dropped};
 ghost use Rattle.walrus_tools.specs.ListSteps.{IsReady};
-ghost use Rattle.walrus_tools.specs.WeighSteps.{WeighsInput, WeighsReady, is_left, size_if};
+ghost use Rattle.walrus_tools.specs.WeighSteps.{WeighsInput, WeighsReady, is_left, size_if, sizes};
 
 use crate::kinds::{Kinds, kinds_of};
-use crate::parts::{Part, read_parts};
+use crate::parts::Part;
+use crate::tool::section_parts::section_parts;
 use std::alloc::Global;
 use walrus::passes::gc;
 use walrus::{CustomSection, FunctionId, Module, ModuleFunctions, Result};
@@ -73,11 +74,10 @@ fn debug_size(part: Part<'_>) -> usize
 
 // How many bytes the bodies of functions have that aren't there, and debug information.
 fn weigh_parts(all: &ModuleFunctions, parts: &[Part<'_>]) -> (usize, usize)
-    requires bodies { bytes_of (is_dropped (is_left (functions all.now))) (map part_record parts.now) < 2 ^ 64 }
-    requires debug { bytes_of is_debug (map part_record parts.now) < 2 ^ 64 }
-    ensures bodies { result.0 ≡ bytes_of (is_dropped (is_left (functions all.now)))
-        (map part_record parts.now) }
-    ensures debug { result.1 ≡ bytes_of is_debug (map part_record parts.now) }
+    requires bodies { sizes (is_dropped (is_left (functions all.now))) parts.now < 2 ^ 64 }
+    requires debug { sizes is_debug parts.now < 2 ^ 64 }
+    ensures bodies { result.0 ≡ sizes (is_dropped (is_left (functions all.now))) parts.now }
+    ensures debug { result.1 ≡ sizes is_debug parts.now }
 {
     let mut bodies = 0;
     let mut debug = 0;
@@ -92,7 +92,7 @@ fn weigh_parts(all: &ModuleFunctions, parts: &[Part<'_>]) -> (usize, usize)
 fn weigh_input(alloc: Global, bytes: &[u8], all: &ModuleFunctions) -> Result<(usize, usize)>
     ensures { WeighsInput bytes.now (functions all.now) result }
 {
-    let parts = read_parts(alloc, bytes)?;
+    let parts = section_parts(alloc, bytes)?;
     Ok(weigh_parts(all, &parts))
 }
 
@@ -111,7 +111,7 @@ pub(crate) fn weighed(
     gc::run(alloc, &mut module)?;
     let (bodies, debug) = weigh_input(alloc, bytes, &module.funcs)?;
     let after = kinds_of(&module);
-    let output = module.emit_wasm(alloc)?;
+    let output = module.emit_whole(alloc)?;
     let told = Weighed {
         before,
         after,

@@ -5,7 +5,7 @@ ghost use Rattle.walrus_tools.specs.ChosenModule.{AnswersChosen, NoneChosen};
 ghost use Rattle.walrus_tools.specs.Wanted.{config_wanted};
 
 use crate::choice::Choice;
-use crate::finish::finished;
+use crate::finish::finished_ready;
 use crate::keep::keep_chosen;
 use crate::wanted::Wanted;
 use std::alloc::Global;
@@ -30,7 +30,7 @@ pub fn gc_chosen(
     let config = ModuleConfig::of_choices(wanted.names, wanted.producers, wanted.legacy);
     let mut module = config.parse(alloc, bytes)?;
     keep_chosen(alloc, &mut module, choices)?;
-    finished(alloc, module)
+    finished_ready(alloc, module)
 }
 
 /// A law: of no choices [`gc_chosen`] promises what [`gc`](crate::gc) does.

@@ -4,7 +4,7 @@ ghost use Rattle.walrus_tools.specs.FunctionMeaning.{texts};
 ghost use Rattle.walrus_tools.specs.TrapEdit.{AnswersMeant};
 ghost use Rattle.walrus_tools.specs.Wanted.{config_wanted};
 
-use crate::finish::finished;
+use crate::finish::finished_ready;
 use crate::function_meaning::Meant;
 use crate::trap_bodies::trap_meant;
 use crate::wanted::Wanted;
@@ -31,5 +31,5 @@ pub fn snip_functions(
     let config = ModuleConfig::of_choices(wanted.names, wanted.producers, wanted.legacy);
     let mut module = config.parse(alloc, bytes)?;
     trap_meant(alloc, &mut module, functions)?;
-    finished(alloc, module)
+    finished_ready(alloc, module)
 }

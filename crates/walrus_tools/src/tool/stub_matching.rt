@@ -7,7 +7,7 @@ ghost use Rattle.walrus_tools.specs.StubMatching.{AnswersMatching, StubsChosen, 
 ghost use Rattle.walrus_tools.specs.Wanted.{config_wanted};
 
 use crate::choice::Choice;
-use crate::finish::finished;
+use crate::finish::finished_ready;
 use crate::import_choice::chosen_imports;
 use crate::trap_import::trap_import;
 use crate::wanted::Wanted;
@@ -75,5 +75,5 @@ pub fn stub_matching(
     let config = ModuleConfig::of_choices(wanted.names, wanted.producers, wanted.legacy);
     let mut module = config.parse(alloc, bytes)?;
     stub_chosen(alloc, &mut module, modules, names)?;
-    finished(alloc, module)
+    finished_ready(alloc, module)
 }

@@ -1,10 +1,13 @@
-use Rattle.std.proofs.Common.{ℕ, subst}
-use Rattle.std.specs.Global.{Vec}
-use Rattle.walrus_module.specs.Flags.{Flags, config_of}
-use Rattle.walrus.specs.Reported.{ReportsOn}
+use Rattle.std.proofs.lemmas.Result.{err_from_is_err_and}
+use Rattle.walrus_tools.specs.Choice.{choices_seen}
+use Rattle.walrus_tools.specs.Wanted.{config_wanted}
+use Rattle.walrus_tools.proofs.WeighEnds.{report_refused}
 use Rattle.walrus_tools.proofs.tool.report.report.Goals as goal
 
+pub returns-in_err-smaller : goal.returns-in_err-smaller
+returns-in_err-smaller c =
+    let p = err_from_is_err_and c.from_residual.result c.from_residual.ensures.1 in
+    rw (p.1, p.2) (report_refused (config_wanted c.args.wanted) c.args.bytes.now (choices_seen c.args.choices.now) _ c.in_err-smaller.ensures)
+
 pub returns : goal.returns
-returns c =
-    subst (λ (f : Flags). ReportsOn (config_of f) c.args.bytes.now (λ (output : Vec ℕ). output.items) c.report_of.result)
-    c.of_choices-config.ensures.value c.report_of.ensures
+returns c = (c.in_ok-smaller.smaller.output.items, c.in_ok-smaller.ensures)

@@ -5,7 +5,7 @@ use Rattle.walrus_module.specs.Flags.{Flags, config_of, flags}
 use Rattle.walrus_module.specs.Settings.{settings}
 use Rattle.walrus_tools.specs.FunctionMeaning.{texts}
 use Rattle.walrus_tools.specs.TrapEdit.{AnswersMeant, RefusesMeant, SnipsMeant}
-use Rattle.walrus_tools.proofs.EditEnds.{edit_finishes, edit_refused, parsed_whole}
+use Rattle.walrus_tools.proofs.EditEnds.{edit_finishes, edit_refused, parsed_whole, ready}
 use Rattle.walrus_tools.proofs.TrapWhole.{snips_meant}
 use Rattle.walrus_tools.proofs.tool.snip_functions.snip_functions.Goals as goal
 
@@ -20,6 +20,18 @@ returns-in_err-trap_meant c =
     (edit_refused _ (SnipsMeant all) (RefusesMeant all) (config_of f) c.args.bytes.now read c.in_ok-module.ensures.found (λ k h. h) (λ h. h) _
     (c.in_err-trap_meant.ensures (config_of f) (parsed_whole _ (SnipsMeant all) (RefusesMeant all) (config_of f) c.args.bytes.now read c.in_ok-module.ensures.found))))
 
+pub finished_ready-requires : goal.finished_ready-requires
+finished_ready-requires c =
+    let all = texts c.args.functions.now in
+    let f = flags c.of_choices-config.result in
+    let read = c.in_ok-module.module in
+    let same = c.of_choices-config.ensures.value in
+    let whole = parsed_whole _ (SnipsMeant all) (RefusesMeant all) (config_of f) c.args.bytes.now read c.in_ok-module.ensures.found in
+    let done = c.in_ok-trap_meant.ensures (config_of f) whole in
+    ready _ (SnipsMeant all) (RefusesMeant all) (config_of f) c.args.bytes.now read c.in_ok-module.ensures.found
+    _ (snips_meant all read _ done.0) (ap (λ m. m.customs) (done.0).others) done.1 c.in_ok-module.ensures.kept.raws c.in_ok-module.ensures.kept.are
+    f (ap settings (done.0).others ∙ c.in_ok-module.ensures.configured) refl (ap (λ (g : Flags). g.preserve_code_transform) same)
+
 pub returns : goal.returns
 returns c =
     let all = texts c.args.functions.now in
@@ -28,7 +40,7 @@ returns c =
     let same = c.of_choices-config.ensures.value in
     let whole = parsed_whole _ (SnipsMeant all) (RefusesMeant all) (config_of f) c.args.bytes.now read c.in_ok-module.ensures.found in
     let done = c.in_ok-trap_meant.ensures (config_of f) whole in
-    subst (λ (g : Flags). AnswersMeant (config_of g) c.args.bytes.now all c.finished.result) same
+    subst (λ (g : Flags). AnswersMeant (config_of g) c.args.bytes.now all c.finished_ready.result) same
     (edit_finishes _ (SnipsMeant all) (RefusesMeant all) (config_of f) c.args.bytes.now read c.in_ok-module.ensures.found
     _ (snips_meant all read _ done.0) (ap (λ m. m.customs) (done.0).others) done.1 c.in_ok-module.ensures.kept.raws c.in_ok-module.ensures.kept.are
-    f (ap settings (done.0).others ∙ c.in_ok-module.ensures.configured) refl (ap (λ (g : Flags). g.preserve_code_transform) same) c.finished.result c.finished.ensures)
+    f (ap settings (done.0).others ∙ c.in_ok-module.ensures.configured) refl (ap (λ (g : Flags). g.preserve_code_transform) same) c.finished_ready.result c.finished_ready.ensures)

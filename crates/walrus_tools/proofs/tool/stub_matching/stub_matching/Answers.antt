@@ -5,7 +5,7 @@ use Rattle.walrus_module.specs.Flags.{Flags, config_of, flags}
 use Rattle.walrus_module.specs.Settings.{settings}
 use Rattle.walrus_tools.specs.Choice.{choices_seen}
 use Rattle.walrus_tools.specs.StubMatching.{AnswersMatching, RefusesMatching, StubsMatching}
-use Rattle.walrus_tools.proofs.EditEnds.{edit_finishes, edit_refused, parsed_whole}
+use Rattle.walrus_tools.proofs.EditEnds.{edit_finishes, edit_refused, parsed_whole, ready}
 use Rattle.walrus_tools.proofs.MatchingEnds.{matching_held}
 use Rattle.walrus_tools.proofs.tool.stub_matching.stub_matching.Goals as goal
 
@@ -21,6 +21,19 @@ returns-in_err-stub_chosen c =
     (edit_refused _ (StubsMatching ms ns) (RefusesMatching ms ns) (config_of f) c.args.bytes.now read c.in_ok-module.ensures.found (λ k h. h) (λ h. h) _
     (c.in_err-stub_chosen.ensures (config_of f) (parsed_whole _ (StubsMatching ms ns) (RefusesMatching ms ns) (config_of f) c.args.bytes.now read c.in_ok-module.ensures.found))))
 
+pub finished_ready-requires : goal.finished_ready-requires
+finished_ready-requires c =
+    let ms = choices_seen c.args.modules.now in
+    let ns = choices_seen c.args.names.now in
+    let f = flags c.of_choices-config.result in
+    let read = c.in_ok-module.module in
+    let same = c.of_choices-config.ensures.value in
+    let whole = parsed_whole _ (StubsMatching ms ns) (RefusesMatching ms ns) (config_of f) c.args.bytes.now read c.in_ok-module.ensures.found in
+    let done = c.in_ok-stub_chosen.ensures (config_of f) whole in
+    ready _ (StubsMatching ms ns) (RefusesMatching ms ns) (config_of f) c.args.bytes.now read c.in_ok-module.ensures.found
+    _ (matching_held ms ns read _ done.0) (ap (λ m. m.customs) (done.0).stubs.others) done.1 c.in_ok-module.ensures.kept.raws c.in_ok-module.ensures.kept.are
+    f (ap settings (done.0).stubs.others ∙ c.in_ok-module.ensures.configured) refl (ap (λ (g : Flags). g.preserve_code_transform) same)
+
 pub returns : goal.returns
 returns c =
     let ms = choices_seen c.args.modules.now in
@@ -30,7 +43,7 @@ returns c =
     let same = c.of_choices-config.ensures.value in
     let whole = parsed_whole _ (StubsMatching ms ns) (RefusesMatching ms ns) (config_of f) c.args.bytes.now read c.in_ok-module.ensures.found in
     let done = c.in_ok-stub_chosen.ensures (config_of f) whole in
-    subst (λ (g : Flags). AnswersMatching (config_of g) c.args.bytes.now ms ns c.finished.result) same
+    subst (λ (g : Flags). AnswersMatching (config_of g) c.args.bytes.now ms ns c.finished_ready.result) same
     (edit_finishes _ (StubsMatching ms ns) (RefusesMatching ms ns) (config_of f) c.args.bytes.now read c.in_ok-module.ensures.found
     _ (matching_held ms ns read _ done.0) (ap (λ m. m.customs) (done.0).stubs.others) done.1 c.in_ok-module.ensures.kept.raws c.in_ok-module.ensures.kept.are
-    f (ap settings (done.0).stubs.others ∙ c.in_ok-module.ensures.configured) refl (ap (λ (g : Flags). g.preserve_code_transform) same) c.finished.result c.finished.ensures)
+    f (ap settings (done.0).stubs.others ∙ c.in_ok-module.ensures.configured) refl (ap (λ (g : Flags). g.preserve_code_transform) same) c.finished_ready.result c.finished_ready.ensures)
