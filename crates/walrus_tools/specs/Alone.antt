@@ -6,7 +6,7 @@ use Rattle.walrus_model.specs.Abstract.{Abstract, Function, FunctionKind, Import
 use Rattle.walrus_model.specs.Kept.{Kept}
 use Rattle.walrus_theorem.specs.Report.{Counts}
 use Rattle.walrus_tools.specs.Trap.{trap_ops}
-use Rattle.walrus_tools.specs.declared.alone.Alone.{Alone}
+use Rattle.walrus_tools.specs.declared.goers.Alone.{Alone}
 
 -- ---- a function that traps
 

@@ -12,7 +12,7 @@ use Rattle.walrus_module.specs.declared.module.Module.{Module}
 use Rattle.walrus_tools.specs.Alone.{bytes_of, size_of}
 use Rattle.walrus_tools.specs.FunctionMeaning.{has_body}
 use Rattle.walrus_tools.specs.TrapEdit.{IsTrapOf}
-use Rattle.walrus_tools.specs.declared.alone.Alone.{Alone}
+use Rattle.walrus_tools.specs.declared.goers.Alone.{Alone}
 
 -- ---- the trap
 

@@ -6,8 +6,8 @@ use Rattle.walrus_items.specs.Items.{space_number}
 use Rattle.walrus_model.specs.Abstract.{Abstract}
 use Rattle.walrus_model.specs.Live.{Has, IsLive}
 use Rattle.walrus_model.specs.Refers.{Refers}
-use Rattle.walrus_tools.specs.declared.callers.Kind.{Kind}
-use Rattle.walrus_tools.specs.declared.callers.Kind.TheVariants as kinds
+use Rattle.walrus_tools.specs.declared.referrers.Kind.{Kind}
+use Rattle.walrus_tools.specs.declared.referrers.Kind.TheVariants as kinds
 
 -- an item comes before another: by kind (types, functions, tables, memories, tags, globals, elements, data), and then by index
 abbrev pub IsBefore : Item → Item → Type 0

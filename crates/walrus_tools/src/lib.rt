@@ -7,9 +7,7 @@
 //! Main clause: `gc` in `src/tool/gc.rt`, with `RunsOn` (walrus): what a run makes of known bytes, or why it refuses them.
 #![tactic(auto)]
 
-mod alone;
 mod beginnings;
-mod callers;
 mod calls;
 mod choice;
 mod chooser;
@@ -18,6 +16,7 @@ mod finish;
 mod fits;
 mod function_meaning;
 mod functions;
+mod goers;
 mod import_choice;
 mod keep;
 mod law;
@@ -27,6 +26,7 @@ mod name_lists;
 mod named_exports;
 mod numbers;
 mod parts;
+mod referrers;
 mod tool;
 mod trap_bodies;
 mod traps;
