@@ -107,7 +107,7 @@ module _ {V : Type 0} {O : V → Type 0} (G : (v : V) → Ghosts (O v)) (Edits :
 
         -- what gc and emission come to, of a module that is ready for them
         module _ (f : Flags) (same : settings edited ≡ f) (is : config_of f ≡ c) (plain : f.preserve_code_transform ≡ false) where
-          ready : IsReady G edited
+          pub ready : IsReady G edited
           ready = record {
             made = subst (λ (d : Config). IsWellMade d (view G edited)) (sym (ap config_of same ∙ is)) edited_well;
             reached = edited_live;

@@ -8,6 +8,7 @@ mod ChoiceLists
 mod Choosers
 mod ChosenEnds
 mod ChosenImports
+mod ChosenListed
 mod Closures
 mod CountEnds
 mod CountRead
@@ -36,6 +37,7 @@ mod MatchingEnds
 mod MeantLemmas
 mod MeantTexts
 mod MeantThere
+mod MeasuredEnds
 mod MetadataEnds
 mod MovesEnds
 mod MovesOnce
@@ -63,11 +65,14 @@ mod SizeEnds
 mod SizeLemmas
 mod SnipCall
 mod SnipStep
+mod SpelledEnds
+mod Spellings
 mod Stars
 mod StripLemmas
 mod StubCall
 mod StubStep
 mod StubTurn
+mod ThoseLemmas
 mod TrapBody
 mod TrapSound
 mod TrapTurn

@@ -20,11 +20,11 @@ size_joined text size index bytes size_is is =
     ∙ sym (append_assoc (front ++ codes ": ") (decimal bytes) (codes " bytes\n"))
 
 -- behind the lines of those before stands the line of the next
-pub line_more : {X Y : Type 0} (line : Y → List ℕ) (seen : X → Y) (xs : List X) (i : ℕ) (d : X) → i < length xs → (text : List ℕ) → text ≡ line (seen (get_or xs i d))
+pub line_more : {X Y Z : Type 0} (line : Y → List Z) (seen : X → Y) (xs : List X) (i : ℕ) (d : X) → i < length xs → (text : List Z) → text ≡ line (seen (get_or xs i d))
     → flat_map line (map seen (take i xs)) ++ text ≡ flat_map line (map seen (take (i + 1) xs))
-line_more {Y = Y} line seen xs i d lt text is =
+line_more {Y = Y} {Z = Z} line seen xs i d lt text is =
     let more : map seen (take (i + 1) xs) ≡ map seen (take i xs) ++ seen (get_or xs i d) ∷ [] = map_more seen xs i d lt in
     let one : flat_map line (seen (get_or xs i d) ∷ []) ≡ line (seen (get_or xs i d)) = append-nil (line (seen (get_or xs i d))) in
-    ap (λ (t : List ℕ). flat_map line (map seen (take i xs)) ++ t) (is ∙ sym one)
+    ap (λ (t : List Z). flat_map line (map seen (take i xs)) ++ t) (is ∙ sym one)
     ∙ sym (flat_map-append line (map seen (take i xs)) (seen (get_or xs i d) ∷ []))
     ∙ sym (ap (λ (ys : List Y). flat_map line ys) more)

@@ -1,0 +1,15 @@
+use Rattle.std.proofs.lemmas.Result.{err_from_is_err_and}
+use Rattle.walrus_tools.specs.Choice.{choices_seen}
+use Rattle.walrus_tools.specs.Wanted.{config_wanted}
+use Rattle.walrus_tools.proofs.SpelledEnds.{dropped_refused, dropped_spelled}
+use Rattle.walrus_tools.proofs.tool.dropped.dropped_list.Goals as goal
+
+pub returns-in_err-functions : goal.returns-in_err-functions
+returns-in_err-functions c =
+    let p = err_from_is_err_and c.from_residual.result c.from_residual.ensures.1 in
+    rw (p.1, p.2) (dropped_refused (config_wanted c.args.wanted) c.args.bytes.now (choices_seen c.args.choices.now) _ c.in_err-functions.ensures)
+
+pub returns : goal.returns
+returns c =
+    dropped_spelled (config_wanted c.args.wanted) c.args.bytes.now (choices_seen c.args.choices.now) c.deref.result.now _ c.deref.ensures.value c.in_ok-functions.ensures
+    c.spelled.result c.spelled.ensures.value c.spelled.ensures.fits c.spelled.ensures.refused
