@@ -1,0 +1,73 @@
+-- What is told in a line of a module that became smaller.
+use Rattle.std.specs.Prelude.{ℕ, ◌-◌, ◌%◌, List, [], ◌∷◌, ◌++◌, ◌&&◌, codes, decimal, length, nat_eq, nat_lt, if◌then◌else◌}
+use Rattle.walrus_tools.specs.WeighText.{rest_of}
+use Rattle.walrus_tools.specs.declared.kinds.Kinds.{Kinds}
+use Rattle.walrus_tools.specs.declared.weigh.Weighed.{Weighed}
+use Rattle.mulkavesh.specs.Json.{separated}
+
+-- ---- numbers
+
+-- a comma, where so many digits behind it are threes
+abbrev pub comma_before : (behind : ℕ) → List ℕ
+comma_before behind = if nat_lt 0 behind && nat_eq (behind % 3) 0 then codes "," else []
+
+-- digits with a comma between thousands
+abbrev pub spaced : (digits : List ℕ) → List ℕ
+spaced [] = []
+spaced (digit ∷ rest) = (digit ∷ comma_before (length rest)) ++ spaced rest
+
+abbrev pub grouped : ℕ → List ℕ
+grouped number = spaced (decimal number)
+
+-- ---- what was dropped
+
+-- of a kind of items, if some of them were
+abbrev pub kind_part : (word : List ℕ) → (before after : ℕ) → List (List ℕ)
+kind_part word before after =
+    if nat_eq (before - after) 0 then []
+    else (grouped (before - after) ++ codes " of " ++ grouped before ++ codes " " ++ word) ∷ []
+
+-- functions, with how many bytes the bodies of those have that were dropped
+abbrev pub functions_word : (bodies : ℕ) → List ℕ
+functions_word bodies = codes "functions (" ++ grouped bodies ++ codes " bytes)"
+
+-- of items
+abbrev pub item_parts : (bodies : ℕ) → (before after : Kinds) → List (List ℕ)
+item_parts bodies before after =
+    kind_part (functions_word bodies) before.functions after.functions
+    ++ kind_part (codes "tables") before.tables after.tables
+    ++ kind_part (codes "memories") before.memories after.memories
+    ++ kind_part (codes "tags") before.tags after.tags
+    ++ kind_part (codes "globals") before.globals after.globals
+    ++ kind_part (codes "elements") before.elements after.elements
+    ++ kind_part (codes "data") before.data_ after.data_
+
+-- of debug information, if there was any
+abbrev pub debug_part : (debug : ℕ) → List (List ℕ)
+debug_part debug = if nat_eq debug 0 then [] else (grouped debug ++ codes " bytes of debug information") ∷ []
+
+-- these, or that it was nothing
+abbrev pub parts_text : List (List ℕ) → List ℕ
+parts_text [] = codes "nothing"
+parts_text (part ∷ others) = separated (codes ", ") (part ∷ others)
+
+-- ---- the line
+
+-- how many bytes become how many
+abbrev pub sizes_text : (read written : ℕ) → List ℕ
+sizes_text read written = codes "mulkavesh: " ++ grouped read ++ codes " bytes become " ++ grouped written ++ codes "; dropped: "
+
+-- how many bytes all else takes less, or more
+abbrev pub rest_text : (rest written : ℕ) → List ℕ
+rest_text rest written =
+    if nat_lt rest written then codes "; the rest is " ++ grouped (written - rest) ++ codes " bytes more"
+    else codes "; the rest is " ++ grouped (rest - written) ++ codes " bytes less"
+
+-- why there are more bytes than there were, where it is so
+abbrev pub longer_text : (read written : ℕ) → List ℕ
+longer_text read written = if nat_lt read written then codes "; functions stand by falling size, so indices may take more bytes" else []
+
+abbrev pub note_text : Weighed → List ℕ
+note_text w =
+    sizes_text w.read w.written ++ parts_text (item_parts w.bodies w.before w.after ++ debug_part w.debug) ++ rest_text (rest_of w) w.written
+    ++ longer_text w.read w.written ++ codes "\n"
