@@ -1,26 +1,24 @@
 -- What is wrong with arguments that say nothing: each mistake is there, of its kind and with its argument.
-use Rattle.std.specs.Prelude.{◌≡◌, ◌≢◌, ◌⊎◌, ℕ, Bool, true, false, List, [], ◌∷◌, ◌++◌, Option, Some, None, Result, Ok, Err, All, flat_map, length, codes, string_bytes, ◌||◌, if◌then◌else◌}
+use Rattle.std.specs.Prelude.{◌≡◌, ◌≢◌, ◌⊎◌, ℕ, Bool, true, false, List, [], ◌∷◌, ◌++◌, Option, Some, None, Result, Ok, Err, All, flat_map, length, codes, string_bytes, if◌then◌else◌}
 use Rattle.mulkavesh.specs.declared.order.Work.{Work}
 use Rattle.mulkavesh.specs.declared.order.Flag.{Flag}
 use Rattle.mulkavesh.specs.declared.order.Naming.{Naming}
 use Rattle.mulkavesh.specs.declared.order.Order.{Order}
-use Rattle.mulkavesh.specs.declared.order.Naming.TheVariants.{Section}
-use Rattle.mulkavesh.specs.declared.order.Flag.TheVariants as option
 use Rattle.mulkavesh.specs.declared.order.Asked.{Asked}
 use Rattle.mulkavesh.specs.declared.order.Asked.TheVariants.{Version}
 use Rattle.mulkavesh.specs.declared.mistakes.Wrong.{Wrong}
-use Rattle.mulkavesh.specs.declared.mistakes.Wrong.TheVariants.{UnknownOption, NotTaken, TakesNoValue, NoValue, SecondOutput, SecondInput, OperandMissing, NoSection, OutOfMemory}
+use Rattle.mulkavesh.specs.declared.mistakes.Wrong.TheVariants.{UnknownOption, NotTaken, TakesNoValue, NoValue, BadValue, SecondOutput, SecondInput, OperandMissing, NoSection, NothingMeant, Apart, OutOfMemory}
 use Rattle.mulkavesh.specs.declared.mistakes.Mistake.{Mistake}
 use Rattle.mulkavesh.specs.declared.mistakes.Mistake.TheVariants.{NoArguments, UnknownSubcommand, Extra, Behind}
-use Rattle.mulkavesh.specs.Order.{Said, flag_word, has_flag, has_naming, has_operand, is_strip, joined_front, naming_word, said, value_bytes, work_word}
-use Rattle.mulkavesh.specs.Words.{IsNoWork, IsPlain, Piece, Says, SaysOrder, Word, behind_words, ending_words, flag, flag_in, out_in, piece_words, plain_in, section_equals, valued}
+use Rattle.mulkavesh.specs.Order.{Said, are_apart, asks_gone, has_flag, has_naming, has_operand, is_strip, joined_front, names_some, naming_word, needs, said, value_bytes, work_word}
+use Rattle.mulkavesh.specs.Words.{IsGood, IsNoWork, IsPiece, IsPlain, Piece, Reads, Says, SaysOrder, Word, behind_words, ending_words, flag_in, out_of, piece_words, plain_in, valued_in}
 
 -- ---- behind a subcommand
 
 -- these are pieces, and then these arguments
 pub record Stands (words : List Word) (pieces : List Piece) (more : List Word) : Type 0 where
   pub are : words ≡ flat_map piece_words pieces ++ more
-  pub plain_words : All IsPlain (flat_map plain_in pieces)
+  pub made : All IsPiece pieces
 
 -- how many plain arguments there can be: what the subcommand is about, and IN
 abbrev pub room_if : (has_operand : Bool) → ℕ
@@ -37,28 +35,9 @@ pub record IsUnknown (word : Word) : Type 0 where
   pub no_ending : word ≢ codes "--"
   pub none : (p : Piece) (more : List Word) → plain_in p ≡ [] → piece_words p ≡ word ∷ more → ⊥
 
--- the option says of some sections that they go
-abbrev pub is_gone : Flag → Bool
-is_gone option.Names = true
-is_gone option.Producers = true
-is_gone option.Debug = true
-is_gone option.All = true
-is_gone _ = false
-
-abbrev pub is_section : Naming → Bool
-is_section Section = true
-is_section _ = false
-
--- one of the pieces says of some sections that they go
-abbrev pub says_gone : Piece → Bool
-says_gone (flag f) = is_gone f
-says_gone (valued n w) = is_section n
-says_gone (section_equals w) = true
-says_gone _ = false
-
-abbrev pub any_gone : List Piece → Bool
-any_gone [] = false
-any_gone (p ∷ pieces) = says_gone p || any_gone pieces
+-- the argument is this option without a value
+abbrev pub IsFlag : Flag → Word → Type 0
+IsFlag f word = (p : Piece) × (piece_words p ≡ word ∷ []) × (flag_in p ≡ f ∷ [])
 
 -- the argument is this option, which has a value, or begins with it and a value
 abbrev pub IsNamed : Naming → Word → Type 0
@@ -66,27 +45,37 @@ IsNamed n word = (word ≡ naming_word n) ⊎ ((value : Word) × (word ≡ joine
 
 -- the argument is an option that the subcommand doesn't have: without a value, or one that has one
 abbrev pub IsNotTaken : Work → Word → Type 0
-IsNotTaken w word =
-    ((p : Piece) × (f : Flag) × (piece_words p ≡ word ∷ []) × (flag_in p ≡ f ∷ []) × (has_flag w f ≡ false))
-    ⊎ ((n : Naming) × IsNamed n word × (has_naming w n ≡ false))
+IsNotTaken w word = ((f : Flag) × IsFlag f word × (has_flag w f ≡ false)) ⊎ ((n : Naming) × IsNamed n word × (has_naming w n ≡ false))
 
--- where a list of words stands behind pieces that name these files to be written, have these plain arguments, and say of sections that they go or don't:
--- its first argument is wrong so
-module _ (w : Work) (outs plains : List Word) (gone : Bool) (more : List Word) where
+-- the argument is an option that takes no value, and a value
+abbrev pub HasValue : Word → Type 0
+HasValue word = (f : Flag) × (front : Word) × (value : Word) × IsFlag f front × (word ≡ front ++ (codes "=" ++ value))
+
+-- where arguments stand behind these pieces: the first of them is wrong so
+module _ (w : Work) (pieces : List Piece) (more : List Word) where
   abbrev pub WrongAt : Wrong → Type 0
   WrongAt (UnknownOption a) = (rest : List Word) × (more ≡ string_bytes a ∷ rest) × IsUnknown (string_bytes a)
   WrongAt (NotTaken a) = (rest : List Word) × (more ≡ string_bytes a ∷ rest) × IsNotTaken w (string_bytes a)
-  WrongAt (TakesNoValue a) = (f : Flag) × (value : Word) × (rest : List Word) × (more ≡ string_bytes a ∷ rest) × (string_bytes a ≡ flag_word f ++ (codes "=" ++ value))
+  WrongAt (TakesNoValue a) = (rest : List Word) × (more ≡ string_bytes a ∷ rest) × HasValue (string_bytes a)
   WrongAt (NoValue n) = (more ≡ naming_word n ∷ []) × (has_naming w n ≡ true)
-  WrongAt (SecondOutput v) = (p : Piece) × (rest : List Word) × (more ≡ piece_words p ++ rest) × (out_in p ≡ value_bytes v ∷ []) × (outs ≢ [])
-  WrongAt (SecondInput a) = (behind : Option (List Word)) × (rest : List Word) × (more ≡ ending_words behind ++ string_bytes a ∷ rest) × (behind ≡ None → IsPlain (string_bytes a)) × (length (plains ++ behind_words behind) ≡ room w)
-  WrongAt OperandMissing = (behind : Option (List Word)) × (more ≡ ending_words behind) × (has_operand w ≡ true) × (plains ++ behind_words behind ≡ [])
-  WrongAt NoSection = (behind : Option (List Word)) × (more ≡ ending_words behind) × (is_strip w ≡ true) × (gone ≡ false)
-  WrongAt OutOfMemory = ⊥
+  WrongAt (BadValue n v) = (p : Piece) × (rest : List Word) × IsPiece p × (more ≡ piece_words p ++ rest) × (valued_in p ≡ (n, value_bytes v) ∷ []) × (has_naming w n ≡ true) × (IsGood (n, value_bytes v) → ⊥)
+  WrongAt (SecondOutput v) = (p : Piece) × (rest : List Word) × IsPiece p × (more ≡ piece_words p ++ rest) × (flat_map out_of (valued_in p) ≡ value_bytes v ∷ []) × (flat_map out_of (flat_map valued_in pieces) ≢ [])
+  WrongAt (SecondInput a) = (behind : Option (List Word)) × (rest : List Word) × (more ≡ ending_words behind ++ string_bytes a ∷ rest) × (behind ≡ None → IsPlain (string_bytes a)) × (length (flat_map plain_in pieces ++ behind_words behind) ≡ room w)
+  WrongAt _ = ⊥
+
+-- this is missing of what the arguments say, or doesn't go together in it
+abbrev pub IsMissing : Said → Wrong → Type 0
+IsMissing o OperandMissing = (has_operand o.work ≡ true) × (o.operand ≡ None)
+IsMissing o NoSection = (is_strip o.work ≡ true) × (asks_gone o ≡ false)
+IsMissing o NothingMeant = (needs o.work ≡ true) × (names_some o ≡ false)
+IsMissing o Apart = are_apart o.listing ≡ true
+IsMissing o _ = ⊥
 
 -- this is wrong behind the subcommand
 abbrev pub IsWrong : (w : Work) (words : List Word) → Wrong → Type 0
-IsWrong w words wrong = (pieces : List Piece) × (more : List Word) × Stands words pieces more × WrongAt w (flat_map out_in pieces) (flat_map plain_in pieces) (any_gone pieces) more wrong
+IsWrong w words wrong =
+    ((pieces : List Piece) × (more : List Word) × Stands words pieces more × WrongAt w pieces more wrong)
+    ⊎ ((o : Said) × Reads (work_word w ∷ words) o × IsMissing o wrong)
 
 -- memory ran out
 abbrev pub is_memory_wrong : Wrong → Bool

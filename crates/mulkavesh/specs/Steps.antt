@@ -1,16 +1,19 @@
 -- Where each argument behind the subcommand goes, as the program puts it there.
-use Rattle.std.specs.Prelude.{◌≡◌, ◌⊎◌, ℕ, Bool, true, false, not, ◌&&◌, ◌||◌, List, [], ◌∷◌, ◌++◌, Option, Some, None, Result, Ok, Err, bytes_eq, is_some, codes, map, string_bytes, String, if◌then◌else◌}
+use Rattle.std.specs.Prelude.{◌≡◌, ◌⊎◌, ◌==◌, ℕ, ◌^◌, Bool, true, false, not, ◌&&◌, ◌||◌, List, [], ◌∷◌, ◌++◌, Option, Some, None, Result, Ok, Err, bytes_eq, is_some, codes, length, ltb, map, string_bytes, String, if◌then◌else◌}
+use Rattle.std.specs.Char.{digit_value}
+use Rattle.std.specs.List.{before_first, list_all, position_or_len}
+use Rattle.std.specs.Str.Parse.{digits_value, without_leading_plus}
 use Rattle.std.specs.declared.alloc.Global.{Global}
 use Rattle.std.specs.declared.vec.IntoIter.{IntoIter}
 use Rattle.std.specs.Vec.Iter.{into_iter_items}
 use Rattle.mulkavesh.specs.declared.order.Flag.{Flag}
-use Rattle.mulkavesh.specs.declared.order.Flag.TheVariants.{NoNames, NoProducers, NoLegacy, Quiet, Json, Names, Producers, Debug, All}
+use Rattle.mulkavesh.specs.declared.order.Flag.TheVariants as option
 use Rattle.mulkavesh.specs.declared.order.Naming.{Naming}
-use Rattle.mulkavesh.specs.declared.order.Naming.TheVariants.{Short, Long, Section}
+use Rattle.mulkavesh.specs.declared.order.Naming.TheVariants as naming
 use Rattle.mulkavesh.specs.declared.order.Order.{Order}
 use Rattle.mulkavesh.specs.declared.order.Value.{Value}
 use Rattle.mulkavesh.specs.declared.mistakes.Wrong.{Wrong}
-use Rattle.mulkavesh.specs.declared.mistakes.Wrong.TheVariants.{UnknownOption, NotTaken, TakesNoValue, NoValue, SecondOutput, SecondInput, OperandMissing, NoSection, OutOfMemory}
+use Rattle.mulkavesh.specs.declared.mistakes.Wrong.TheVariants.{UnknownOption, NotTaken, TakesNoValue, NoValue, BadValue, SecondOutput, SecondInput, OperandMissing, NoSection, NothingMeant, Apart, OutOfMemory}
 use Rattle.mulkavesh.specs.declared.mistakes.Mistake.{Mistake}
 use Rattle.mulkavesh.specs.declared.mistakes.Mistake.TheVariants.{Extra}
 use Rattle.mulkavesh.specs.declared.order.Asked.{Asked}
@@ -20,7 +23,7 @@ use Rattle.mulkavesh.specs.declared.words.Seen.{Seen}
 use Rattle.mulkavesh.specs.declared.words.Seen.TheVariants as seen
 use Rattle.mulkavesh.specs.declared.words.Spelling.{Spelling}
 use Rattle.mulkavesh.specs.declared.words.Spelling.TheVariants as kind
-use Rattle.mulkavesh.specs.Order.{Said, asks_gone, begins, flag_named, has_flag, has_naming, has_operand, is_strip, naming_named, said}
+use Rattle.mulkavesh.specs.Order.{Said, are_apart, asks_gone, begins, flag_named, has_flag, has_naming, has_operand, is_strip, naming_named, names_some, needs, said, value_bytes}
 
 -- ---- help
 
@@ -28,8 +31,8 @@ use Rattle.mulkavesh.specs.Order.{Said, asks_gone, begins, flag_named, has_flag,
 abbrev pub look_at : List ℕ → Seen
 look_at word =
     if bytes_eq word (codes "-h") || bytes_eq word (codes "--help") then seen.Help
-    else (if bytes_eq word (codes "-o") || bytes_eq word (codes "--output") || bytes_eq word (codes "--section") then seen.Option
-    else (if bytes_eq word (codes "--") then seen.Ending else seen.Nothing))
+    else (if bytes_eq word (codes "--") then seen.Ending
+    else (if is_some (naming_named word) then seen.Option else seen.Nothing))
 
 -- what is seen with one argument more
 abbrev pub look : Seen → List ℕ → Seen
@@ -55,15 +58,38 @@ asks_help words = is_help (looks seen.Nothing words)
 abbrev pub with_output : Said → Value → Result Said Wrong
 with_output o v = if is_some o.output then Err (SecondOutput v) else Ok (record o { output = Some v })
 
--- one section more that goes
-abbrev pub with_section : Said → Value → Result Said Wrong
-with_section o v = Ok (record o { sections = o.sections ++ v ∷ [] })
+-- one value more of an option that may stand several times
+abbrev pub with_named : Said → Naming → Value → Result Said Wrong
+with_named o n v = Ok (record o { values = o.values ++ record { naming = n; value = v } ∷ [] })
+
+-- whether the largest stands first, as the value of `--by` says
+abbrev pub by_said : List ℕ → Option Bool
+by_said word = if bytes_eq word (codes "size") then Some true else (if bytes_eq word (codes "index") then Some false else None)
+
+abbrev pub with_by : Said → Value → Option Bool → Result Said Wrong
+with_by o v (Some b) = Ok (record o { listing = record (o.listing) { by_size = b } })
+with_by o v None = Err (BadValue naming.By v)
+
+-- the number of so many bits that digits say in decimal
+abbrev pub digits_said : (bits : ℕ) → List ℕ → Option ℕ
+digits_said bits digits =
+    if ltb 0 (length digits) && list_all (λ c. ltb (digit_value c) 10) digits && ltb (digits_value 10 digits) (2 ^ bits) then Some (digits_value 10 digits) else None
+
+-- the number of 32 bits that the word says, before which a plus may stand
+abbrev pub number_said : List ℕ → Option ℕ
+number_said word = digits_said 32 (without_leading_plus word)
+
+abbrev pub with_count : Said → Value → Option ℕ → Result Said Wrong
+with_count o v (Some n) = Ok (record o { listing = record (o.listing) { count = Some n } })
+with_count o v None = Err (BadValue naming.Count v)
 
 -- the value of an option
 abbrev pub with_value : Said → Naming → Value → Result Said Wrong
-with_value o Short v = with_output o v
-with_value o Long v = with_output o v
-with_value o Section v = with_section o v
+with_value o naming.Short v = with_output o v
+with_value o naming.Long v = with_output o v
+with_value o naming.By v = with_by o v (by_said (value_bytes v))
+with_value o naming.Count v = with_count o v (number_said (value_bytes v))
+with_value o n v = with_named o n v
 
 -- as what the subcommand is about, and else as IN
 abbrev pub with_plain : Said → String Global → Result Said Wrong
@@ -72,15 +98,19 @@ with_plain o w =
     else (if is_some o.input then Err (SecondInput w) else Ok (record o { input = Some w }))
 
 abbrev pub set : Said → Flag → Said
-set o NoNames = record o { wanted = record (o.wanted) { names = false } }
-set o NoProducers = record o { wanted = record (o.wanted) { producers = false } }
-set o NoLegacy = record o { wanted = record (o.wanted) { legacy = false } }
-set o Quiet = record o { is_quiet = true }
-set o Json = record o { is_json = true }
-set o Names = record o { gone = record (o.gone) { names = true } }
-set o Producers = record o { gone = record (o.gone) { producers = true } }
-set o Debug = record o { gone = record (o.gone) { debug = true } }
-set o All = record o { is_all = true }
+set o option.NoNames = record o { wanted = record (o.wanted) { names = false } }
+set o option.NoProducers = record o { wanted = record (o.wanted) { producers = false } }
+set o option.NoLegacy = record o { wanted = record (o.wanted) { legacy = false } }
+set o option.Quiet = record o { is_quiet = true }
+set o option.Json = record o { is_json = true }
+set o option.Names = record o { gone = record (o.gone) { names = true } }
+set o option.Producers = record o { gone = record (o.gone) { producers = true } }
+set o option.Debug = record o { gone = record (o.gone) { debug = true } }
+set o option.All = record o { is_all = true }
+set o option.Exports = record o { listing = record (o.listing) { exports = true } }
+set o option.Imports = record o { listing = record (o.listing) { imports = true } }
+set o option.Dropped = record o { listing = record (o.listing) { dropped = true } }
+set o option.Callers = record o { listing = record (o.listing) { callers = true } }
 
 abbrev pub with_flag : Said → Flag → String Global → Result Said Wrong
 with_flag o f w = if has_flag o.work f then Ok (set o f) else Err (NotTaken w)
@@ -104,21 +134,36 @@ waiting o n w = if has_naming o.work n then Ok (o, place.Value n) else Err (NotT
 abbrev pub put_joined : Said → Naming → String Global → Put
 put_joined o n w = if has_naming o.work n then put_value o n w (Some n) else Err (NotTaken w)
 
--- it is an option that takes no value, with one
-abbrev pub has_value : List ℕ → Bool
-has_value word =
-    begins (codes "--no-names=") word || begins (codes "--no-producers=") word || begins (codes "--no-legacy=") word || begins (codes "--quiet=") word
-    || begins (codes "--json=") word || begins (codes "--names=") word || begins (codes "--producers=") word || begins (codes "--debug=") word
-    || begins (codes "--all=") word
+-- what stands in front of the first sign of equality is an option: one that has a value, or one that takes none
+abbrev pub equals_by : Option Naming → Option Flag → Option Spelling
+equals_by (Some n) f = Some (kind.Joined n)
+equals_by None (Some f) = Some kind.Valued
+equals_by None None = None
 
--- what it is, if it isn't spelled as an option that has no value in it
+-- it is the sign of equality
+abbrev pub is_equals : ℕ → Bool
+is_equals byte = byte == 61
+
+-- an option, a sign of equality and a value
+abbrev pub equals_in : List ℕ → Option Spelling
+equals_in word =
+    if ltb (position_or_len is_equals word) (length word) then equals_by (naming_named (before_first is_equals word)) (flag_named (before_first is_equals word))
+    else None
+
+-- an option that isn't known, or none
+abbrev pub spelled_plain : List ℕ → Spelling
+spelled_plain word = if begins (codes "-") word then kind.Unknown else kind.Plain
+
+abbrev pub or_plain : Option Spelling → List ℕ → Spelling
+or_plain (Some s) word = s
+or_plain None word = spelled_plain word
+
+-- what it is, if it isn't spelled as an option alone
 abbrev pub spelled_otherwise : List ℕ → Spelling
 spelled_otherwise word =
-    if begins (codes "--output=") word then kind.Joined Long
-    else (if begins (codes "--section=") word then kind.Joined Section
-    else (if begins (codes "-o") word then kind.Joined Short
-    else (if has_value word then kind.Valued
-    else (if begins (codes "-") word then kind.Unknown else kind.Plain))))
+    if begins (codes "-o") word then kind.Joined naming.Short
+    else (if begins (codes "-n") word then kind.Joined naming.Count
+    else or_plain (equals_in word) word)
 
 abbrev pub spelled_as : Option Flag → List ℕ → Spelling
 spelled_as (Some f) word = kind.Flag f
@@ -160,11 +205,13 @@ abbrev pub put_words : Said → Place → List (String Global) → Put
 put_words o p [] = Ok (o, p)
 put_words o p (w ∷ words) = then_put (λ (m : Said) (q : Place). put_words m q words) (put_word o p w)
 
--- what is missing of an order: what it is about, or what goes
+-- what is missing of an order: what it is about, what goes, or what is changed; or what doesn't go together
 abbrev pub missing : Said → Option Wrong
 missing o =
     if has_operand o.work && not (is_some o.operand) then Some OperandMissing
-    else (if is_strip o.work && not (asks_gone o) then Some NoSection else None)
+    else (if is_strip o.work && not (asks_gone o) then Some NoSection
+    else (if needs o.work && not (names_some o) then Some NothingMeant
+    else (if are_apart o.listing then Some Apart else None)))
 
 -- what is missing behind the last argument
 abbrev pub lacking : Said → Place → Option Wrong

@@ -13,6 +13,8 @@ pub(crate) enum Wrong {
     TakesNoValue(String),
     /// Nothing stands behind this option, which has a value.
     NoValue(Naming),
+    /// This option has no such value.
+    BadValue(Naming, Value),
     /// This is a second file to be written.
     SecondOutput(Value),
     /// This is a second file to be read.
@@ -21,6 +23,10 @@ pub(crate) enum Wrong {
     OperandMissing,
     /// Nothing says which sections go.
     NoSection,
+    /// Nothing says which functions, or functions of which modules, are to trap.
+    NothingMeant,
+    /// It is told to list things that don't go together.
+    Apart,
     /// Memory ran out before all arguments were told apart.
     OutOfMemory,
 }

@@ -1,7 +1,8 @@
 //! What can be asked for on the command line.
 
 ghost use Rattle.std.specs.Prelude.{◌≡◌};
-ghost use Rattle.mulkavesh.specs.Order.{IsWorkOf, asks_gone, flag_named, has_flag, has_naming, has_operand, joined_front, makes_module, naming_named, new_said, new_wanted, said, value_bytes};
+ghost use Rattle.mulkavesh.specs.Order.{IsWorkOf, are_apart, asks_gone, flag_named, has_flag, has_naming, has_operand, joined_front, makes_module, names_some, naming_named};
+ghost use Rattle.mulkavesh.specs.Order.{needs, new_listing, new_said, new_wanted, said, takes_names, value_bytes};
 
 use std::alloc::Global;
 use walrus_tools::Wanted;
@@ -32,14 +33,25 @@ pub(crate) enum Flag {
     Producers,
     Debug,
     All,
+    Exports,
+    Imports,
+    Dropped,
+    Callers,
 }
 
-/// An option that has a value, as it is spelled: `-o` or `--output`, which name the file that is written, or `--section`.
+/// An option that has a value, as it is spelled: `-o` or `--output`, which name the file that is written, `-n` (a count), or a word behind two dashes.
 #[derive(Clone, Copy, PartialEq, Eq)]
 pub(crate) enum Naming {
     Short,
     Long,
     Section,
+    Keep,
+    Drop,
+    Function,
+    Module,
+    Import,
+    By,
+    Count,
 }
 
 /// The value of an option: an argument of its own, or what stands behind the option in one argument, as in `-oFILE` and `--section=NAME`.
@@ -60,6 +72,13 @@ fn joined_front(joined: Option<Naming>) -> &'static str
         Some(Naming::Short) => "-o",
         Some(Naming::Long) => "--output=",
         Some(Naming::Section) => "--section=",
+        Some(Naming::Keep) => "--keep=",
+        Some(Naming::Drop) => "--drop=",
+        Some(Naming::Function) => "--function=",
+        Some(Naming::Module) => "--module=",
+        Some(Naming::Import) => "--import=",
+        Some(Naming::By) => "--by=",
+        Some(Naming::Count) => "-n",
     }
 }
 
@@ -76,12 +95,36 @@ impl Value {
     }
 }
 
+/// A value, with the option that it stands behind.
+#[derive(Drop)]
+pub(crate) struct Named {
+    pub(crate) naming: Naming,
+    pub(crate) value: Value,
+}
+
 /// Which custom sections go, beside those that are named one by one.
 #[derive(Clone, Copy)]
 pub(crate) struct Gone {
     pub(crate) names: bool,
     pub(crate) producers: bool,
     pub(crate) debug: bool,
+}
+
+/// What is listed, and in what order. With none of the first three these are the functions that stay.
+#[derive(Clone, Copy)]
+pub(crate) struct Listing {
+    /// The exports that stay.
+    pub(crate) exports: bool,
+    /// The imports that stay.
+    pub(crate) imports: bool,
+    /// The functions that go.
+    pub(crate) dropped: bool,
+    /// What refers to an item, and not the chain that leads to it.
+    pub(crate) callers: bool,
+    /// Whether the largest stands first; else they stand by index.
+    pub(crate) by_size: bool,
+    /// How many there are at most.
+    pub(crate) count: Option<u32>,
 }
 
 /// A subcommand, with what is said to it.
@@ -97,9 +140,10 @@ pub(crate) struct Order {
     pub(crate) is_json: bool,
     /// Whether all is meant: of the custom sections those that can go, and of the sections also what they hold.
     pub(crate) is_all: bool,
-    /// The NAMEs of sections that go.
-    pub(crate) sections: Vec<Value>,
-    /// The export, the module or the function that it is about.
+    pub(crate) listing: Listing,
+    /// The values of the options that may stand several times: all but `-o`, `--output`, `--by` and `-n`.
+    pub(crate) values: Vec<Named>,
+    /// The function or the export that it is about.
     pub(crate) operand: Option<String>,
     /// The file that is read; none for standard input.
     pub(crate) input: Option<String>,
@@ -127,6 +171,20 @@ pub(crate) fn new_wanted() -> Wanted
     }
 }
 
+/// What is listed where nothing is said of that.
+pub(crate) fn new_listing() -> Listing
+    ensures { result ≡ new_listing }
+{
+    Listing {
+        exports: false,
+        imports: false,
+        dropped: false,
+        callers: false,
+        by_size: false,
+        count: None,
+    }
+}
+
 impl Order {
     /// The subcommand, with nothing said to it yet.
     pub(crate) fn new(alloc: Global, work: Work) -> Order
@@ -144,11 +202,24 @@ impl Order {
             is_quiet: false,
             is_json: false,
             is_all: false,
-            sections: Vec::new(alloc),
+            listing: new_listing(),
+            values: Vec::new(alloc),
             operand: None,
             input: None,
             output: None,
         }
+    }
+
+    /// Whether an option names what the subcommand takes away or changes.
+    pub(crate) fn names_some(&self) -> bool
+        ensures { result ≡ names_some (said self.now) }
+    {
+        'values: for named in &self.values {
+            if takes_names(self.work, named.naming) {
+                return true;
+            }
+        }
+        false
     }
 
     /// Whether it says of some sections that they go.
@@ -156,8 +227,16 @@ impl Order {
         ensures { result ≡ asks_gone (said self.now) }
     {
         let gone = self.gone;
-        !self.sections.is_empty() || gone.names || gone.producers || gone.debug || self.is_all
+        self.names_some() || gone.names || gone.producers || gone.debug || self.is_all
     }
+}
+
+/// Whether two things are asked for that don't go together.
+pub(crate) fn are_apart(listing: Listing) -> bool
+    ensures { result ≡ are_apart listing }
+{
+    let of_one = listing.exports || listing.imports;
+    (listing.exports && listing.imports) || (of_one && (listing.dropped || listing.by_size))
 }
 
 /// The subcommand of this word.
@@ -192,6 +271,10 @@ pub(crate) fn flag_of(word: &str) -> Option<Flag>
         "--producers" => Some(Flag::Producers),
         "--debug" => Some(Flag::Debug),
         "--all" => Some(Flag::All),
+        "--exports" => Some(Flag::Exports),
+        "--imports" => Some(Flag::Imports),
+        "--dropped" => Some(Flag::Dropped),
+        "--callers" => Some(Flag::Callers),
         _ => None,
     }
 }
@@ -204,15 +287,41 @@ pub(crate) fn naming_of(word: &str) -> Option<Naming>
         "-o" => Some(Naming::Short),
         "--output" => Some(Naming::Long),
         "--section" => Some(Naming::Section),
+        "--keep" => Some(Naming::Keep),
+        "--drop" => Some(Naming::Drop),
+        "--function" => Some(Naming::Function),
+        "--module" => Some(Naming::Module),
+        "--import" => Some(Naming::Import),
+        "--by" => Some(Naming::By),
+        "-n" => Some(Naming::Count),
         _ => None,
     }
 }
 
-/// Whether the subcommand is about an export, a module or a function.
+/// Whether the subcommand is about a function or an export.
 pub(crate) fn takes_operand(work: Work) -> bool
     ensures { result ≡ has_operand work }
 {
-    matches!(work, Work::Snip | Work::Stub | Work::Why)
+    work == Work::Why
+}
+
+// Whether the option names what the subcommand takes away or changes.
+fn takes_names(work: Work, naming: Naming) -> bool
+    ensures { result ≡ takes_names work naming }
+{
+    match naming {
+        Naming::Section => work == Work::Strip,
+        Naming::Function => work == Work::Snip,
+        Naming::Module => work == Work::Stub,
+        _ => false,
+    }
+}
+
+/// Whether one of these options has to stand there: `--function` or `--module`.
+pub(crate) fn needs(work: Work) -> bool
+    ensures { result ≡ needs work }
+{
+    matches!(work, Work::Snip | Work::Stub)
 }
 
 /// Whether the subcommand has the option.
@@ -220,14 +329,18 @@ pub(crate) fn takes(work: Work, flag: Flag) -> bool
     ensures { result ≡ has_flag work flag }
 {
     match flag {
-        Flag::Quiet => work == Work::Gc,
+        Flag::Quiet => matches!(work, Work::Gc | Work::Snip | Work::Stub),
         Flag::Json => matches!(
             work,
             Work::Report | Work::List | Work::Check | Work::Sections | Work::Why
         ),
         Flag::Names | Flag::Producers | Flag::Debug => work == Work::Strip,
         Flag::All => matches!(work, Work::Strip | Work::Sections),
-        _ => matches!(work, Work::Gc | Work::Report | Work::List | Work::Check),
+        Flag::Exports | Flag::Imports | Flag::Dropped => work == Work::List,
+        Flag::Callers => work == Work::Why,
+        Flag::NoNames | Flag::NoProducers | Flag::NoLegacy => {
+            !matches!(work, Work::Strip | Work::Sections)
+        }
     }
 }
 
@@ -237,7 +350,13 @@ pub(crate) fn takes_value(work: Work, naming: Naming) -> bool
 {
     match naming {
         Naming::Section => work == Work::Strip,
-        _ => true,
+        Naming::Keep | Naming::Drop => {
+            matches!(work, Work::Gc | Work::Report | Work::List | Work::Why)
+        }
+        Naming::Function => work == Work::Snip,
+        Naming::Module | Naming::Import => work == Work::Stub,
+        Naming::By | Naming::Count => work == Work::List,
+        Naming::Short | Naming::Long => true,
     }
 }
 

@@ -3,16 +3,16 @@
 ghost use Rattle.std.specs.Prelude.{◌≡◌, ◌∷◌, codes, map, string_bytes};
 ghost use Rattle.std.specs.Vec.Iter.{into_iter_items};
 ghost use Rattle.mulkavesh.specs.Mistakes.{IsOrdered, IsTold};
-ghost use Rattle.mulkavesh.specs.Order.{said, work_word};
-ghost use Rattle.mulkavesh.specs.Steps.{ArePut, IsAlone, IsFirst, IsPut, IsPutOrMemory, asks_help, has_value, lacking, look, look_at, put_joined, put_spelled};
-ghost use Rattle.mulkavesh.specs.Steps.{put_value, put_word, put_words, spelled_as, spelled_by, spelled_otherwise, spelling_of, then_at, waiting, with_flag, with_output};
-ghost use Rattle.mulkavesh.specs.Steps.{with_plain, with_section};
+ghost use Rattle.mulkavesh.specs.Order.{said, value_bytes, work_word};
+ghost use Rattle.mulkavesh.specs.Steps.{ArePut, IsAlone, IsFirst, IsPut, IsPutOrMemory, asks_help, by_said, equals_by, equals_in, lacking, look, look_at, missing, number_said};
+ghost use Rattle.mulkavesh.specs.Steps.{or_plain, put_joined, put_spelled, put_value, put_word, put_words, spelled_as, spelled_by, spelled_otherwise, spelled_plain, spelling_of};
+ghost use Rattle.mulkavesh.specs.Steps.{then_at, waiting, with_by, with_count, with_flag, with_named, with_output, with_plain};
 ghost use Rattle.mulkavesh.specs.Words.{IsNoWork, IsUnhelped};
 
 use crate::mistakes::{Mistake, Wrong};
 use crate::order::{
-    Asked, Flag, Naming, Order, Value, Work, flag_of, naming_of, takes, takes_operand, takes_value,
-    work_of,
+    Asked, Flag, Named, Naming, Order, Value, Work, are_apart, flag_of, naming_of, needs, takes,
+    takes_operand, takes_value, work_of,
 };
 use std::alloc::Global;
 use std::vec::IntoIter;
@@ -138,8 +138,8 @@ fn look_at(word: &str) -> Seen
 {
     match word {
         "-h" | "--help" => Seen::Help,
-        "-o" | "--output" | "--section" => Seen::Option,
         "--" => Seen::Ending,
+        _ if naming_of(word).is_some() => Seen::Option,
         _ => Seen::Nothing,
     }
 }
@@ -163,10 +163,27 @@ fn lacking(order: &Order, place: Place) -> Option<Wrong>
 {
     match place {
         Place::Value(naming) => Some(Wrong::NoValue(naming)),
-        _ if takes_operand(order.work) && order.operand.is_none() => Some(Wrong::OperandMissing),
-        _ if order.work == Work::Strip && !order.asks_gone() => Some(Wrong::NoSection),
-        _ => None,
+        _ => missing(order),
     }
+}
+
+// What is missing of the order, or doesn't go together in it.
+fn missing(order: &Order) -> Option<Wrong>
+    ensures { result ≡ missing (said order.now) }
+{
+    if takes_operand(order.work) && order.operand.is_none() {
+        return Some(Wrong::OperandMissing);
+    }
+    if order.work == Work::Strip && !order.asks_gone() {
+        return Some(Wrong::NoSection);
+    }
+    if needs(order.work) && !order.names_some() {
+        return Some(Wrong::NothingMeant);
+    }
+    if are_apart(order.listing) {
+        return Some(Wrong::Apart);
+    }
+    None
 }
 
 // Puts each of the arguments where it belongs, and answers where a next one would stand.
@@ -254,12 +271,12 @@ fn spelled_by(naming: Option<Naming>, word: &str) -> Spelling
 {
     match naming {
         Some(naming) => Spelling::Naming(naming),
-        None => spelled_as(flag_of(word), word.as_bytes()),
+        None => spelled_as(flag_of(word), word),
     }
 }
 
 // This option without a value, if it is one, and else what the argument is.
-fn spelled_as(flag: Option<Flag>, word: &[u8]) -> Spelling
+fn spelled_as(flag: Option<Flag>, word: &str) -> Spelling
     ensures { result ≡ spelled_as flag word.now }
 {
     match flag {
@@ -269,40 +286,58 @@ fn spelled_as(flag: Option<Flag>, word: &[u8]) -> Spelling
 }
 
 // What an argument is that is none of the whole words.
-fn spelled_otherwise(word: &[u8]) -> Spelling
+fn spelled_otherwise(word: &str) -> Spelling
     ensures { result ≡ spelled_otherwise word.now }
 {
-    if word.starts_with(b"--output=") {
-        return Spelling::Joined(Naming::Long);
-    }
-    if word.starts_with(b"--section=") {
-        return Spelling::Joined(Naming::Section);
-    }
-    if word.starts_with(b"-o") {
+    let bytes = word.as_bytes();
+    if bytes.starts_with(b"-o") {
         return Spelling::Joined(Naming::Short);
     }
-    if has_value(word) {
-        return Spelling::Valued;
+    if bytes.starts_with(b"-n") {
+        return Spelling::Joined(Naming::Count);
     }
+    or_plain(equals_in(word), bytes)
+}
+
+// This, or else an option that isn't known, or none.
+fn or_plain(spelling: Option<Spelling>, word: &[u8]) -> Spelling
+    ensures { result ≡ or_plain spelling word.now }
+{
+    match spelling {
+        Some(spelling) => spelling,
+        None => spelled_plain(word),
+    }
+}
+
+// An option that isn't known, or none.
+fn spelled_plain(word: &[u8]) -> Spelling
+    ensures { result ≡ spelled_plain word.now }
+{
     if word.starts_with(b"-") {
         return Spelling::Unknown;
     }
     Spelling::Plain
 }
 
-// Whether it is an option that takes no value, with one.
-fn has_value(word: &[u8]) -> bool
-    ensures { result ≡ has_value word.now }
+// An option, a sign of equality and a value, if that is what the argument is.
+fn equals_in(word: &str) -> Option<Spelling>
+    ensures { result ≡ equals_in word.now }
 {
-    word.starts_with(b"--no-names=")
-        || word.starts_with(b"--no-producers=")
-        || word.starts_with(b"--no-legacy=")
-        || word.starts_with(b"--quiet=")
-        || word.starts_with(b"--json=")
-        || word.starts_with(b"--names=")
-        || word.starts_with(b"--producers=")
-        || word.starts_with(b"--debug=")
-        || word.starts_with(b"--all=")
+    match word.split_once('=') {
+        Some((front, _)) => equals_by(naming_of(front), flag_of(front)),
+        None => None,
+    }
+}
+
+// What the argument is where this option stands in front of a sign of equality.
+fn equals_by(naming: Option<Naming>, flag: Option<Flag>) -> Option<Spelling>
+    ensures { result ≡ equals_by naming flag }
+{
+    match naming {
+        Some(naming) => Some(Spelling::Joined(naming)),
+        None if flag.is_some() => Some(Spelling::Valued),
+        None => None,
+    }
 }
 
 // The next argument is the value of the option, where the subcommand has that.
@@ -339,18 +374,67 @@ fn put_value(
         joined,
     };
     match naming {
-        Naming::Section => put_section(order, value),
-        _ => put_output(order, value),
+        Naming::Short | Naming::Long => put_output(order, value),
+        Naming::By => put_by(order, value),
+        Naming::Count => put_count(order, value),
+        _ => put_named(order, naming, value),
     }
 }
 
-// One section more that goes.
-fn put_section(order: &mut Order, value: Value) -> Result<Place, Wrong>
-    ensures { IsPutOrMemory (then_at Place.Anywhere (with_section (said order.old) value)) order.new result }
+// One value more of an option that may stand several times.
+fn put_named(order: &mut Order, naming: Naming, value: Value) -> Result<Place, Wrong>
+    ensures { IsPutOrMemory (then_at Place.Anywhere (with_named (said order.old) naming value)) order.new result }
 {
-    match order.sections.push(value) {
+    match order.values.push(Named { naming, value }) {
         Ok(()) => Ok(Place::Anywhere),
         Err(_) => Err(Wrong::OutOfMemory),
+    }
+}
+
+// In which order the lines stand.
+fn put_by(order: &mut Order, value: Value) -> Result<Place, Wrong>
+    ensures { IsPut (then_at Place.Anywhere (with_by (said order.old) value (by_said (value_bytes value)))) order.new result }
+{
+    match by_of(value.text()) {
+        Some(by_size) => {
+            order.listing.by_size = by_size;
+            Ok(Place::Anywhere)
+        }
+        None => Err(Wrong::BadValue(Naming::By, value)),
+    }
+}
+
+// Whether the largest stands first, if the word says that or the contrary.
+fn by_of(word: &str) -> Option<bool>
+    ensures { result ≡ by_said word.now }
+{
+    match word {
+        "size" => Some(true),
+        "index" => Some(false),
+        _ => None,
+    }
+}
+
+// How many lines there are at most.
+fn put_count(order: &mut Order, value: Value) -> Result<Place, Wrong>
+    ensures { IsPut (then_at Place.Anywhere (with_count (said order.old) value (number_said (value_bytes value)))) order.new result }
+{
+    match count_of(value.text()) {
+        Some(count) => {
+            order.listing.count = Some(count);
+            Ok(Place::Anywhere)
+        }
+        None => Err(Wrong::BadValue(Naming::Count, value)),
+    }
+}
+
+// The number that the word says.
+fn count_of(word: &str) -> Option<u32>
+    ensures { result ≡ number_said word.now }
+{
+    match word.parse::<u32>() {
+        Ok(count) => Some(count),
+        Err(_) => None,
     }
 }
 
@@ -396,6 +480,10 @@ fn put_flag(order: &mut Order, flag: Flag, word: String) -> Result<Place, Wrong>
         Flag::Producers => order.gone.producers = true,
         Flag::Debug => order.gone.debug = true,
         Flag::All => order.is_all = true,
+        Flag::Exports => order.listing.exports = true,
+        Flag::Imports => order.listing.imports = true,
+        Flag::Dropped => order.listing.dropped = true,
+        Flag::Callers => order.listing.callers = true,
     }
     Ok(Place::Anywhere)
 }
