@@ -53,11 +53,14 @@ SaysFault c bytes text = (fault : Fault) × Finds c bytes (Some fault) × WordsR
 
 -- ---- which NAME fits nothing
 
+abbrev pub unfit_text : (name : List ℕ) → List ℕ
+unfit_text name = codes "no export fits " ++ shown name
+
 -- the text names the first of these choices that fits no export of the module that the bytes are
 pub record SaysUnfit (c : Config) (bytes : List ℕ) (choices : List Choice) (text : List ℕ) : Type 0 where
   pub number : ℕ
   pub tells : TellsOfParsed c bytes choices (Some number)
-  pub says : text ≡ codes "no export fits " ++ shown tells.tells.choice.name
+  pub says : text ≡ unfit_text tells.tells.choice.name
 
 -- ---- both
 

@@ -2,10 +2,10 @@
 use Rattle.std.specs.Prelude.{ℕ, Bool, true, false, List, [], ◌∷◌, ◌++◌, codes, flat_map}
 use Rattle.walrus_tools.specs.Choice.{Choice}
 use Rattle.mulkavesh.specs.declared.choices.About.{About}
-use Rattle.mulkavesh.specs.declared.choices.About.TheVariants.{Sections, Roots, Modules, Imports}
+use Rattle.mulkavesh.specs.declared.choices.About.TheVariants as about
 use Rattle.mulkavesh.specs.declared.order.Named.{Named}
 use Rattle.mulkavesh.specs.declared.order.Naming.{Naming}
-use Rattle.mulkavesh.specs.declared.order.Naming.TheVariants.{Section, Keep, Drop, Function, Module, Import}
+use Rattle.mulkavesh.specs.declared.order.Naming.TheVariants as naming
 use Rattle.mulkavesh.specs.declared.order.Order.{Order}
 use Rattle.mulkavesh.specs.Order.{value_bytes}
 
@@ -21,38 +21,38 @@ staying name = record { is_kept = true; name = name }
 
 -- what a NAME behind this option says, if it is about these
 abbrev pub choice_behind : About → Naming → (name : List ℕ) → List Choice
-choice_behind Sections Section name = going name ∷ []
-choice_behind Roots Keep name = staying name ∷ []
-choice_behind Roots Drop name = going name ∷ []
-choice_behind Modules Module name = going name ∷ []
-choice_behind Imports Import name = going name ∷ []
+choice_behind about.Sections naming.Section name = going name ∷ []
+choice_behind about.Roots naming.Keep name = staying name ∷ []
+choice_behind about.Roots naming.Drop name = going name ∷ []
+choice_behind about.Modules naming.Module name = going name ∷ []
+choice_behind about.Imports naming.Import name = going name ∷ []
 choice_behind _ _ name = []
 
 -- the same of an option with its value
 abbrev pub choice_by : About → Named → List Choice
-choice_by about n = choice_behind about n.naming (value_bytes n.value)
+choice_by a n = choice_behind a n.naming (value_bytes n.value)
 
 -- what all NAMEs say that are about these, in their order
 abbrev pub choices_about : About → List Named → List Choice
-choices_about about values = flat_map (choice_by about) values
+choices_about a values = flat_map (choice_by a) values
 
 -- ---- of each subcommand
 
 -- which exports stay roots
 abbrev pub roots_of : Order → List Choice
-roots_of o = choices_about Roots o.values.items
+roots_of o = choices_about about.Roots o.values.items
 
 -- from which modules functions are imported that trap
 abbrev pub modules_of : Order → List Choice
-modules_of o = choices_about Modules o.values.items
+modules_of o = choices_about about.Modules o.values.items
 
 -- under which names
 abbrev pub imports_of : Order → List Choice
-imports_of o = choices_about Imports o.values.items
+imports_of o = choices_about about.Imports o.values.items
 
 -- the text of a function, where the option stands in front of one
 abbrev pub text_behind : Naming → (text : List ℕ) → List (List ℕ)
-text_behind Function text = text ∷ []
+text_behind naming.Function text = text ∷ []
 text_behind _ text = []
 
 -- which functions trap
@@ -73,5 +73,5 @@ all_choices = going (codes "*") ∷ staying (codes "dylink") ∷ staying (codes 
 -- which sections go
 abbrev pub sections_of : Order → List Choice
 sections_of o =
-    choices_about Sections o.values.items ++ where_said o.gone.names (going (codes "name") ∷ []) ++ where_said o.gone.producers (going (codes "producers") ∷ [])
+    choices_about about.Sections o.values.items ++ where_said o.gone.names (going (codes "name") ∷ []) ++ where_said o.gone.producers (going (codes "producers") ∷ [])
     ++ where_said o.gone.debug (going (codes ".debug*") ∷ []) ++ where_said o.is_all all_choices

@@ -46,12 +46,12 @@ abbrev pub share_line : (total : ℕ) → Listed → List ℕ
 share_line total f = decimal f.size ++ codes " " ++ share_text f.size total ++ codes " " ++ decimal f.index ++ name_text f.name ++ codes "\n"
 
 -- how many bytes all of them have, and how many functions they are
-abbrev pub total_line : List Listed → List ℕ
-total_line functions = decimal (total_of functions) ++ codes " 100.0% of " ++ decimal (length functions) ++ codes " functions\n"
+abbrev pub total_line : (total count : ℕ) → List ℕ
+total_line total count = decimal total ++ codes " 100.0% of " ++ decimal count ++ codes " functions\n"
 
 -- for people so many lines, and then one of all; for programs so many objects
 abbrev pub shares_text : (is_json : Bool) → (count : Option ℕ) → List Listed → List ℕ
-shares_text false count functions = flat_map (share_line (total_of functions)) (first_of count functions) ++ total_line functions
+shares_text false count functions = flat_map (share_line (total_of functions)) (first_of count functions) ++ total_line (total_of functions) (length functions)
 shares_text true count functions = listed_text true (first_of count functions)
 
 -- these functions in that order

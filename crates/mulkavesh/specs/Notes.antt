@@ -21,11 +21,13 @@ grouped number = spaced (decimal number)
 
 -- ---- what was dropped
 
--- of a kind of items, if some of them were
+-- so many of the items of a kind
+abbrev pub kind_text : (word : List ℕ) → (before dropped : ℕ) → List ℕ
+kind_text word before dropped = grouped dropped ++ codes " of " ++ grouped before ++ codes " " ++ word
+
+-- if there were some
 abbrev pub kind_part : (word : List ℕ) → (before after : ℕ) → List (List ℕ)
-kind_part word before after =
-    if nat_eq (before - after) 0 then []
-    else (grouped (before - after) ++ codes " of " ++ grouped before ++ codes " " ++ word) ∷ []
+kind_part word before after = if nat_eq (before - after) 0 then [] else kind_text word before (before - after) ∷ []
 
 -- functions, with how many bytes the bodies of those have that were dropped
 abbrev pub functions_word : (bodies : ℕ) → List ℕ
@@ -42,9 +44,13 @@ item_parts bodies before after =
     ++ kind_part (codes "elements") before.elements after.elements
     ++ kind_part (codes "data") before.data_ after.data_
 
--- of debug information, if there was any
-abbrev pub debug_part : (debug : ℕ) → List (List ℕ)
-debug_part debug = if nat_eq debug 0 then [] else (grouped debug ++ codes " bytes of debug information") ∷ []
+-- so much debug information
+abbrev pub debug_text : ℕ → List ℕ
+debug_text debug = grouped debug ++ codes " bytes of debug information"
+
+-- if there was some
+abbrev pub debug_part : ℕ → List (List ℕ)
+debug_part debug = if nat_eq debug 0 then [] else debug_text debug ∷ []
 
 -- these, or that it was nothing
 abbrev pub parts_text : List (List ℕ) → List ℕ
@@ -57,11 +63,12 @@ parts_text (part ∷ others) = separated (codes ", ") (part ∷ others)
 abbrev pub sizes_text : (read written : ℕ) → List ℕ
 sizes_text read written = codes "mulkavesh: " ++ grouped read ++ codes " bytes become " ++ grouped written ++ codes "; dropped: "
 
--- how many bytes all else takes less, or more
+-- by how many bytes all else becomes more or less
+abbrev pub change_text : (rest written : ℕ) → List ℕ
+change_text rest written = if nat_lt rest written then grouped (written - rest) ++ codes " bytes more" else grouped (rest - written) ++ codes " bytes less"
+
 abbrev pub rest_text : (rest written : ℕ) → List ℕ
-rest_text rest written =
-    if nat_lt rest written then codes "; the rest is " ++ grouped (written - rest) ++ codes " bytes more"
-    else codes "; the rest is " ++ grouped (rest - written) ++ codes " bytes less"
+rest_text rest written = codes "; the rest is " ++ change_text rest written
 
 -- why there are more bytes than there were, where it is so
 abbrev pub longer_text : (read written : ℕ) → List ℕ

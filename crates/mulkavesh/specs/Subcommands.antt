@@ -20,7 +20,6 @@ use Rattle.walrus_tools.specs.TrapEdit.{AnswersMeant, RefusesMeant, SnipsMeant}
 use Rattle.walrus_tools.specs.Wanted.{config_wanted}
 use Rattle.walrus_tools.specs.Weigh.{AnswersReport, AnswersWeighed}
 use Rattle.walrus_tools.specs.declared.weigh.Smaller.{Smaller}
-use Rattle.walrus_tools.specs.declared.weigh.Weighed.{Weighed}
 use Rattle.mulkavesh.specs.declared.subcommands.Made.{Made}
 use Rattle.mulkavesh.specs.declared.order.Listing.{Listing}
 use Rattle.mulkavesh.specs.declared.order.Order.{Order}
@@ -40,6 +39,9 @@ use Rattle.mulkavesh.specs.Sections.{part_line, section_line, stop_text}
 abbrev pub Answer : Type 0
 Answer = Result (Vec ℕ) Error
 
+abbrev pub vec_bytes : Vec ℕ → List ℕ
+vec_bytes b = b.items
+
 -- for people this is so; for programs it is left open
 abbrev pub ForPeople : (is_json : Bool) → Type 0 → Type 0
 ForPeople true P = ⊤
@@ -56,9 +58,15 @@ abbrev pub WritesAlone : (Answers : Answer → Type 0) → Result Made Error →
 WritesAlone Answers (Ok m) = Answers (Ok m.output) × (m.is_refused ≡ false) × NotesNothing m
 WritesAlone Answers (Err e) = Answers (Err e)
 
--- the output of a call that answers so, and noted is what it tells of that
+-- the output of an answer, and noted is what the answer tells
+pub record Notes (s : Smaller) (m : Made) : Type 0 where
+  pub output : m.output ≡ s.output
+  pub note : m.note.items ≡ note_text s.told
+  pub accepted : m.is_refused ≡ false
+
+-- that of a call that answers so
 abbrev pub WritesNoted : (Answers : Result Smaller Error → Type 0) → Result Made Error → Type 0
-WritesNoted Answers (Ok m) = (told : Weighed) × Answers (Ok (record { output = m.output; told = told })) × (m.is_refused ≡ false) × (m.note.items ≡ note_text told)
+WritesNoted Answers (Ok m) = (s : Smaller) × Answers (Ok s) × Notes s m
 WritesNoted Answers (Err e) = Answers (Err e)
 
 -- the first where the order is to be quiet, and else the second
