@@ -55,9 +55,13 @@ abbrev pub text_behind : Naming → (text : List ℕ) → List (List ℕ)
 text_behind naming.Function text = text ∷ []
 text_behind _ text = []
 
+-- those of all options
+abbrev pub texts_said : List Named → List (List ℕ)
+texts_said values = flat_map (λ (n : Named). text_behind n.naming (value_bytes n.value)) values
+
 -- which functions trap
 abbrev pub functions_of : Order → List (List ℕ)
-functions_of o = flat_map (λ (n : Named). text_behind n.naming (value_bytes n.value)) o.values.items
+functions_of o = texts_said o.values.items
 
 -- ---- of strip
 

@@ -1,5 +1,6 @@
 -- What is told in a line of a module that became smaller.
 use Rattle.std.specs.Prelude.{ℕ, ◌-◌, ◌%◌, List, [], ◌∷◌, ◌++◌, ◌&&◌, codes, decimal, length, nat_eq, nat_lt, if◌then◌else◌}
+use Rattle.std.specs.Global.{Vec}
 use Rattle.walrus_tools.specs.WeighText.{rest_of}
 use Rattle.walrus_tools.specs.declared.kinds.Kinds.{Kinds}
 use Rattle.walrus_tools.specs.declared.weigh.Weighed.{Weighed}
@@ -51,6 +52,10 @@ debug_text debug = grouped debug ++ codes " bytes of debug information"
 -- if there was some
 abbrev pub debug_part : ℕ → List (List ℕ)
 debug_part debug = if nat_eq debug 0 then [] else debug_text debug ∷ []
+
+-- the bytes of a text
+abbrev pub vec_bytes : Vec ℕ → List ℕ
+vec_bytes text = text.items
 
 -- these, or that it was nothing
 abbrev pub parts_text : List (List ℕ) → List ℕ

@@ -39,9 +39,6 @@ use Rattle.mulkavesh.specs.Sections.{part_line, section_line, stop_text}
 abbrev pub Answer : Type 0
 Answer = Result (Vec ℕ) Error
 
-abbrev pub vec_bytes : Vec ℕ → List ℕ
-vec_bytes b = b.items
-
 -- for people this is so; for programs it is left open
 abbrev pub ForPeople : (is_json : Bool) → Type 0 → Type 0
 ForPeople true P = ⊤

@@ -2,7 +2,7 @@
 
 ghost use Rattle.std.specs.Option.{option_to_list};
 ghost use Rattle.std.specs.Prelude.{◌≡◌, ◌∷◌, ◌++◌, [], IfOk, option_map};
-ghost use Rattle.mulkavesh.specs.Choices.{all_choices, choice_by, choices_about, functions_of, going, imports_of, modules_of, roots_of, sections_of, staying, where_said};
+ghost use Rattle.mulkavesh.specs.Choices.{all_choices, choice_by, choices_about, functions_of, going, imports_of, modules_of, roots_of, sections_of, staying, texts_said, where_said};
 ghost use Rattle.walrus_tools.specs.Choice.{choice_seen, choices_seen};
 ghost use Rattle.walrus_tools.specs.FunctionMeaning.{texts};
 
@@ -96,15 +96,12 @@ pub(crate) fn imports_of<'a>(alloc: Global, order: &'a Order) -> Result<Vec<Choi
     choices_about(alloc, About::Imports, &order.values)
 }
 
-/// Which functions trap.
-pub(crate) fn functions_of<'a>(
-    alloc: Global,
-    order: &'a Order,
-) -> Result<Vec<Meant<'a>>, AllocError>
-    ensures { IfOk result (λ v. texts v.items ≡ functions_of order.now) }
+// The texts of functions that values are.
+fn texts_said<'a>(alloc: Global, values: &'a [Named]) -> Result<Vec<Meant<'a>>, AllocError>
+    ensures { IfOk result (λ v. texts v.items ≡ texts_said values.now) }
 {
     let mut functions = Vec::new(alloc);
-    'values: for named in &order.values {
+    'values: for named in values {
         if named.naming == Naming::Function {
             functions.push(Meant {
                 name: named.value.text(),
@@ -112,6 +109,16 @@ pub(crate) fn functions_of<'a>(
         }
     }
     Ok(functions)
+}
+
+/// Which functions trap.
+pub(crate) fn functions_of<'a>(
+    alloc: Global,
+    order: &'a Order,
+) -> Result<Vec<Meant<'a>>, AllocError>
+    ensures { IfOk result (λ v. texts v.items ≡ functions_of order.now) }
+{
+    texts_said(alloc, &order.values)
 }
 
 /// Which custom sections go.

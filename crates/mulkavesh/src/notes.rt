@@ -1,9 +1,8 @@
 //! What is said in a line of a module that became smaller: what was dropped of it, items, bytes and debug information, and what became of the rest.
 
 ghost use Rattle.std.specs.Prelude.{◌≡◌, ◌++◌, IfOk, OnOk, codes, map};
-ghost use Rattle.mulkavesh.specs.Notes.{change_text, debug_part, debug_text, functions_word, item_parts, kind_part, kind_text, longer_text, note_text, parts_text, rest_text, sizes_text};
+ghost use Rattle.mulkavesh.specs.Notes.{change_text, debug_part, debug_text, functions_word, item_parts, kind_part, kind_text, longer_text, note_text, parts_text, rest_text, sizes_text, vec_bytes};
 ghost use Rattle.mulkavesh.specs.Json.{separated};
-ghost use Rattle.mulkavesh.specs.Subcommands.{vec_bytes};
 ghost use Rattle.walrus_tools.specs.WeighText.{rest_of};
 
 use crate::json::add_comma;
@@ -100,7 +99,8 @@ fn add_item_parts(alloc: Global, to: &mut Vec<Vec<u8>>, told: Weighed) -> Result
     add_kind_part(alloc, to, b"tags", before.tags, after.tags)?;
     add_kind_part(alloc, to, b"globals", before.globals, after.globals)?;
     add_kind_part(alloc, to, b"elements", before.elements, after.elements)?;
-    add_kind_part(alloc, to, b"data", before.data_, after.data_)
+    add_kind_part(alloc, to, b"data", before.data_, after.data_)?;
+    Ok(())
 }
 
 // The word for functions, with how many bytes the bodies of those have that were dropped.

@@ -38,7 +38,8 @@ fn add_kinds(alloc: Global, to: &mut Vec<u8>, before: Kinds, after: Kinds) -> Re
     add_kind(alloc, to, ",\"tags", before.tags, after.tags)?;
     add_kind(alloc, to, ",\"globals", before.globals, after.globals)?;
     add_kind(alloc, to, ",\"elements", before.elements, after.elements)?;
-    add_kind(alloc, to, ",\"data", before.data_, after.data_)
+    add_kind(alloc, to, ",\"data", before.data_, after.data_)?;
+    Ok(())
 }
 
 // Puts the member of a kind of items behind the text, which begins so: of those there were before and those that are left.

@@ -1,8 +1,8 @@
 use Rattle.std.proofs.Common.{◌≡◌, ◌++◌, drop}
-use Rattle.mulkavesh.specs.Choices.{section_choices}
+use Rattle.mulkavesh.specs.Choices.{choices_about}
 use Rattle.walrus_tools.specs.Choice.{choices_seen}
-use Rattle.mulkavesh.proofs.choices.named.Given as goal
+use Rattle.mulkavesh.proofs.choices.choices_about.Given as goal
 
--- what is made, and the NAMEs that are left, are all of them
+-- what is made, and what is said by the values that are left, are all that is said
 abbrev pub invariant-values : goal.invariant-values
-invariant-values l = choices_seen l.choices.items ++ section_choices (drop l.value-index l.values) ≡ section_choices l.fn.values
+invariant-values l = choices_seen l.choices.items ++ choices_about l.about (drop l.named-index l.values) ≡ choices_about l.about l.fn.values
