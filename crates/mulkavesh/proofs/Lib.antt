@@ -10,6 +10,7 @@ mod Lines
 mod OrderLemmas
 mod Pieces
 mod Refusals
+mod RowLists
 mod SectionLines
 mod ShowLemmas
 mod Sound

@@ -1,0 +1,9 @@
+use Rattle.std.proofs.Common.{codes}
+use Rattle.std.specs.Prelude.{string_bytes}
+use Rattle.mulkavesh.specs.Json.{string_json}
+use Rattle.mulkavesh.proofs.JsonLists.{text_more}
+use Rattle.mulkavesh.proofs.links.add_strings.Goals as goal
+
+pub names-preserved : goal.names-preserved
+names-preserved c =
+    text_more (codes ",") string_json string_bytes c.args.names.now c.names.place _ _ c.names-test.true c.name-item.is _ _ _ _ c.names.invariant c.in_ok-add_comma.ensures c.in_ok-add_string.ensures
