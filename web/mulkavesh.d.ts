@@ -6,20 +6,97 @@ export interface Options {
   names?: boolean;
   /** Whether producers are written, `walrus` 0.28.0 among them. */
   producers?: boolean;
-  /** Whether bodies with legacy exceptions are taken; of `report`, `diagnose` and `list` this one alone has a say. */
+  /** Whether bodies with legacy exceptions are taken. */
   legacy?: boolean;
+}
+
+/**
+ * Which exports stay, and with them what they lead to: where `keep` has NAMEs, those that fit one, and else all; but none that fits a NAME of `drop`. The others
+ * are as if they weren't there. The start function and segments that aren't passive keep what they keep. NotFound where a NAME fits no export of the input.
+ */
+export interface Roots extends Options {
+  keep?: Names;
+  drop?: Names;
 }
 
 export type Bytes = Uint8Array | ArrayBuffer | ArrayBufferView;
 
-/** A function with a body that `gc` keeps. */
+/** A function with a body, in a list. */
 export interface Listed {
   /** Its index in the input. */
   index: number;
-  /** The bytes of its body in the output. */
+  /** The bytes of its body: of one that stays, in the output; of one that goes, in the input. */
   size: number;
   /** Its name as the input's name section has it, or null. */
   name: string | null;
+}
+
+/** What can be imported and exported. */
+export type OuterKind = 'function' | 'table' | 'memory' | 'global' | 'tag';
+
+/** An export: the kind and the index, in the input, of what is exported, and under which name. */
+export interface Exported {
+  kind: OuterKind;
+  index: number;
+  name: string;
+}
+
+/** An import: the kind and the index, in the input, of what is imported, from which module, and under which name. */
+export interface Imported extends Exported {
+  module: string;
+}
+
+/** What a module has of itself and refers to. */
+export type ItemKind = OuterKind | 'type' | 'element' | 'data';
+
+/** What stays, and stands in a chain or refers to something. */
+export interface Link {
+  kind: ItemKind;
+  /** Its index in the input. */
+  index: number;
+  /** Its name as the input's name section has it, or null. */
+  name: string | null;
+  /** The names under which it is exported, of exports that stay. */
+  exports: string[];
+  /** Of a function with a body the bytes of that in the output; else null. */
+  size: number | null;
+}
+
+/** Why something stays. */
+export interface Reason {
+  /** What was asked about. */
+  item: { kind: ItemKind; index: number };
+  /** What makes the first of the chain stay: it is exported, the start function, an active segment, or one that declares functions. Null where nothing leads here. */
+  root: 'exported' | 'start' | 'active' | 'declared' | null;
+  /** Each refers to the next, and the last is what was asked about. Which chain is told, of several, isn't promised. Empty where nothing leads here. */
+  chain: Link[];
+  /**
+   * Of a function with a body that stays, what would go with it: how many functions stay and wouldn't if its body did nothing but trap, itself among them, and
+   * the bytes of their bodies in the output. Else null.
+   */
+  alone: { functions: number; bytes: number } | null;
+}
+
+/** How many items of a kind stay and go, imported ones too. */
+export interface Counts {
+  kept: number;
+  dropped: number;
+}
+
+/** What `gc` comes to. */
+export interface Report {
+  functions: Counts;
+  tables: Counts;
+  memories: Counts;
+  tags: Counts;
+  globals: Counts;
+  elements: Counts;
+  data: Counts;
+  /**
+   * The bytes of the input; of the output; in the input those of the bodies of functions that go; and there those of sections whose name begins with `.debug`. The
+   * rest of the difference is what else goes, less what is added or numbered anew.
+   */
+  bytes: { read: number; written: number; dropped: number; debug: number };
 }
 
 /** What the standard calls a section. */
@@ -60,8 +137,11 @@ export interface Item {
   size: number;
 }
 
-/** NAMEs of custom sections, in which `*` stands for any bytes, also for none, and `\*` for a star. */
+/** NAMEs, in which `*` stands for any bytes, also for none, and `\*` for a star. */
 export type Names = string | Bytes | readonly (string | Bytes)[];
+
+/** A FUNCTION: its index, as a number or in decimal; or else the name of the first one of this name; or else the name of an export, which may be of another kind. */
+export type Meant = number | string | Bytes;
 
 /** What bytes begin as that don't begin as a module. */
 export type Beginning = 'empty' | 'cut' | 'gzip' | 'zip' | 'zstd' | 'elf' | 'bitcode' | 'text' | 'component' | 'other version';
@@ -82,14 +162,20 @@ export type Fault =
 
 /** The calls. Each may throw InvalidModule, TooLarge, OutOfMemory and Trapped, but `diagnose` never the first. */
 export interface Mulkavesh {
-  /** The module without what nothing reaches: the bytes that the program walrus-gc writes. */
-  gc(input: Bytes, options?: Options): Uint8Array;
-  /** How many items of each kind `gc` keeps and drops, in seven lines. */
-  report(input: Bytes, options?: Options): string;
+  /** The module without what nothing reaches. */
+  gc(input: Bytes, options?: Roots): Uint8Array;
+  /** How many items of each kind `gc` keeps and drops, and bytes. */
+  report(input: Bytes, options?: Roots): Report;
   /** What is wrong with bytes, as in the `fault` of InvalidModule, or null exactly where the others accept them. */
   diagnose(input: Bytes, options?: Options): Fault | null;
   /** The functions with a body that `gc` keeps, by rising index. */
-  list(input: Bytes, options?: Options): Listed[];
+  list(input: Bytes, options?: Roots): Listed[];
+  /** The functions with a body that `gc` drops, by rising index. */
+  dropped(input: Bytes, options?: Roots): Listed[];
+  /** The exports that stay, as they stand in the input. */
+  exports(input: Bytes, options?: Roots): Exported[];
+  /** The imports that `gc` keeps, as they stand in the input. */
+  imports(input: Bytes, options?: Roots): Imported[];
   /**
    * What sections stand in the bytes, by their framing alone: what stands in them, and in which order they come, isn't looked at. InvalidModule exactly where the
    * magic number and the version don't stand in front.
@@ -106,18 +192,20 @@ export interface Mulkavesh {
    * and end and what custom ones are called, so that the module may break other rules: InvalidModule exactly where the bytes aren't a header and whole sections.
    */
   strip(input: Bytes, names: Names, options?: { keep?: Names }): Uint8Array;
-  /** By which references the function of this index stays, a line for each item of a chain, a root first; or that it isn't reached; or NotFound. Which chain it is isn't promised. */
-  why(input: Bytes, index: number): string;
+  /** Why something stays, and what would go with it. NotFound where FUNCTION means nothing. */
+  why(input: Bytes, which: Meant, options?: Roots): Reason;
+  /** What stays and refers to it directly, by kind and index. NotFound where FUNCTION means nothing. */
+  callers(input: Bytes, which: Meant, options?: Roots): Link[];
   /**
-   * The module where the function that is exported under this name is replaced by one that traps, without what nothing reaches then; or NotFound. The old function
-   * stays where calls, tables or further exports reach it.
+   * The module in which the bodies of these functions do nothing but trap, without what nothing reaches then. Each FUNCTION means the one of this index, or of this
+   * name, or under this export; or with a `*`, as in a NAME, all with a body that have such a name or export. NotFound where one means no function, or an imported one.
    */
-  snip(input: Bytes, name: string | Bytes): Uint8Array;
+  snip(input: Bytes, functions: Meant | readonly Meant[], options?: Options): Uint8Array;
   /**
-   * The module where each function that is imported from the module of this name is one of its own, which traps, without what nothing reaches then. What it answers
-   * where no function is imported from such a module is no promise.
+   * The module in which each function that is imported from a module of one of these NAMEs, and under one of those of `imports` where there are any, has a body,
+   * which traps, without what nothing reaches then. NotFound where no function is imported so.
    */
-  stub(input: Bytes, from: string | Bytes): Uint8Array;
+  stub(input: Bytes, modules: Names, options?: Options & { imports?: Names }): Uint8Array;
   /** The version of the library, as `0.1.0`. */
   version(): string;
 }
@@ -140,7 +228,10 @@ export class InvalidModule extends MulkaveshError {
 export class TooLarge extends MulkaveshError {}
 /** Memory ran out. */
 export class OutOfMemory extends MulkaveshError {}
-/** There is nothing of this name or index that the call could work on. */
-export class NotFound extends MulkaveshError {}
+/** There is nothing that the call could work on. */
+export class NotFound extends MulkaveshError {
+  /** The NAME of `keep` or `drop` that fits no export, as it was given; null where something else isn't there. */
+  readonly unfit: string | Bytes | null;
+}
 /** The library stopped in the midst of a call. Later calls have a fresh instance. */
 export class Trapped extends MulkaveshError {}

@@ -4,7 +4,7 @@
 //     const { gc } = await load();
 //     const smaller = gc(module, { names: false });
 //
-// Each call goes from the bytes of a module to bytes, a text, a list, sections or a fault, and keeps nothing. mulkavesh.d.ts says what each takes and answers.
+// Each call goes from the bytes of a module to bytes or to plain values, and keeps nothing. mulkavesh.d.ts says what each takes and answers.
 
 /** A call was refused; `code` is one of INVALID, TOO_LARGE, NO_MEMORY, NOT_FOUND, TRAPPED and UNKNOWN_STATUS. */
 export class MulkaveshError extends Error {
@@ -25,35 +25,44 @@ export class InvalidModule extends MulkaveshError {
 export class TooLarge extends MulkaveshError {}
 /** Memory ran out. */
 export class OutOfMemory extends MulkaveshError {}
-/** There is nothing of this name or index that the call could work on. */
-export class NotFound extends MulkaveshError {}
+/** There is nothing that the call could work on; `unfit` is the NAME of `keep` or `drop` that fits no export, or null where something else isn't there. */
+export class NotFound extends MulkaveshError {
+  constructor(code, message, unfit = null) {
+    super(code, message);
+    this.unfit = unfit;
+  }
+}
 /** The library stopped in the midst of a call, which is a mistake in it or a host with too little stack. Later calls have a fresh instance. */
 export class Trapped extends MulkaveshError {}
 
-const INVALID = 1;
-const NO_ROOM = 4;
-const REFUSALS = new Map([
-  [INVALID, (fault) => new InvalidModule('INVALID', 'the input is no module that keeps the rules', fault)],
-  [2, () => new TooLarge('TOO_LARGE', 'a count or a size passes 32 bits')],
-  [3, () => new OutOfMemory('NO_MEMORY', 'out of memory')],
-  [6, () => new NotFound('NOT_FOUND', 'there is nothing of this name or index')],
-]);
+const INVALID = 1, TOO_LARGE = 2, NO_MEMORY = 3, NO_ROOM = 4, NOT_FOUND = 6;
+// What isn't there, where a call doesn't find what it is to work on.
+const MISSING = {
+  strip: 'no custom section has such a name',
+  why: 'there is no such function or export',
+  callers: 'there is no such function or export',
+  snip: 'there is no such function, or one of them is imported',
+  stub: 'no function is imported so',
+};
+const outOfMemory = () => new OutOfMemory('NO_MEMORY', 'out of memory');
 const FLAGS = { names: 1, producers: 2, legacy: 4 };
 // A smaller module, or a list, is seldom longer than the input by more.
 const MARGIN = 256;
-// Seven lines of a word and two numbers of ten digits are shorter, and some two hundred lines of a chain.
-const ROOM_OF_A_REPORT = 512;
+// A dozen lines of words and one or two numbers of ten digits are shorter.
+const ROOM_OF_A_REPORT = 1024;
 // Two numbers of 32 bits.
 const ROOM_OF_A_FAULT = 8;
-const ROOM_OF_A_CHAIN = 4096;
+// Few chains have more, and few functions more callers.
+const ROOM_OF_LINKS = 65536;
 // Few modules have more than some forty sections.
 const ROOM_OF_SECTIONS = 1024;
 // Memory of WebAssembly never shrinks: an instance that has come to more is left behind, however the call ends.
 const MOST_MEMORY = 64 * 1024 * 1024;
-const NO_NAME = 2 ** 32 - 1;
+const NONE = 2 ** 32 - 1;
 
 const encoder = new TextEncoder();
 const decoder = new TextDecoder('utf-8', { fatal: true, ignoreBOM: true });
+const lossy = new TextDecoder('utf-8', { ignoreBOM: true });
 
 function bytesOf(data) {
   if (data instanceof Uint8Array) return data;
@@ -68,6 +77,13 @@ function nameOf(name) {
   return encoder.encode(name);
 }
 
+// What means a function: its index, which may be a number, or a name.
+function functionOf(it) {
+  if (typeof it !== 'number') return nameOf(it);
+  if (!Number.isInteger(it) || it < 0 || it >= 2 ** 32) throw new RangeError('an index is a whole number of 32 bits');
+  return encoder.encode(String(it));
+}
+
 // The number that stands for what isn't wanted.
 function flagsOf(options = {}) {
   let flags = 0;
@@ -79,27 +95,48 @@ function flagsOf(options = {}) {
   return flags;
 }
 
-// Names as a list: one alone is none.
-const listOfNames = (names) => (Array.isArray(names) ? names : [names]).map(nameOf);
+// One alone is no list.
+const listOf = (those) => (Array.isArray(those) ? those : [those]);
 
-// What goes and what stays after all: for each name a byte, its length, and the name.
-function choiceOf(names, { keep = [], ...others } = {}) {
-  for (const word of Object.keys(others)) throw new TypeError(`there is no option ${word}`);
-  const records = [names, keep].flatMap((those, kind) => listOfNames(those).map((name) => [kind, name]));
-  const choice = new Uint8Array(records.reduce((sum, [, name]) => sum + 5 + name.length, 0)), view = new DataView(choice.buffer);
+const GOES = 0, STAYS = 1;
+
+// A list of choices: for each name a byte, which says what is chosen of those that it fits, its length, and the name.
+function choicesOf(records) {
+  const choices = new Uint8Array(records.reduce((sum, [, name]) => sum + 5 + name.length, 0)), view = new DataView(choices.buffer);
   let at = 0;
   for (const [kind, name] of records) {
     view.setUint8(at, kind);
     view.setUint32(at + 1, name.length, true);
-    choice.set(name, at + 5);
+    choices.set(name, at + 5);
     at += 5 + name.length;
   }
-  return choice;
+  return choices;
 }
 
-function indexOf(index) {
-  if (!Number.isInteger(index) || index < 0 || index >= 2 ** 32) throw new RangeError('an index is a whole number of 32 bits');
-  return index;
+const going = (names, bytesOfOne = nameOf) => choicesOf(listOf(names).map((it) => [GOES, bytesOfOne(it)]));
+
+// What goes of the custom sections, and what stays after all.
+function sectionsChosen(names, { keep = [], ...others } = {}) {
+  for (const word of Object.keys(others)) throw new TypeError(`there is no option ${word}`);
+  return choicesOf([names, keep].flatMap((those, kind) => listOf(those).map((it) => [kind, nameOf(it)])));
+}
+
+// Which exports are roots: the NAMEs, a choice of each, and the flags that the other options are.
+function rootsOf({ keep = [], drop = [], ...others } = {}) {
+  const kept = listOf(keep), dropped = listOf(drop);
+  const choice = choicesOf([...kept.map((it) => [STAYS, nameOf(it)]), ...dropped.map((it) => [GOES, nameOf(it)])]);
+  return { flags: flagsOf(others), choice, chosen: [...kept, ...dropped] };
+}
+
+// What is thrown by a status; the number is that of the NAME which fits no export, and no less than there are where something else isn't found.
+function refusalOf(status, { name, chosen = [] }, number, fault) {
+  if (status === INVALID) return new InvalidModule('INVALID', 'the input is no module that keeps the rules', fault);
+  if (status === TOO_LARGE) return new TooLarge('TOO_LARGE', 'a count or a size passes 32 bits');
+  if (status === NO_MEMORY) return outOfMemory();
+  if (status !== NOT_FOUND) return new MulkaveshError('UNKNOWN_STATUS', `the library answers status ${status}`);
+  if (number >= chosen.length) return new NotFound('NOT_FOUND', MISSING[name] ?? 'there is nothing of this name or index');
+  const unfit = chosen[number];
+  return new NotFound('NOT_FOUND', `no export fits ${JSON.stringify(typeof unfit === 'string' ? unfit : lossy.decode(unfit))}`, unfit);
 }
 
 // An instance, what is held in its memory for one call, and the call.
@@ -111,7 +148,7 @@ class Call {
 
   hold(count) {
     const at = count < 2 ** 31 ? this.exports.room(count) >>> 0 : 0;
-    if (at === 0) throw REFUSALS.get(3)();
+    if (at === 0) throw outOfMemory();
     this.held.push(at);
     return at;
   }
@@ -150,26 +187,22 @@ class Call {
     }
   }
 
-  // Calls with this much room, and where that is too little with as much as is asked for. Where the input is invalid, a second call tells why.
-  answer(name, lent, flags, words, guess) {
+  // Calls with as much room as is mostly enough, and where that is too little with as much as is asked for. Where the input is invalid, a second call tells why.
+  answer(asked, lent, words) {
     const length = this.hold(8);
-    for (let room = guess; ; ) {
-      const { status, count, answer } = this.tried(name, [...lent, ...words], room, length);
+    for (let room = asked.room; ; ) {
+      const { status, count, answer } = this.tried(asked.name, [...lent, ...words], room, length);
       if (status === 0) return answer;
-      if (status !== NO_ROOM) {
-        const fault = status === INVALID ? this.fault(lent, flags, length) : null;
-        throw REFUSALS.get(status)?.(fault) ?? new MulkaveshError('UNKNOWN_STATUS', `the library answers status ${status}`);
-      }
+      if (status !== NO_ROOM) throw refusalOf(status, asked, count, status === INVALID ? this.fault(lent, asked.flags ?? 0, length) : null);
       room = count;
     }
   }
 
   // Lends what is given, and answers or refuses; either way all is given back. Where the library stops nothing is, since its memory may be in disorder then.
-  // A call that takes no flags has null for them, and goes by none.
-  run(name, input, flags, between, guess) {
+  run(asked) {
     try {
-      const lent = this.lend(input), words = between.flatMap((it) => (typeof it === 'number' ? [it] : this.lend(it)));
-      const answer = this.answer(name, lent, flags ?? 0, flags === null ? words : [flags, ...words], guess);
+      const lent = this.lend(asked.input), behind = (asked.behind ?? []).flatMap((it) => this.lend(it));
+      const answer = this.answer(asked, lent, asked.flags === undefined ? behind : [asked.flags, ...behind]);
       this.giveBack();
       return answer;
     } catch (error) {
@@ -179,31 +212,91 @@ class Call {
   }
 }
 
-function listOf(bytes) {
-  const view = new DataView(bytes.buffer), found = [];
-  for (let at = 0; at < bytes.length; ) {
-    const [index, size, length] = [0, 4, 8].map((more) => view.getUint32(at + more, true));
-    at += 12;
-    const ends = at + (length === NO_NAME ? 0 : length);
-    found.push({ index, size, name: length === NO_NAME ? null : decoder.decode(bytes.subarray(at, ends)) });
-    at = ends;
+// Reads an answer from its front on. A number is one of 32 bits, and a name is its length and so many bytes; the largest number stands for none.
+class Reader {
+  constructor(bytes) {
+    this.bytes = bytes;
+    this.view = new DataView(bytes.buffer, bytes.byteOffset, bytes.length);
+    this.at = 0;
   }
-  return found;
+
+  byte() {
+    return this.bytes[this.at++];
+  }
+
+  number() {
+    this.at += 4;
+    return this.view.getUint32(this.at - 4, true);
+  }
+
+  numberOrNull() {
+    const number = this.number();
+    return number === NONE ? null : number;
+  }
+
+  name() {
+    const length = this.numberOrNull();
+    if (length === null) return null;
+    this.at += length;
+    return decoder.decode(this.bytes.subarray(this.at - length, this.at));
+  }
+
+  names() {
+    return Array.from({ length: this.number() }, () => this.name());
+  }
+
+  // What this reads, over and over up to the end.
+  all(read) {
+    const found = [];
+    while (this.at < this.bytes.length) found.push(read(this));
+    return found;
+  }
+}
+
+const allOf = (bytes, read) => new Reader(bytes).all(read);
+
+// Of items in an answer, by their numbers: first those that are imported and exported, then all.
+const OUTER_KINDS = ['function', 'table', 'memory', 'global', 'tag'];
+const ITEM_KINDS = ['type', 'function', 'table', 'memory', 'tag', 'global', 'element', 'data'];
+const ROOTS = [null, 'exported', 'start', 'active', 'declared'];
+
+const listedOf = (it) => ({ index: it.number(), size: it.number(), name: it.name() });
+const exportOf = (it) => ({ kind: OUTER_KINDS[it.byte()], index: it.number(), name: it.name() });
+const importOf = (it) => ({ kind: OUTER_KINDS[it.byte()], index: it.number(), module: it.name(), name: it.name() });
+
+function linkOf(it) {
+  const kind = ITEM_KINDS[it.byte()], index = it.number(), size = it.numberOrNull();
+  return { kind, index, name: it.name(), exports: it.names(), size };
+}
+
+function reasonOf(bytes) {
+  const it = new Reader(bytes);
+  const item = { kind: ITEM_KINDS[it.byte()], index: it.number() }, root = ROOTS[it.byte()];
+  const isAlone = it.byte() === 1, alone = { functions: it.number(), bytes: it.number() };
+  return { item, root, chain: it.all(linkOf), alone: isAlone ? alone : null };
+}
+
+// The lines of a report, as values.
+const COUNTED = /^(\w+) kept (\d+) dropped (\d+)$/gm;
+const MEASURED = /^bytes read (\d+) written (\d+)\nbytes of dropped functions (\d+)\nbytes of debug information (\d+)$/m;
+
+function reportOf(text) {
+  const counts = Array.from(text.matchAll(COUNTED), ([, kind, kept, dropped]) => [kind, { kept: Number(kept), dropped: Number(dropped) }]);
+  const [read, written, dropped, debug] = MEASURED.exec(text).slice(1).map(Number);
+  return { ...Object.fromEntries(counts), bytes: { read, written, dropped, debug } };
 }
 
 // What the standard calls the sections of each id.
 const KINDS = ['custom', 'type', 'import', 'function', 'table', 'memory', 'global', 'export', 'start', 'element', 'code', 'data', 'data count', 'tag'];
 
+function sectionOf(it) {
+  const id = it.byte(), isCounted = it.byte() === 1, start = it.number(), size = it.number(), entries = it.number();
+  return { id, kind: KINDS[id] ?? 'unknown', name: it.name(), start, size, entries: isCounted ? entries : null };
+}
+
 function sectionsOf(bytes) {
-  const view = new DataView(bytes.buffer), sections = [];
-  for (let at = 5; at < bytes.length; ) {
-    const id = bytes[at], counted = bytes[at + 1] === 1, [start, size, count, length] = [2, 6, 10, 14].map((more) => view.getUint32(at + more, true));
-    at += 18;
-    const ends = at + (length === NO_NAME ? 0 : length), name = length === NO_NAME ? null : decoder.decode(bytes.subarray(at, ends));
-    sections.push({ id, kind: KINDS[id] ?? 'unknown', name, start, size, entries: counted ? count : null });
-    at = ends;
-  }
-  return { sections, end: view.getUint32(1, true), whole: bytes[0] === 1 };
+  const it = new Reader(bytes), whole = it.byte() === 1, end = it.number();
+  return { sections: it.all(sectionOf), end, whole };
 }
 
 // What is told in place of the number of a section that isn't one.
@@ -260,11 +353,11 @@ function faultOf(bytes) {
 function caller(module) {
   let exports = null;
   const begin = () => new WebAssembly.Instance(module, {}).exports;
-  return function call(name, input, flags, between, guess) {
+  return function call(asked) {
     const one = new Call(exports ?? begin());
     exports = null;
     try {
-      return one.run(name, input, flags, between, guess);
+      return one.run(asked);
     } catch (error) {
       if (error instanceof MulkaveshError) throw error;
       void error.stack;
@@ -277,24 +370,37 @@ function caller(module) {
   };
 }
 
+// What is asked of the library: the call's name; the module; its flags, where it takes any; what stands behind those; how much room the answer mostly has; and
+// the NAMEs of the exports that were chosen.
 function callsOver(module) {
-  const call = caller(module);
-  const whole = (name, input, flags, ...between) => call(name, input, flags, between, input.length + MARGIN);
-  const version = new WebAssembly.Instance(module, {}).exports.mulkavesh_version();
+  const call = caller(module), version = new WebAssembly.Instance(module, {}).exports.mulkavesh_version();
+  const plain = (name, input, behind, more = {}) => {
+    const bytes = bytesOf(input);
+    return call({ name, input: bytes, room: bytes.length + MARGIN, behind, ...more });
+  };
+  const rooted = (name, input, options, more = {}) => {
+    const { choice, ...roots } = rootsOf(options), { behind = [], ...others } = more;
+    return plain(name, input, [choice, ...behind], { ...roots, ...others });
+  };
+  const about = (name, input, which, options) => rooted(name, input, options, { behind: [functionOf(which)], room: ROOM_OF_LINKS });
   return Object.freeze({
-    gc: (input, options) => whole('gc', bytesOf(input), flagsOf(options)),
-    report: (input, options) => decoder.decode(call('report', bytesOf(input), flagsOf(options), [], ROOM_OF_A_REPORT)),
-    diagnose: (input, options) => faultOf(call('diagnose', bytesOf(input), flagsOf(options), [], ROOM_OF_A_FAULT)),
-    list: (input, options) => listOf(whole('list', bytesOf(input), flagsOf(options))),
-    sections: (input) => sectionsOf(call('sections', bytesOf(input), null, [], ROOM_OF_SECTIONS)),
+    gc: (input, options) => rooted('gc', input, options),
+    report: (input, options) => reportOf(decoder.decode(rooted('report', input, options, { room: ROOM_OF_A_REPORT }))),
+    diagnose: (input, options) => faultOf(plain('diagnose', input, [], { flags: flagsOf(options), room: ROOM_OF_A_FAULT })),
+    list: (input, options) => allOf(rooted('list', input, options), listedOf),
+    dropped: (input, options) => allOf(rooted('dropped', input, options), listedOf),
+    exports: (input, options) => allOf(rooted('exports', input, options), exportOf),
+    imports: (input, options) => allOf(rooted('imports', input, options), importOf),
+    sections: (input) => sectionsOf(plain('sections', input, [], { room: ROOM_OF_SECTIONS })),
     parts: (input) => {
       const bytes = bytesOf(input);
-      return sectionsOf(call('parts', bytes, null, [], (bytes.length >>> 2) + ROOM_OF_SECTIONS)).sections.map(partOf);
+      return sectionsOf(plain('parts', bytes, [], { room: (bytes.length >>> 2) + ROOM_OF_SECTIONS })).sections.map(partOf);
     },
-    strip: (input, names, options) => whole('strip', bytesOf(input), null, choiceOf(names, options)),
-    why: (input, index) => decoder.decode(call('why', bytesOf(input), null, [indexOf(index)], ROOM_OF_A_CHAIN)),
-    snip: (input, name) => whole('snip', bytesOf(input), null, nameOf(name)),
-    stub: (input, from) => whole('stub', bytesOf(input), null, nameOf(from)),
+    strip: (input, names, options) => plain('strip', input, [sectionsChosen(names, options)]),
+    why: (input, which, options) => reasonOf(about('why', input, which, options)),
+    callers: (input, which, options) => allOf(about('callers', input, which, options), linkOf),
+    snip: (input, functions, options) => plain('snip', input, [going(functions, functionOf)], { flags: flagsOf(options) }),
+    stub: (input, modules, { imports = [], ...options } = {}) => plain('stub', input, [going(modules), going(imports)], { flags: flagsOf(options) }),
     version: () => `${version >>> 16}.${(version >>> 8) & 255}.${version & 255}`,
   });
 }

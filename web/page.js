@@ -1,11 +1,17 @@
 // The page over the library: what stays of a module, what goes, and why. The library is at work in a worker (worker.js), so that the page answers meanwhile.
-import { nearest, squarified, withStrip } from './treemap.js';
+import { Group } from './keys.js';
+import { squarified, withStrip } from './treemap.js';
 
 const ROWS_AT_ONCE = 200;
+// So many exports can be seen at once, and need no search.
+const FEW_EXPORTS = 12;
+// Of an item that is exported under more names so many are told.
+const MOST_EXPORTS = 3;
 // A box of fewer square pixels is too small to be hit: its function is among the rest.
 const LEAST_BOX = 150;
 const MOST_OF_A_NAME = 400;
-const RESULTS = ['sizes', 'items', 'functions'];
+// What doesn't answer while a module is at work; the exports do.
+const RESULTS = ['sizes', 'items', 'functions'], ALL_RESULTS = [...RESULTS, 'exports'];
 const KINDS = {
   functions: 'Functions',
   tables: 'Tables',
@@ -16,9 +22,9 @@ const KINDS = {
   data: 'Data segments',
 };
 const ROOTS = {
-  function: 'where it begins: an export, or the start function',
-  element: 'where it begins: a segment that fills a table, or declares functions',
-  data: 'where it begins: a segment that fills a memory',
+  start: () => 'the start function',
+  active: ({ kind }) => `a segment that fills a ${kind === 'data' ? 'memory' : 'table'}`,
+  declared: () => 'a segment that declares functions',
 };
 
 const byId = (id) => document.getElementById(id);
@@ -52,12 +58,11 @@ const BEGINNING = URL.createObjectURL(new Blob([`import ${JSON.stringify(new URL
 
 let worker = null, number = 0;
 // The number of what was asked last under each word, and those that wait for an answer. What is told under an earlier number is passed over.
-const asked = { take: 0, rows: 0, why: 0 }, open = new Set();
+const asked = { take: 0, rows: 0, ticks: 0, why: 0 }, open = new Set();
 
 // What the worker that was there has at hand is given up.
 function begin() {
   worker?.terminate();
-  if (open.has(asked.why)) resetWhy();
   open.clear();
   worker = new Worker(BEGINNING, { type: 'module' });
   worker.onmessage = ({ data }) => hear(data);
@@ -79,9 +84,21 @@ function hear(told) {
   if (told.number === asked[told.asked]) HEARD[told.word](told);
 }
 
+// Questions of one word, of which at most one is open, so that quick typing makes no queue: of those that wait the last is asked.
+function questions(word) {
+  let wanted = null;
+  const send = () => {
+    if (wanted === null || open.has(asked[word])) return;
+    ask(word, wanted);
+    wanted = null;
+  };
+  return { wish: (what) => ((wanted = what), send()), goOn: send };
+}
+
 // ---- A module is taken
 
-let file = null;
+// The file, its number, and what was done to the ticks of its exports, which are all there at first.
+let file = null, fileNumber = 0, steps = [];
 
 const options = () => Object.fromEntries(['names', 'producers', 'legacy'].map((word) => [word, byId(word).checked]));
 
@@ -91,15 +108,18 @@ function takeAgain() {
   byId('refused').hidden = true;
   for (const id of RESULTS) byId(id).inert = true;
   byId('status').textContent = `At work on ${file.name}, ${counted(file.size, 'byte')}.`;
-  ask('take', { file, options: options() });
+  asked.ticks = 0;
+  ask('take', { id: fileNumber, file, options: options(), steps });
 }
 
 function take(files) {
   if (files.length === 0) return;
   file = files[0];
-  for (const id of RESULTS) byId(id).hidden = true;
+  fileNumber++;
+  for (const id of ALL_RESULTS) byId(id).hidden = true;
   byId('rows').replaceChildren();
   byId('search').value = '';
+  resetTicks();
   resetWhy();
   takeAgain();
 }
@@ -137,14 +157,14 @@ function wordsOf(error, { legacy }) {
 function refuse(words) {
   byId('work').hidden = true;
   byId('status').textContent = file === null ? '' : `${file.name} is refused.`;
-  for (const id of RESULTS) byId(id).hidden = true;
+  for (const id of ALL_RESULTS) byId(id).hidden = true;
   byId('refused').hidden = false;
   byId('reason').textContent = words;
 }
 
 function onRefused(told) {
   if (told.asked === 'take') refuse(wordsOf(told, options()));
-  else if (told.asked === 'why') byId('why-told').replaceChildren(element('p', {}, REASONS[told.code] ?? told.message));
+  else if (told.asked === 'why') tellWhy('why-told', element('p', {}, REASONS[told.code] ?? told.message));
 }
 
 // ---- Sizes
@@ -157,8 +177,9 @@ function difference(before, after) {
 
 const outputName = () => `${file.name.replace(/\.wasm$/i, '')}.gc.wasm`;
 
-function onSmaller({ before, after, blob, took, version }) {
+function onSmaller({ before, after, blob, took, version, counts }) {
   const told = [`: ${counted(before, 'byte')} come out as `, element('strong', {}, count(after)), `. ${difference(before, after)}.`];
+  if (counts !== null && counts.ticked < counts.all) told.push(` ${share(counts)} ${counts.ticked === 1 ? 'stays' : 'stay'}.`);
   byId('status').replaceChildren(isolated(file.name), ...told);
   byId('length').style.width = `${Math.min(100, (100 * after) / before)}%`;
   byId('took').textContent = `in place of ${count(before)}, made in ${(took / 1000).toFixed(2)}\u00a0s`;
@@ -183,23 +204,98 @@ function bar(kept, dropped) {
   return whole;
 }
 
-function rowOfKind(line) {
-  const [kind, , kept, , dropped] = line.split(' ').map((it) => (/^\d/.test(it) ? Number(it) : it));
+function rowOfKind([kind, { kept, dropped }]) {
   const cells = [kept, dropped].map((it) => element('td', { className: 'number' }, count(it)));
   const bars = element('td', { className: 'bars', 'aria-hidden': 'true' }, bar(kept, dropped));
   return element('tr', { className: kept + dropped === 0 ? 'none' : '' }, element('th', { scope: 'row' }, KINDS[kind] ?? kind), ...cells, bars);
 }
 
-function onReport({ text }) {
-  byId('kinds').replaceChildren(...text.trimEnd().split('\n').map(rowOfKind));
+function onReport({ report: { bytes, ...kinds } }) {
+  byId('kinds').replaceChildren(...Object.entries(kinds).map(rowOfKind));
+  byId('bytes').textContent = `The bodies of functions that go have ${counted(bytes.dropped, 'byte')}, debug information has ${count(bytes.debug)}.`;
   show('items');
+}
+
+// ---- The exports, and which of them are ticked
+
+// What is left with all ticks, by the other choices.
+const withAll = new Map();
+const exportsAsked = questions('ticks');
+const ticks = new Group(byId('ticks'));
+
+const share = ({ ticked, all }) => `${count(ticked)} of ${counted(all, 'export')}`;
+
+function resetTicks() {
+  steps = [];
+  withAll.clear();
+  byId('ticks').replaceChildren();
+  byId('exports-search').value = '';
+  ticks.hold([]);
+}
+
+function askTicks(from = 0, number = ROWS_AT_ONCE) {
+  exportsAsked.wish({ search: byId('exports-search').value, from, count: number });
+}
+
+function onExports({ after, ticked, all }) {
+  const key = JSON.stringify(options());
+  if (ticked === all) withAll.set(key, after);
+  const more = withAll.has(key) && ticked < all ? `, ${counted(withAll.get(key) - after, 'byte')} fewer than with all` : '';
+  byId('left').replaceChildren(`${share({ ticked, all })} ${ticked === 1 ? 'is' : 'are'} ticked: `, element('strong', {}, counted(after, 'byte')), ` are left${more}.`);
+  byId('exports-both').hidden = all === 0;
+  byId('exports-none').hidden = all > 0;
+  byId('exports-form').hidden = all <= FEW_EXPORTS;
+  show('exports');
+  if (all > 0) askTicks(0, Math.max(ROWS_AT_ONCE, ticks.parts.length));
+}
+
+function rowOfExport({ at, kind, index, name, isTicked }) {
+  const box = element('input', { type: 'checkbox', checked: isTicked });
+  box.dataset.at = at;
+  const shown = element('span', {}, isolated(shortened(name), 'name'), ' ', element('small', {}, `${kind} ${index}`));
+  return element('li', {}, element('label', {}, box, shown));
+}
+
+const areShown = (rows) => rows.length === ticks.parts.length && rows.every((it, place) => Number(ticks.parts[place].dataset.at) === it.at);
+
+// Where they are shown already, they stay, and with them the focus.
+function showTicks(rows, from) {
+  if (from === 0 && areShown(rows)) return rows.forEach((it, place) => (ticks.parts[place].checked = it.isTicked));
+  const made = rows.map(rowOfExport);
+  if (from === 0) byId('ticks').replaceChildren(...made);
+  else byId('ticks').append(...made);
+  ticks.hold([...byId('ticks').querySelectorAll('input')], from === 0 ? 0 : ticks.current);
+}
+
+function onTicks({ rows, from, total }) {
+  showTicks(rows, from);
+  const isAll = byId('exports-search').value.trim() === '', those = `the ${count(total)} found`;
+  byId('exports-found').textContent = isAll ? '' : `${counted(total, 'export')} found.`;
+  byId('tick-all').textContent = isAll ? 'Tick all' : `Tick ${those}`;
+  byId('tick-none').textContent = isAll ? 'Tick none' : `Tick none of ${those}`;
+  for (const id of ['tick-all', 'tick-none']) byId(id).disabled = total === 0;
+  offerMore(byId('more-exports'), ticks.parts.length, total, ticks.parts[from]);
+  exportsAsked.goOn();
+}
+
+function onTick({ target }) {
+  steps.push({ at: Number(target.dataset.at), isTicked: target.checked });
+  takeAgain();
+}
+
+// All that are found, whether they are shown or not. A step that says something of all makes those before it void.
+function tickFound(isTicked) {
+  const search = byId('exports-search').value;
+  if (search.trim() === '') steps = [];
+  steps.push({ search, isTicked });
+  for (const it of ticks.parts) it.checked = isTicked;
+  takeAgain();
 }
 
 // ---- The functions as boxes
 
 let functions = { count: 0, size: 0, largest: [] };
-// What is drawn: the boxes with their buttons, and which of them the keys are at.
-let boxes = [], buttons = [], current = 0;
+const boxes = new Group(byId('map'));
 
 function onFunctions(told) {
   functions = told;
@@ -209,9 +305,10 @@ function onFunctions(told) {
     : `${counted(told.count, 'function')} with a body ${told.count === 1 ? 'stays' : 'stay'}, ${counted(told.size, 'byte')} of code in all.`;
   byId('both').hidden = none;
   show('functions');
-  current = 0;
+  boxes.hold([]);
   drawMap();
   askRows();
+  if (chosen !== null) ask('why', { index: chosen });
 }
 
 // How many of the largest functions have a box that can be hit.
@@ -222,7 +319,7 @@ function countOfBoxes(area) {
 }
 
 function buttonOf(label, words, box, level) {
-  const button = element('button', { type: 'button', className: `box level-${level}`, 'aria-label': label, tabIndex: -1 }, ...words);
+  const button = element('button', { type: 'button', className: `box level-${level}`, 'aria-label': label }, ...words);
   Object.assign(button.style, Object.fromEntries(Object.entries(box).map(([side, value]) => [side, `${value}px`])));
   button.classList.toggle('bare', box.width < 48 || box.height < 20);
   button.classList.toggle('low', box.height < 36);
@@ -250,39 +347,18 @@ function drawMap() {
   const shown = functions.largest.slice(0, countOfBoxes(room.width * room.height));
   const rest = functions.size - shown.reduce((sum, it) => sum + it.size, 0);
   const [main, strip] = withStrip(room, rest / functions.size);
-  boxes = squarified(shown.map((it) => it.size), main);
-  buttons = shown.map((it, at) => buttonOfFunction(it, boxes[at]));
-  if (rest > 0) {
-    boxes.push(strip);
-    buttons.push(buttonOfRest(functions.count - shown.length, rest, strip));
-  }
+  const places = squarified(shown.map((it) => it.size), main), buttons = shown.map((it, at) => buttonOfFunction(it, places[at]));
+  if (rest > 0) buttons.push(buttonOfRest(functions.count - shown.length, rest, strip));
   map.replaceChildren(...buttons);
-  goTo(Math.min(current, buttons.length - 1), hadFocus);
+  boxes.hold(buttons, boxes.current);
+  if (hadFocus) boxes.part.focus();
   markChosen();
-}
-
-// The one box to which Tab leads.
-function goTo(at, withFocus = true) {
-  buttons[current]?.setAttribute('tabindex', -1);
-  current = at;
-  buttons[at].tabIndex = 0;
-  if (withFocus) buttons[at].focus();
-}
-
-const WAYS = { ArrowLeft: [-1, 0], ArrowRight: [1, 0], ArrowUp: [0, -1], ArrowDown: [0, 1] };
-
-function onMapKey(event) {
-  if (event.altKey || event.ctrlKey || event.metaKey) return;
-  const ends = { Home: 0, End: buttons.length - 1 }, way = WAYS[event.key];
-  if (way === undefined && ends[event.key] === undefined) return;
-  event.preventDefault();
-  goTo(way ? nearest(boxes, current, way) : ends[event.key]);
 }
 
 function onMapClick({ target }) {
   const button = target.closest('button');
   if (button === null) return;
-  goTo(buttons.indexOf(button), false);
+  boxes.moveTo(button);
   if (button.dataset.rest === undefined) return askWhy(Number(button.dataset.index), button.firstChild.textContent, button);
   byId('search').focus();
   byId('search-form').scrollIntoView({ block: 'start' });
@@ -293,17 +369,10 @@ const onMapPointed = ({ target }) => (byId('caption').textContent = target.close
 // ---- The functions as a list
 
 let order = { by: 'size', falling: true };
-// What is to be asked for next. At most one question is open, so that quick typing makes no queue.
-let wanted = null;
+const functionsAsked = questions('rows');
 
 function askRows(from = 0) {
-  wanted = { search: byId('search').value, ...order, from, count: ROWS_AT_ONCE };
-  if (!open.has(asked.rows)) sendRows();
-}
-
-function sendRows() {
-  ask('rows', wanted);
-  wanted = null;
+  functionsAsked.wish({ search: byId('search').value, ...order, from, count: ROWS_AT_ONCE });
 }
 
 function rowOf(it) {
@@ -321,24 +390,22 @@ function onRows({ rows, from, total, count: all }) {
   byId('list').hidden = total === 0;
   const found = total === all ? counted(all, 'function') : `${count(total)} of ${counted(all, 'function')}`;
   byId('found').textContent = `${found}${shown < total ? `, ${count(shown)} of them shown` : ''}.`;
-  offerMore(shown, total, made[0]);
+  offerMore(byId('more'), shown, total, made[0]?.querySelector('button'));
   markChosen();
-  if (wanted !== null) sendRows();
+  functionsAsked.goOn();
 }
 
 // Where there are no more, the keys go from the button, which goes, to the first of the last rows.
-function offerMore(shown, total, first) {
-  const more = byId('more'), hadFocus = document.activeElement === more;
+function offerMore(more, shown, total, first) {
+  const hadFocus = document.activeElement === more;
   more.hidden = shown === total;
   more.textContent = `Show ${count(Math.min(ROWS_AT_ONCE, total - shown))} more`;
   more.dataset.from = shown;
-  if (hadFocus && more.hidden) first?.querySelector('button').focus();
+  if (hadFocus && more.hidden) first?.focus();
 }
 
 // Not while the list is about to be another one.
-function onMore({ target }) {
-  if (!open.has(asked.rows)) askRows(Number(target.dataset.from));
-}
+const onMore = (word, askMore) => ({ target }) => open.has(asked[word]) || askMore(Number(target.dataset.from));
 
 function onSort({ currentTarget: head }) {
   const by = head.dataset.by;
@@ -355,6 +422,7 @@ function onListClick({ target }) {
 // ---- Why one stays
 
 let chosen = null, cameFrom = null;
+const items = new Group(byId('why-more'));
 
 function markChosen() {
   for (const it of document.querySelectorAll('#map [data-index], #rows tr')) {
@@ -369,7 +437,8 @@ function resetWhy() {
   chosen = cameFrom = null;
   asked.why = 0;
   byId('why-heading').textContent = 'Why does a function stay?';
-  byId('why-told').replaceChildren(element('p', {}, 'Choose one, as a box or in the list.'));
+  tellWhy('why-told', element('p', {}, 'Choose one, as a box or in the list.'));
+  tellWhy('callers');
   byId('back').hidden = true;
 }
 
@@ -378,34 +447,79 @@ function askWhy(index, name, from) {
   cameFrom = from;
   markChosen();
   byId('why-heading').replaceChildren('Why does ', isolated(name), ' stay?');
-  byId('why-told').replaceChildren(element('p', {}, 'Looking for a chain that leads to it.'));
+  items.hold([]);
+  tellWhy('why-told', element('p', {}, 'Looking for a chain that leads to it.'));
+  tellWhy('callers');
   byId('back').hidden = false;
   byId('why').focus({ preventScroll: true });
   byId('why').scrollIntoView({ block: 'nearest' });
   ask('why', { index });
 }
 
-function linkOf(it, isRoot) {
-  const name = it.name ? [' ', isolated(shortened(it.name), 'name')] : [];
-  const size = it.size === null ? [] : [' ', element('small', {}, counted(it.size, 'byte'))];
-  const root = isRoot ? [element('small', { className: 'root' }, ROOTS[it.kind] ?? 'where it begins: an export')] : [];
-  return element('li', {}, element('span', { className: 'item' }, it.item), ...name, ...size, ...root);
+function namesOf(exports) {
+  const shown = exports.slice(0, MOST_EXPORTS).flatMap((it, at) => [at === 0 ? '“' : '”, “', isolated(shortened(it))]);
+  return ['exported as ', ...shown, exports.length > MOST_EXPORTS ? `” and ${counted(exports.length - MOST_EXPORTS, 'more name')}` : '”'];
 }
 
-function onWhy({ index, reached, first, left, behind }) {
-  if (!reached) {
-    byId('why-told').replaceChildren(element('p', {}, `It doesn’t: nothing that stays leads to function ${index}.`));
-  } else {
-    const links = first.map((it, at) => linkOf(it, at === 0));
-    if (left > 0) links.push(element('li', { className: 'left' }, `${counted(left, 'item')} between them`));
-    const words = links.length === 1 ? 'Nothing else has to lead to it:' : 'Each of these refers to the one below it:';
-    byId('why-told').replaceChildren(element('p', {}, words), element('ol', {}, ...links, ...behind.map((it) => linkOf(it, false))));
-  }
-  byId('why').scrollIntoView({ block: 'nearest' });
+// A function with a body can be asked about.
+function itemOf({ kind, index, name, size }) {
+  const words = `${kind} ${index}`;
+  if (size === null) return element('span', { className: 'item' }, words);
+  const button = element('button', { type: 'button', className: 'item', 'aria-label': `${words}: why does it stay?` }, words);
+  Object.assign(button.dataset, { index, name: nameOf({ index, name }) });
+  return button;
+}
+
+function linkOf(it, root = null) {
+  const name = it.name ? [' ', isolated(shortened(it.name), 'name')] : [];
+  const size = it.size === null ? [] : [' ', element('small', {}, counted(it.size, 'byte'))];
+  const words = it.exports.length > 0 ? namesOf(it.exports) : [ROOTS[root]?.(it)].filter(Boolean);
+  const reason = words.length === 0 ? [] : [element('small', { className: 'root' }, root === null ? '' : 'where it begins: ', ...words)];
+  return element('li', {}, itemOf(it), ...name, ...size, ...reason);
+}
+
+function chainOf({ root, first, left, behind }) {
+  const links = first.map((it, at) => linkOf(it, at === 0 ? root : null));
+  if (left > 0) links.push(element('li', { className: 'left' }, `${counted(left, 'item')} between them`));
+  return [...links, ...behind.map((it) => linkOf(it))];
+}
+
+// What was told already stays, so that readers don't tell it again.
+function tellWhy(id, ...words) {
+  const made = element('div', {}, ...words);
+  if (made.textContent === byId(id).textContent) return;
+  byId(id).replaceChildren(...made.childNodes);
+  items.hold([...byId('why-more').querySelectorAll('button')], items.current);
+}
+
+function onWhy({ index, alone, ...told }) {
+  if (told.root === null) return tellWhy('why-told', element('p', {}, `It doesn’t: nothing that stays leads to function ${index}.`));
+  const links = chainOf(told), words = links.length === 1 ? 'Nothing else has to lead to it:' : 'Each of these refers to the one below it:';
+  tellWhy('why-told', element('p', {}, words), element('ol', { className: 'chain' }, ...links), ...(alone === null ? [] : [goneWith(alone)]));
+  if (byId('why').contains(document.activeElement)) byId('why').scrollIntoView({ block: 'nearest' });
+}
+
+// What would go if its body did nothing.
+function goneWith({ functions: number, bytes }) {
+  if (number === 1) return element('p', {}, `No other function would go with it; its own body has ${counted(bytes, 'byte')}.`);
+  return element('p', {}, 'With it would go ', element('strong', {}, counted(number - 1, 'other function')), `: ${counted(bytes, 'byte')} of code, its own among them.`);
+}
+
+function onCallers({ callers, left }) {
+  if (byId('why-told').querySelector('.chain') === null) return tellWhy('callers');
+  const links = callers.map((it) => linkOf(it));
+  if (left > 0) links.push(element('li', { className: 'left' }, `and ${counted(left, 'more item')}`));
+  const words = links.length === 0 ? 'Nothing that stays refers to it directly.' : 'What refers to it directly:';
+  tellWhy('callers', element('p', {}, words), ...(links.length === 0 ? [] : [element('ul', {}, ...links)]));
+}
+
+function onWhyClick({ target }) {
+  const button = target.closest('.item[data-index]');
+  if (button) askWhy(Number(button.dataset.index), button.dataset.name, cameFrom);
 }
 
 function back() {
-  const again = cameFrom?.isConnected ? cameFrom : buttons[current];
+  const again = cameFrom?.isConnected ? cameFrom : boxes.part;
   again?.focus();
   again?.scrollIntoView({ block: 'nearest' });
 }
@@ -414,12 +528,16 @@ function back() {
 
 const HEARD = {
   smaller: onSmaller,
+  exports: onExports,
   report: onReport,
   functions: onFunctions,
   done: () => (byId('work').hidden = true),
   refused: onRefused,
   rows: onRows,
+  ticks: onTicks,
+  late: () => {},
   why: onWhy,
+  callers: onCallers,
 };
 
 function listenToFiles() {
@@ -446,22 +564,32 @@ function listenToFiles() {
   byId('choices').addEventListener('change', () => file && takeAgain());
 }
 
+function listenToExports() {
+  byId('ticks').addEventListener('change', onTick);
+  byId('tick-all').addEventListener('click', () => tickFound(true));
+  byId('tick-none').addEventListener('click', () => tickFound(false));
+  byId('exports-search').addEventListener('input', () => askTicks());
+  byId('exports-form').addEventListener('submit', (event) => event.preventDefault());
+  byId('more-exports').addEventListener('click', onMore('ticks', askTicks));
+}
+
 function listenToFunctions() {
-  byId('map').addEventListener('keydown', onMapKey);
   byId('map').addEventListener('click', onMapClick);
   byId('map').addEventListener('pointerover', onMapPointed);
   byId('map').addEventListener('focusin', onMapPointed);
   new ResizeObserver(drawMap).observe(byId('map'));
   byId('search').addEventListener('input', () => askRows());
   byId('search-form').addEventListener('submit', (event) => event.preventDefault());
-  byId('more').addEventListener('click', onMore);
+  byId('more').addEventListener('click', onMore('rows', askRows));
   byId('rows').addEventListener('click', onListClick);
   for (const head of document.querySelectorAll('#list th')) head.addEventListener('click', onSort);
   byId('back').addEventListener('click', back);
+  byId('why').addEventListener('click', onWhyClick);
   byId('why').addEventListener('keydown', ({ key }) => key === 'Escape' && back());
 }
 
 listenToFiles();
+listenToExports();
 listenToFunctions();
 begin();
 byId('unready').remove();

@@ -1,15 +1,19 @@
-// The library at work for page.js, in a worker. What is asked: `take`, of a file under some options; and of the file that was taken `rows`, a part of the
-// list of its functions, and `why`, a chain that leads to one. What is told names what was asked, and its number. The list stays here, since it may have a
-// million rows.
+// The library at work for page.js, in a worker. What is asked: `take`, of a file under some options and with some of its exports; and of the file that was taken
+// `rows`, a part of the list of its functions, `ticks`, a part of that of its exports, and `why`, a chain that leads to a function, what would go with it, and what
+// refers to it. What is told names what was asked, and its number. The lists stay here, since they may have a million rows.
 import { load, MulkaveshError } from './mulkavesh.js';
 
 const MOST_BOXES = 500;
-// So many lines from either end of a chain.
-const LINES_OF_A_CHAIN = 100;
+// So many links from either end of a chain, and so many items that refer to one.
+const ENDS_OF_A_CHAIN = 100;
+const MOST_CALLERS = 100;
 
 const library = load();
-let bytes = null, functions = [], byIndex = null;
+// The file that was taken, by its number, and its exports, each with its place among them; and of these those that stay, as the library's options.
+let taken = null, bytes = null, exported = null, ticked = [], roots = {}, functions = [];
 const orders = new Map();
+// What was asked last under each word.
+const newest = {};
 
 const COMPARED = {
   index: (one, other) => one.index - other.index,
@@ -24,11 +28,35 @@ function ordered(by) {
 }
 
 function forget() {
-  bytes = null;
+  taken = bytes = exported = null;
   functions = [];
-  byIndex = null;
   orders.clear();
 }
+
+// ---- What is exported, and which of it is ticked
+
+// Stars of a name stand for themselves.
+const nameAlone = ({ name }) => name.replaceAll('*', '\\*');
+
+function rootsBy(ticks) {
+  const kept = exported.filter((_, at) => ticks[at]), gone = exported.filter((_, at) => !ticks[at]);
+  if (gone.length === 0) return {};
+  if (kept.length === 0) return { drop: '*' };
+  return kept.length < gone.length ? { keep: kept.map(nameAlone) } : { drop: gone.map(nameAlone) };
+}
+
+// Each step sets or takes the tick of one, by its place, or of all that a search finds.
+function tick(all, steps) {
+  ticked = all.map(() => true);
+  for (const { at, search, isTicked } of steps) {
+    const those = at === undefined ? matching(all, search) : [all[at]];
+    for (const it of those) ticked[it.at] = isTicked;
+  }
+}
+
+const countOfTicks = () => ({ all: exported.length, ticked: ticked.filter(Boolean).length });
+
+// ---- What is asked
 
 function tellFunctions(tell) {
   const size = functions.reduce((sum, it) => sum + it.size, 0);
@@ -36,20 +64,27 @@ function tellFunctions(tell) {
 }
 
 // First the sizes and the smaller module, which are wanted first, and then the rest, each as it comes.
-async function take({ file, options }, tell) {
-  forget();
-  bytes = new Uint8Array(await file.arrayBuffer());
-  const { gc, report, list, version } = await library;
-  const begun = performance.now(), smaller = gc(bytes, options);
+async function take({ id, file, options, steps }, tell) {
+  if (taken !== id) forget();
+  bytes ??= new Uint8Array(await file.arrayBuffer());
+  taken = id;
+  const { gc, report, exports, list, version } = await library, isChosen = steps.length > 0;
+  const findExports = () => (exported ??= exports(bytes, options).map((it, at) => ({ ...it, at })));
+  if (isChosen) tick(findExports(), steps);
+  roots = isChosen ? { ...options, ...rootsBy(ticked) } : options;
+  const begun = performance.now(), smaller = gc(bytes, roots);
   const took = performance.now() - begun, blob = new Blob([smaller], { type: 'application/wasm' });
-  tell('smaller', { before: bytes.length, after: smaller.length, blob, took, version: version() });
-  tell('report', { text: report(bytes, options) });
-  functions = list(bytes, options);
+  tell('smaller', { before: bytes.length, after: smaller.length, blob, took, version: version(), counts: isChosen ? countOfTicks() : null });
+  tick(findExports(), steps);
+  tell('exports', { after: smaller.length, ...countOfTicks() });
+  tell('report', { report: report(bytes, roots) });
+  functions = list(bytes, roots);
+  orders.clear();
   tellFunctions(tell);
   tell('done', { last: true });
 }
 
-// The functions whose name has the text as a part, in whatever case, or whose index is this number.
+// Those whose name has the text as a part, in whatever case, or whose index is this number.
 function matching(all, search) {
   const part = search.trim().toLowerCase();
   if (part === '') return all;
@@ -62,27 +97,35 @@ function rows({ search, by, falling, from, count }, tell) {
   tell('rows', { rows: part, from, total, count: functions.length, last: true });
 }
 
-function named(line) {
-  const [, kind, index] = /^(\w+) (\d+)/.exec(line);
-  const listed = kind === 'function' ? byIndex.get(Number(index)) : undefined;
-  return { item: `${kind} ${index}`, kind, name: listed?.name ?? null, size: listed?.size ?? null };
+// Where the exports aren't there yet, the page asks again when they are.
+function ticks({ search, from, count }, tell) {
+  if (exported === null) return tell('late', { last: true });
+  const found = matching(exported, search), part = found.slice(from, from + count);
+  tell('ticks', { rows: part.map((it) => ({ ...it, isTicked: ticked[it.at] })), from, total: found.length, last: true });
 }
 
-// What `why` says, in lines; of a long chain both ends.
-async function why({ index }, tell) {
-  byIndex ??= new Map(functions.map((it) => [it.index, it]));
-  const lines = (await library).why(bytes, index).trimEnd().split('\n');
-  const reached = !lines[0].endsWith("isn't reached"), left = lines.length - 2 * LINES_OF_A_CHAIN;
-  const first = left > 0 ? lines.slice(0, LINES_OF_A_CHAIN) : lines, behind = left > 0 ? lines.slice(-LINES_OF_A_CHAIN) : [];
-  tell('why', { index, reached, first: first.map(named), left: Math.max(0, left), behind: behind.map(named), last: true });
+// Of a long chain both ends.
+function endsOf(chain) {
+  const left = chain.length - 2 * ENDS_OF_A_CHAIN;
+  return left > 0 ? { first: chain.slice(0, ENDS_OF_A_CHAIN), left, behind: chain.slice(-ENDS_OF_A_CHAIN) } : { first: chain, left: 0, behind: [] };
 }
 
-const ANSWERS = { take, rows, why };
+// What refers to it is looked for behind the rest, and not where another function was asked about meanwhile.
+async function why({ index }, tell, number) {
+  const { why: reason, callers } = await library, { root, chain, alone } = reason(bytes, index, roots);
+  tell('why', { index, root, ...endsOf(chain), alone });
+  await new Promise((done) => setTimeout(done));
+  const found = newest.why === number && root !== null ? callers(bytes, index, roots) : [];
+  tell('callers', { callers: found.slice(0, MOST_CALLERS), left: Math.max(0, found.length - MOST_CALLERS), last: true });
+}
+
+const ANSWERS = { take, rows, ticks, why };
 
 self.onmessage = async ({ data }) => {
+  newest[data.word] = data.number;
   const tell = (word, what) => self.postMessage({ word, asked: data.word, number: data.number, last: false, ...what });
   try {
-    await ANSWERS[data.word](data, tell);
+    await ANSWERS[data.word](data, tell, data.number);
   } catch (error) {
     const code = error instanceof MulkaveshError ? error.code : error.name;
     tell('refused', { code, message: error.message, fault: error.fault ?? null, last: true });

@@ -1,8 +1,8 @@
 // Compares what the calls from JavaScript answer with what walrus-gc writes of the same modules, and with one another.
 // node tests/web/beside.mjs FOLDER PROGRAM MUTANTS MODULES.. , each but the program a folder. tests/web.sh calls it.
-// The calls `gc` and `report` are held against the program, and `diagnose`, which has to find nothing wrong exactly where the program accepts; `sections` and
-// `strip` against what stands in the bytes, read anew; the other calls against one another. The modules go under each of the eight sets of words, a mutant under
-// one of the sixteen ways.
+// The calls `gc` and `report` are held against the program, and `diagnose`, which has to find nothing wrong exactly where the program accepts; `sections`, `strip`
+// and `exports` against what stands in the bytes, read anew; the other calls against one another. The modules go under each of the eight sets of words, a mutant
+// under one of the sixteen ways.
 import { spawnSync } from 'node:child_process';
 import { readFileSync, readdirSync } from 'node:fs';
 import { basename, join } from 'node:path';
@@ -31,11 +31,14 @@ function find(name, text) {
   console.log(`FIND ${name}: ${text}`);
 }
 
+// The counts of a report in the program's lines.
+const linesOf = ({ bytes, ...counts }) => Object.entries(counts).map(([kind, { kept, dropped }]) => `${kind} kept ${kept} dropped ${dropped}\n`).join('');
+
 // What a call answers: a code, and bytes.
 function answered(call, ...words) {
   try {
     const answer = library[call](...words);
-    return ['DONE', Buffer.from(answer)];
+    return ['DONE', Buffer.from(call === 'report' ? linesOf(answer) : answer)];
   } catch (error) {
     if (error instanceof MulkaveshError) return [error.code, Buffer.alloc(0)];
     throw error;
@@ -59,30 +62,138 @@ function besideTheProgram(name, input, way) {
   return wanted[0];
 }
 
+const isSorted = (all) => all.every((it, at) => at === 0 || all[at - 1] < it);
+
+function same(name, what, found, wanted) {
+  if (!isDeepStrictEqual(found, wanted)) find(name, `${what}: ${JSON.stringify(found)?.slice(0, 300)}, and not ${JSON.stringify(wanted)?.slice(0, 300)}`);
+}
+
+// The parts of a report, under the options that chose its roots, by what the other calls tell.
+function reportBeside(name, input, roots, smaller) {
+  const { functions, bytes } = library.report(input, roots), listed = library.list(input, roots), dropped = library.dropped(input, roots);
+  const debug = library.sections(input).sections.filter((it) => it.name?.startsWith('.debug'));
+  const sum = (all) => all.reduce((whole, it) => whole + it.size, 0);
+  same(name, 'bytes of a report', bytes, { read: input.length, written: smaller.length, dropped: sum(dropped), debug: sum(debug) });
+  same(name, 'functions with a body', listed.length + dropped.length, library.parts(input).filter((it) => it.kind === 'function' && !('id' in it)).length);
+  const imported = library.imports(input, roots).filter((it) => it.kind === 'function').length;
+  same(name, 'functions that stay', functions.kept, listed.length + imported);
+  if (!isSorted(listed.map((it) => it.index)) || !isSorted(dropped.map((it) => it.index))) find(name, 'list, dropped: not by rising index');
+  return { functions, listed };
+}
+
+// Why functions stay, under these roots: chains, those that refer to them, and what would go with them, beside lists and what `snip` leaves.
+function reasonsBeside(name, input, roots, kept) {
+  const { listed, functions } = kept, shown = library.exports(input, roots);
+  const linkOf = (kind, index) => {
+    const { name: called = null, size = null } = (kind === 'function' && listed.find((it) => it.index === index)) || {};
+    return { called, size, exports: shown.filter((it) => it.kind === kind && it.index === index).map((it) => it.name) };
+  };
+  for (const { index, size } of listed.filter((_, at) => at % Math.ceil(listed.length / 12) === 0)) {
+    const { item, root, chain, alone } = library.why(input, index, roots), callers = library.callers(input, index, roots);
+    const [first, last] = [chain[0], chain.at(-1)];
+    same(name, `why ${index}, the item`, [item, last.kind, last.index, last.size], [{ kind: 'function', index }, 'function', index, size]);
+    if (root === null || (root === 'exported') !== first.exports.length > 0) find(name, `why ${index}: the root ${root} of ${JSON.stringify(first)}`);
+    for (const it of [...chain, ...callers]) {
+      const wanted = linkOf(it.kind, it.index), isImported = it.kind === 'function' && it.size === null;
+      same(name, `a link of ${index}`, [it.exports, it.size], [wanted.exports, wanted.size]);
+      if (it.kind === 'function' && !isImported) same(name, `the name of ${it.index}`, it.name, wanted.called);
+    }
+    const previous = chain.at(-2);
+    if (previous && !callers.some((it) => it.kind === previous.kind && it.index === previous.index)) find(name, `callers of ${index}: not ${JSON.stringify(previous)}`);
+    if (alone.functions < 1 || alone.bytes < size) find(name, `alone ${index}: ${JSON.stringify(alone)}`);
+    if (roots.keep === undefined && roots.drop === undefined) goneBeside(name, input, index, alone, functions.kept);
+  }
+}
+
+// What would go with a function goes where it traps, but for itself.
+function goneBeside(name, input, index, { functions }, kept) {
+  const [code, snipped] = answered('snip', input, index);
+  if (code !== 'DONE') return find(name, `snip ${index}: ${code}`);
+  same(name, `alone ${index}`, functions, kept - library.report(snipped).functions.kept + 1);
+}
+
 // Each of the others in what all modules have in common with gc and list.
 function othersBesideGc(name, input) {
   const [code, smaller] = answered('gc', input);
   if (code !== 'DONE') return;
-  const listed = library.list(input), kept = Number(/^functions kept (\d+)/.exec(library.report(input))[1]);
-  if (listed.length > kept || listed.some((it, at) => at > 0 && listed[at - 1].index >= it.index)) find(name, 'list: too many, or not by rising index');
-  for (const { index } of listed.slice(0, 20)) {
-    if (!library.why(input, index).endsWith(`function ${index}\n`)) find(name, `why ${index}: ${library.why(input, index)}`);
-  }
-  for (const [call, ...words] of [['strip', 'no section has this name'], ['why', 2 ** 32 - 1], ['snip', 'nothing has this name']]) {
-    if (answered(call, input, ...words)[0] !== 'NOT_FOUND') find(name, `${call}: not NOT_FOUND`);
-  }
-  if (!answered('stub', input, 'nothing has this name')[1].equals(smaller)) find(name, 'stub: other bytes than gc');
+  reasonsBeside(name, input, {}, reportBeside(name, input, {}, smaller));
+  chosenBeside(name, input);
+  const missing = [['strip', 'no section has this name'], ['why', 2 ** 32 - 1], ['callers', 'nothing has this name'], ['snip', 'nothing has this name'], ['stub', 'no module']];
+  for (const [call, ...words] of missing) if (answered(call, input, ...words)[0] !== 'NOT_FOUND') find(name, `${call}: not NOT_FOUND`);
   const module = WebAssembly.validate(input) && new WebAssembly.Module(input);
-  for (const { name: word, kind } of module ? WebAssembly.Module.exports(module).slice(0, 20) : []) {
-    const [told, snipped] = answered('snip', input, word);
-    if (told === 'DONE' ? kind !== 'function' || !WebAssembly.validate(snipped) : told !== 'NOT_FOUND') find(name, `snip ${word}: ${told}`);
-  }
-  for (const { module: word } of module ? WebAssembly.Module.imports(module) : []) {
-    const [told, stubbed] = answered('stub', input, word);
-    const left = told === 'DONE' && WebAssembly.Module.imports(new WebAssembly.Module(stubbed));
-    if (!left || left.some((it) => it.module === word && it.kind === 'function')) find(name, `stub ${word}: ${told}, or still imported`);
+  if (module) {
+    importsBeside(name, input, module, new WebAssembly.Module(smaller));
+    editsBeside(name, input, module);
   }
 }
+
+// What `gc` leaves of imports, by what the engine says of both modules.
+function importsBeside(name, input, before, after) {
+  const counts = {}, text = ({ kind, module, name: word, index }) => JSON.stringify([kind, module, word, index]);
+  const all = WebAssembly.Module.imports(before).map((it) => ({ ...it, index: (counts[it.kind] = (counts[it.kind] ?? -1) + 1) })).map(text);
+  const found = library.imports(input), left = found.map(text), places = left.map((it) => all.indexOf(it));
+  if (places.includes(-1) || !isSorted(places)) find(name, `imports: ${left}, and not some of ${all}`);
+  const bare = (those) => those.map((it) => text({ ...it, index: 0 })).sort();
+  same(name, 'imports that stay', bare(found), bare(WebAssembly.Module.imports(after)));
+}
+
+// What `snip` and `stub` make is valid, and of the exports and imports that they say.
+function editsBeside(name, input, module) {
+  for (const { name: word, kind } of WebAssembly.Module.exports(module).slice(0, 20)) {
+    const [told, snipped] = answered('snip', input, word.replaceAll('*', '\\*'));
+    if (told === 'DONE' ? kind !== 'function' || !WebAssembly.validate(snipped) : told !== 'NOT_FOUND') find(name, `snip ${word}: ${told}`);
+  }
+  for (const { module: from, name: word, kind } of WebAssembly.Module.imports(module).slice(0, 20)) {
+    for (const options of [{}, { imports: word.replaceAll('*', '\\*') }]) {
+      const [told, stubbed] = answered('stub', input, from.replaceAll('*', '\\*'), options);
+      const isHit = (it) => it.kind === 'function' && it.module === from && (options.imports === undefined || it.name === word);
+      if (told === 'NOT_FOUND' && !WebAssembly.Module.imports(module).some(isHit)) continue;
+      if (told !== 'DONE' || WebAssembly.Module.imports(new WebAssembly.Module(stubbed)).some(isHit)) find(name, `stub ${from} ${word}, a ${kind}: ${told}, or still imported`);
+    }
+  }
+}
+
+// ---- chosen exports
+
+// The exports that stand in bytes that are a module.
+function exportsIn(input) {
+  const section = framed(input).sections.find((it) => it.id === 7), found = [];
+  if (section === undefined) return found;
+  const [, begins] = numberAt(input, section.start + 1);
+  let [count, at] = numberAt(input, begins);
+  for (; count > 0; count--) {
+    const [length, from] = numberAt(input, at), kind = ['function', 'table', 'memory', 'global', 'tag'][input[from + length]];
+    const [index, ends] = numberAt(input, from + length + 1);
+    found.push({ kind, index, name: utf8.decode(input.subarray(from, from + length)) });
+    at = ends;
+  }
+  return found;
+}
+
+// Half of the exports, chosen in several ways that come to the same.
+function chosenBeside(name, input) {
+  const all = exportsIn(input), escaped = (those) => those.map((it) => it.name.replaceAll('*', '\\*'));
+  same(name, 'exports', library.exports(input), all);
+  const [some, others] = [0, 1].map((rest) => all.filter((_, at) => at % 2 === rest));
+  if (some.length === 0) return;
+  const ways = [{ keep: escaped(some) }, { drop: escaped(others) }, { keep: escaped(all), drop: escaped(others) }, { keep: '*', drop: escaped(others) }];
+  const [{ told, smaller }, ...rest] = ways.map((roots) => {
+    const [code, bytes] = answered('gc', input, roots);
+    return { told: code, smaller: bytes };
+  });
+  if (told !== 'DONE') return find(name, `gc of half of its exports: ${told}`);
+  if (rest.some((it) => it.told !== told || !it.smaller.equals(smaller))) find(name, 'ways to choose the exports come to different bytes');
+  same(name, 'exports that stay', library.exports(input, ways[0]), some);
+  same(name, 'exports of what is left', exportsIn(smaller).map((it) => it.name), some.map((it) => it.name));
+  same(name, 'what is left, again', answered('gc', smaller)[1].equals(smaller), true);
+  if (WebAssembly.validate(input) && !WebAssembly.validate(smaller)) find(name, 'what is left of chosen exports is invalid');
+  reasonsBeside(name, input, ways[0], reportBeside(name, input, ways[0], smaller));
+  const none = answered('gc', input, { drop: '*' })[1];
+  same(name, 'none of the exports', [library.exports(input, { drop: '*' }), exportsIn(none)], [[], []]);
+  if (answered('gc', input, { keep: [...escaped(some), 'nothing has this name'] })[0] !== 'NOT_FOUND') find(name, 'a NAME that fits no export');
+}
+
+// ---- framing
 
 // The number of 32 bits that stands at a place, and the place behind it; or null where none stands there.
 function numberAt(bytes, at) {

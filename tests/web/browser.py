@@ -4,7 +4,8 @@
     tests/web/browser.py CHROMIUM FOLDER PROGRAM MODULES..
 
 CHROMIUM is a command, FOLDER what web/build.sh left, PROGRAM walrus-gc, and MODULES are folders of modules. tests/web.sh calls it. The page is driven as a user
-does. Each test drops or picks a file, and holds what the page then shows against what the program writes, or what the library's calls in FOLDER answer. Prints the
+does. Each test drops or picks a file, and holds what the page then shows against what the program writes, or what the library's calls in FOLDER answer: sizes,
+counts, lists, chains, what would go with a function and what refers to it, and all of these again where the ticks of some exports are taken. Prints the
 count of comparisons, the times, and a line for each find. Where the environment variable MULKAVESH_SCREENS names a folder, screenshots are left there.
 docs/pictures/page.png is page.png of these, made smaller by `optipng -o7 -strip all`, where ../shared/samples is among MODULES.
 """
@@ -158,14 +159,67 @@ class Test:
         return self.page.value(f"""(async () => {{ const {{ load }} = await import('./mulkavesh.js'); globalThis.library ??= await load();
             return library.{call}(Uint8Array.from(atob('{given}'), (it) => it.charCodeAt(0)), ...{json.dumps(words)}); }})()""")
 
+    def library_bytes(self, path, options):
+        """What `gc` answers, asked for likewise."""
+        given = base64.b64encode(path.read_bytes()).decode()
+        return base64.b64decode(self.page.value(f"""(async () => {{ const {{ load }} = await import('./mulkavesh.js'); globalThis.library ??= await load();
+            const made = library.gc(Uint8Array.from(atob('{given}'), (it) => it.charCodeAt(0)), {{ ...{json.dumps(options)}, names: document.getElementById('names').checked }});
+            return btoa(Array.from(made, (it) => String.fromCharCode(it)).join('')); }})()"""))
+
     def screen(self, name):
         if self.screens:
             self.page.screen(pathlib.Path(self.screens) / f"{name}.png")
 
 
+def links_shown(test, place):
+    """What stands in a list of links, each as it is read: its kind and index, name, bytes, and what it is exported as or begins as."""
+    return test.page.value(f"[...document.querySelectorAll('{place} li')].map((it) => it.innerText.replace(/\\s+/g, ' ').trim())")
+
+
 def chain_shown(test):
-    test.page.wait("document.querySelector('#why ol')")
-    return test.page.value("[...document.querySelectorAll('#why .item')].map((it) => it.textContent + '\\n').join('')")
+    test.page.wait("document.querySelector('#why .chain') && document.querySelector('#callers p')")
+    return links_shown(test, "#why .chain")
+
+
+WHERE = {"start": "the start function", "declared": "a segment that declares functions"}
+
+
+def as_link(it, root=None):
+    """A link as the page tells it."""
+    words = f"{it['kind']} {it['index']}{' ' + it['name'] if it['name'] else ''}"
+    if it["size"] is not None:
+        words += f" {it['size']:,} byte{'' if it['size'] == 1 else 's'}"
+    begins = "" if root is None else " where it begins:"
+    if it["exports"]:
+        more = len(it["exports"]) - 3
+        shown = ", ".join(f"“{one}”" for one in it["exports"][:3])
+        return f"{words}{begins} exported as {shown}" + (f" and {more} more name{'' if more == 1 else 's'}" if more > 0 else "")
+    if root is None:
+        return words
+    return f"{words}{begins} " + WHERE.get(root, f"a segment that fills a {'memory' if it['kind'] == 'data' else 'table'}")
+
+
+def as_chain(reason):
+    return [as_link(it, reason["root"] if at == 0 else None) for at, it in enumerate(reason["chain"])]
+
+
+def gone_with(reason):
+    """What the page tells of what would go with a function."""
+    functions, size = reason["alone"]["functions"] - 1, f"{reason['alone']['bytes']:,} byte{'' if reason['alone']['bytes'] == 1 else 's'}"
+    if functions == 0:
+        return f"No other function would go with it; its own body has {size}."
+    return f"With it would go {functions:,} other function{'' if functions == 1 else 's'}: {size} of code, its own among them."
+
+
+def why_is_right(test, what, path, index, roots=None):
+    """The chain, what would go with the function, and what refers to it, beside the library."""
+    roots = roots or {}
+    shown, reason = chain_shown(test), test.library("why", path, index, roots)
+    test.same(f"{what}: the chain", shown, as_chain(reason))
+    test.same(f"{what}: what would go with it", test.text("#why-told > p:last-child"), gone_with(reason))
+    callers = test.library("callers", path, index, roots)
+    left = [f"and {len(callers) - 100:,} more item{'' if len(callers) == 101 else 's'}"] if len(callers) > 100 else []
+    test.same(f"{what}: what refers to it", links_shown(test, "#callers"), [*map(as_link, callers[:100]), *left])
 
 
 def kinds_shown(test):
@@ -215,6 +269,125 @@ def downloaded(test):
     return name, content
 
 
+# ---- the exports
+
+
+def exporting_module(functions):
+    """A module with this many functions, each exported under its number, by fives under two names with a star, and longer by ten bytes than the one before it."""
+    body = lambda at: b"\0" + b"\x41\0\x1a" * 3 + b"\x01" * 10 * at + b"\x0b"
+    bodies = b"".join(number(len(it)) + it for it in map(body, range(functions)))
+    names = [(b"export_%03d" % at, at) for at in range(functions)] + [(b"five*%d" % at, at) for at in range(0, functions, 5)]
+    exports = number(len(names)) + b"".join(number(len(name)) + name + b"\0" + number(at) for name, at in names)
+    return b"".join((
+        b"\0asm\1\0\0\0", section(1, b"\1\x60\0\0"), section(3, number(functions) + bytes(functions)), section(7, exports),
+        section(10, number(functions) + bodies)))
+
+
+def escaped(names):
+    return [it.replace("*", "\\*") for it in names]
+
+
+def ticks_shown(test):
+    return test.page.value("[...document.querySelectorAll('#ticks li')].map((it) => [it.innerText.replace(/\\s+/g, ' ').trim(), it.querySelector('input').checked])")
+
+
+def left_is_right(test, what, path, names, all_names):
+    """The sizes, the counts and the download are those of the exports of these names."""
+    roots = {"keep": escaped(names)} if names else {"drop": "*"}
+    wanted, whole = (test.library_bytes(path, it) for it in (roots, {}))
+    test.page.wait(f"document.querySelector('#left strong')?.textContent === '{len(wanted):,} bytes' && {AT_REST}")
+    ticked = f"{len(names):,} of {len(all_names):,} exports {'is' if len(names) == 1 else 'are'} ticked: {len(wanted):,} bytes are left"
+    fewer = "" if len(names) == len(all_names) else f", {len(whole) - len(wanted):,} bytes fewer than with all"
+    test.same(f"{what}: what is left", test.text("#left"), f"{ticked}{fewer}.")
+    stays = "" if len(names) == len(all_names) else f" {len(names):,} of {len(all_names):,} exports stay{'s' if len(names) == 1 else ''}."
+    test.holds(f"{what}: the sizes: {test.text('#status')}", f"come out as {len(wanted):,}." in test.text("#status") and test.text("#status").endswith(stays))
+    test.same(f"{what}: the download", downloaded(test)[1], wanted)
+    report = test.library("report", path, roots)
+    test.same(f"{what}: the counts", kinds_shown(test), "".join(f"{it} kept {report[it]['kept']} dropped {report[it]['dropped']}\n" for it in report if it != "bytes"))
+
+
+def ticks_of_exports(test, name):
+    """Ticks are taken and set, one by one and all, by the mouse; the functions and the chain follow."""
+    path, page = test.modules[name], test.page
+    test.drop(path)
+    listed = test.library("exports", path)
+    names = [it["name"] for it in listed]
+    test.same(f"{name}: the exports", ticks_shown(test), [[f"{it['name']} {it['kind']} {it['index']}", True] for it in listed])
+    left_is_right(test, f"{name}, all exports", path, names, names)
+    largest = max(test.library("list", path), key=lambda it: (it["size"], -it["index"]))
+    page.click("#map button")
+    why_is_right(test, f"{name}, all exports", path, largest["index"])
+    page.click("#ticks li:nth-child(2) input")
+    left_is_right(test, f"{name}, all exports but one", path, [names[0], *names[2:]], names)
+    test.same(f"{name}: the focus after a tick", page.value("document.activeElement.dataset.at"), "1")
+    why_is_right(test, f"{name}, all exports but one", path, largest["index"], {"drop": escaped([names[1]])})
+    page.click("#tick-none")
+    left_is_right(test, f"{name}, no exports", path, [], names)
+    page.click("#ticks li:nth-child(1) label span")
+    left_is_right(test, f"{name}, one export", path, names[:1], names)
+    test.same(f"{name}: the list of one export", rows_shown(test), as_rows(sorted(test.library("list", path, {"keep": escaped(names[:1])}), key=lambda it: (-it["size"], it["index"]))))
+    page.click("#tick-all")
+    left_is_right(test, f"{name}, all exports again", path, names, names)
+    test.drop(path)
+    test.same(f"{name}: the ticks of a module that is dropped again", [it[1] for it in ticks_shown(test)], [True] * len(names))
+
+
+def many_exports(test):
+    """More exports than are shown, a search among them, stars, ticks one behind another, of which the last counts, and a function that goes."""
+    path, page = test.file("exports.wasm", exporting_module(300)), test.page
+    test.drop(path)
+    names = [it["name"] for it in test.library("exports", path)]
+    test.same("exports.wasm: what is shown", len(ticks_shown(test)), 200)
+    page.click("#more-exports")
+    page.wait("document.querySelectorAll('#ticks li').length === 360")
+    page.click("#map button")
+    why_is_right(test, "exports.wasm", path, 299)
+    for at in (300, 299, 298):
+        page.click(f"#ticks li:nth-child({at}) input")
+    left = [it for at, it in enumerate(names) if at not in (297, 298, 299)]
+    left_is_right(test, "exports.wasm, three ticks taken one behind another", path, left, names)
+    test.same("exports.wasm: why one goes", test.text("#why-told"), "It doesn’t: nothing that stays leads to function 299.")
+    page.click("#exports-search")
+    page.call("Input.insertText", text="FIVE*")
+    page.wait("document.querySelector('#exports-found').textContent === '60 exports found.'")
+    test.same("exports.wasm: what is found", [it[0].split()[0] for it in ticks_shown(test)], names[300:])
+    page.click("#tick-none")
+    left = [it for at, it in enumerate(names[:300]) if at not in (297, 298, 299)]
+    left_is_right(test, "exports.wasm, without what is found", path, left, names)
+    page.value("document.getElementById('exports-search').value = ''")
+    page.click("#tick-none")
+    left_is_right(test, "exports.wasm, none", path, [], names)
+    page.value("document.getElementById('exports-search').value = '_00'; document.getElementById('exports-search').dispatchEvent(new Event('input'))")
+    page.wait("document.querySelector('#tick-all').textContent === 'Tick the 10 found'")
+    page.click("#tick-all")
+    left_is_right(test, "exports.wasm, what is found alone", path, names[:10], names)
+    page.click("#names")
+    left_is_right(test, "exports.wasm, the choice of exports outlives another choice", path, names[:10], names)
+
+
+def ticks_by_keys(test, name):
+    """Tab leads to one of the ticks, arrows to others, and Space takes them."""
+    path, page = test.modules[name], test.page
+    picked(test, path)
+    names = [it["name"] for it in test.library("exports", path)]
+    for _ in range(10):
+        page.key("Tab", number=9)
+        if page.value("document.activeElement.matches('#ticks input')"):
+            break
+    test.same(f"{name}: the first tick", page.value("document.activeElement.dataset.at"), "0")
+    page.key("End", number=35)
+    test.same(f"{name}: the last tick", page.value("document.activeElement.dataset.at"), str(len(names) - 1))
+    page.key(" ", "Space", number=32, text=" ")
+    left_is_right(test, f"{name}, by keys", path, names[:-1], names)
+    page.key("Home", number=36)
+    page.key("ArrowRight", number=39)
+    test.same(f"{name}: an arrow among ticks", page.value("document.activeElement.dataset.at"), "1")
+    page.key(" ", "Space", number=32, text=" ")
+    left_is_right(test, f"{name}, two by keys", path, [names[0], *names[2:-1]], names)
+    page.key("Tab", number=9)
+    test.holds(f"{name}: from the ticks to the boxes", page.value("document.activeElement.matches('#map button')"))
+
+
 # ---- the tests
 
 
@@ -236,11 +409,12 @@ def functions_and_chains(test, name):
     by_size = sorted(listed, key=lambda it: (-it["size"], it["index"]))
     test.same(f"{name}: the list", rows_shown(test), as_rows(by_size)[:200])
     page.click("#map button")
-    test.same(f"{name}: the chain of a box", chain_shown(test), test.library("why", path, by_size[0]["index"]))
+    why_is_right(test, f"{name}, a box", path, by_size[0]["index"])
     test.same(f"{name}: the focus after a click", page.value("document.activeElement.id"), "why")
     page.click("#rows tr:nth-child(3) td:last-child")
     page.wait(f"document.querySelector('#why-heading').textContent.includes({json.dumps(as_rows(by_size)[2][1])})")
-    test.same(f"{name}: the chain of a row", chain_shown(test), test.library("why", path, by_size[2]["index"]))
+    why_is_right(test, f"{name}, a row", path, by_size[2]["index"])
+    follows(test, name, path)
     page.click("#list [data-by=index] button")
     page.wait("document.querySelector('#rows td').textContent === " + json.dumps(str(listed[0]["index"])))
     test.same(f"{name}: by index", rows_shown(test), as_rows(listed)[:200])
@@ -254,6 +428,18 @@ def functions_and_chains(test, name):
     rows = min(200, len(wanted))
     page.wait(f"document.querySelector('#found').textContent.startsWith('{begins}') && document.querySelectorAll('#rows tr').length === {rows}")
     test.same(f"{name}: search", rows_shown(test), as_rows(wanted)[:200])
+
+
+def follows(test, name, path):
+    """A function of the chain, or of those that refer to it, is asked about by a click on it."""
+    there = test.page.value("[...document.querySelectorAll('#why-more button')].map((it) => it.dataset.index)")
+    for at in {0, len(there) - 1}:
+        test.page.click(f"#why-more button[data-index='{there[at]}']")
+        test.page.wait(f"[...document.querySelectorAll('.chain li:last-child .item')].some((it) => it.textContent === 'function {there[at]}')")
+        why_is_right(test, f"{name}, function {there[at]} by a click in a chain", path, int(there[at]))
+        test.same(f"{name}: the focus after a click in a chain", test.page.value("document.activeElement.id"), "why")
+        if not test.page.value(f"document.querySelector(\"#why-more button[data-index='{there[0]}']\") !== null"):
+            break
 
 
 def more_rows(test, name):
@@ -279,19 +465,25 @@ def keys_alone(test, name):
     second = page.value("document.activeElement.dataset.index")
     test.holds(f"{name}: an arrow goes to another box", first is not None and second not in (None, first))
     page.key("Enter", number=13, text="\r")
-    test.same(f"{name}: the chain by keys", chain_shown(test), test.library("why", path, int(second or 0)))
+    why_is_right(test, f"{name}, by keys", path, int(second or 0))
     test.same(f"{name}: the focus by keys", page.value("document.activeElement.id"), "why")
+    page.key("Tab", number=9)
+    begins = page.value("document.activeElement.matches('#why-more button') && document.activeElement.textContent")
+    page.key("End", number=35)
+    ends = page.value("document.activeElement.matches('#why-more button') && document.activeElement.textContent")
+    test.holds(f"{name}: keys in a chain, {begins} and {ends}", begins and ends and begins != ends)
     page.key("Escape", number=27)
     test.same(f"{name}: back by Escape", page.value("document.activeElement.dataset.index"), second)
-    page.key("Tab", number=9)
-    page.key("Tab", number=9)
+    for _ in range(3):
+        page.key("Tab", number=9)
     test.same(f"{name}: from the boxes to the search", page.value("document.activeElement.id"), "search")
     for _ in range(4):
         page.key("Tab", number=9)
     index = page.value("document.activeElement.closest('tr').dataset.index")
     page.key("Enter", number=13, text="\r")
     page.wait("document.activeElement.id === 'why'")
-    test.same(f"{name}: the chain of a row by keys", chain_shown(test), test.library("why", path, int(index)))
+    page.wait(f"document.querySelector('.chain li:last-child .item')?.textContent === 'function {index}'")
+    why_is_right(test, f"{name}, a row by keys", path, int(index))
 
 
 def choices(test, name):
@@ -375,7 +567,7 @@ def large(test, name):
     test.same("large.wasm: search", rows_shown(test)[0][:2], ["99999", "Work_Number_099999"])
     test.told.append(f"its search {longest:.2f} s at most between two ticks")
     page.click("#rows tr")
-    test.same("large.wasm: a chain", chain_shown(test), "element 0\nfunction 99999\n")
+    test.same("large.wasm: a chain", [it.split(" Work")[0] for it in chain_shown(test)], ["element 0 where it begins: a segment that fills a table", "function 99999"])
     superseded(test, path, name, took)
 
 
@@ -506,6 +698,10 @@ def tests(test):
     if test.modules[largest].stat().st_size > 500_000:
         yield functools.partial(more_rows, test, largest)
     yield functools.partial(keys_alone, test, largest)
+    for name in {small, "c14-simd.wasm"}:
+        yield functools.partial(ticks_of_exports, test, name)
+    yield functools.partial(many_exports, test)
+    yield functools.partial(ticks_by_keys, test, "c14-simd.wasm")
     yield functools.partial(choices, test, small)
     yield functools.partial(legacy, test, "c19-eh.wasm")
     yield functools.partial(refusals, test, small)

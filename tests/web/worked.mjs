@@ -13,7 +13,7 @@ const folder = process.argv[2], here = pathToFileURL(join(folder, 'mulkavesh.js'
 const wasm = readFileSync(join(folder, 'mulkavesh.wasm'));
 const { load, MulkaveshError, InvalidModule, TooLarge, OutOfMemory, NotFound, Trapped } = await import(here);
 const library = await load();
-const { gc, report, diagnose, list, sections, parts, strip, why, snip, stub, version } = library;
+const { gc, report, diagnose, list, dropped, exports, imports, sections, parts, strip, why, callers, snip, stub, version } = library;
 
 // ---- modules
 
@@ -36,7 +36,7 @@ const SECTIONS = module('00 03 01 61 01', '00 03 01 61 02', '00 04 02 C3 A9 03')
 // `.debug_info` with its size in two bytes, the bodies of two functions in front of the functions, `.debug_line`, `a*`, and names that are none.
 const BROKEN_SECTIONS = ['0A 08 02 03 00 01 0B 02 00 0B', '03 03 02 00 00', '00 04 02 61 2A 03', '00 06 04 6E 61 6D 65 FF'];
 const [CODE, FUNCTIONS, STAR, NAMES] = BROKEN_SECTIONS, INFO = '00 8D 00 0B 2E 64 65 62 75 67 5F 69 6E 66 6F 01', LINE = '00 0D 0B 2E 64 65 62 75 67 5F 6C 69 6E 65 02';
-const BROKEN = module(INFO, CODE, FUNCTIONS, LINE, STAR, NAMES);
+const BROKEN = module(INFO, CODE, FUNCTIONS, LINE, STAR, NAMES), INFO_SECTION = hex(INFO), LINE_SECTION = hex(LINE);
 // Functions `f` and `g` from `env`, and `h` from `m`; the exported `a` calls `h` and gives what `f` makes of its argument.
 const IMPORTS = module(
   '01 09 02 60 01 7F 01 7F 60 00 00', '02 17 03 03 65 6E 76 01 66 00 00 03 65 6E 76 01 67 00 01 01 6D 01 68 00 01', '03 02 01 00', '07 05 01 01 61 00 03',
@@ -49,7 +49,21 @@ const STUBBED = module(
 // The exported `a` calls a function that nothing else calls.
 const CALLS = module(TYPE, '03 03 02 00 00', '07 05 01 01 61 00 00', '0A 0A 02 04 00 10 01 0B 03 00 01 0B');
 const SNIPPED = module(TYPE, '03 02 01 00', '07 05 01 01 61 00 00', '0A 05 01 03 00 00 0B', PRODUCERS);
-const REPORT = ['functions kept 1 dropped 1', ...['tables', 'memories', 'tags', 'globals', 'elements', 'data'].map((it) => `${it} kept 0 dropped 0`), ''].join('\n');
+// Two functions, the first exported as `a`, the second as `b` and as `*`; and what is left of each alone.
+const [TWO_FUNCTIONS, TWO_BODIES] = ['03 03 02 00 00', '0A 08 02 03 00 01 0B 02 00 0B'];
+const CHOSEN = module(TYPE, TWO_FUNCTIONS, '07 0D 03 01 61 00 00 01 62 00 01 01 2A 00 01', TWO_BODIES);
+const CHOSEN_A = module(TYPE, '03 02 01 00', '07 05 01 01 61 00 00', '0A 05 01 03 00 01 0B');
+const CHOSEN_B = module(TYPE, '03 02 01 00', '07 05 01 01 62 00 00', '0A 04 01 02 00 0B');
+const CHOSEN_STAR = module(TYPE, '03 02 01 00', '07 05 01 01 2A 00 00', '0A 04 01 02 00 0B');
+const CHOSEN_NOT_A = module(TYPE, '03 02 01 00', '07 09 02 01 62 00 00 01 2A 00 00', '0A 04 01 02 00 0B');
+// The start function calls the second function, an active segment names the third, and a declared one the fourth, which is `ref.func` of nothing; a memory is `m`.
+const ROOTS = module(
+  TYPE, '03 05 04 00 00 00 00', '04 04 01 70 00 01', '05 03 01 00 01', '07 05 01 01 6D 02 00', '08 01 00', '09 0B 02 00 41 00 0B 01 02 03 00 01 03',
+  '0A 10 04 05 00 10 01 01 0B 02 00 0B 02 00 0B 02 00 0B',
+);
+const NOTHING = { kept: 0, dropped: 0 };
+const KINDS_BUT_FUNCTIONS = { tables: NOTHING, memories: NOTHING, tags: NOTHING, globals: NOTHING, elements: NOTHING, data: NOTHING };
+const REPORT = { functions: { kept: 1, dropped: 1 }, ...KINDS_BUT_FUNCTIONS, bytes: { read: 36, written: 72, dropped: 3, debug: 0 } };
 
 // A number in LEB128, in as few bytes as it has.
 const number = (value) => (value < 128 ? [value] : [(value & 127) | 128, ...number(value >>> 7)]);
@@ -63,10 +77,10 @@ function listedInMore() {
   return Uint8Array.from([...module(TYPE), ...functions, ...table, ...segment, ...bodies(...all.map(() => []))]);
 }
 
-// 500 functions, each of which calls the next; the first is exported.
-function chained() {
-  const calls = [...Array(499).keys()].map((at) => [16, ...number(at + 1)]);
-  return Uint8Array.from([...module(TYPE), ...section(3, [...number(500), ...Array(500).fill(0)]), ...section(7, [1, 1, 97, 0, 0]), ...bodies(...calls, [])]);
+// So many functions, each of which calls the next; the first is exported.
+function chained(count) {
+  const calls = [...Array(count - 1).keys()].map((at) => [16, ...number(at + 1)]);
+  return Uint8Array.from([...module(TYPE), ...section(3, [...number(count), ...Array(count).fill(0)]), ...section(7, [1, 1, 97, 0, 0]), ...bodies(...calls, [])]);
 }
 
 // One of a custom section of so many bytes.
@@ -100,12 +114,18 @@ function faults() {
 // A library whose calls `gc` and `diagnose` answer nothing but this status.
 function answering(status) {
   const name = (text) => [text.length, ...new TextEncoder().encode(text)];
-  const shown = [['memory', 2, 0], ['mulkavesh_version', 0, 0], ['room', 0, 1], ['give_back', 0, 2], ['mulkavesh_gc', 0, 3], ['mulkavesh_diagnose', 0, 3]];
+  const shown = [['memory', 2, 0], ['mulkavesh_version', 0, 0], ['room', 0, 1], ['give_back', 0, 2], ['mulkavesh_gc', 0, 3], ['mulkavesh_diagnose', 0, 4]];
   const constant = (low, high) => [4 + (high === undefined ? 0 : 1), 0, 0x41, low, ...(high === undefined ? [] : [high]), 11];
+  // Numbers of 32 bits, and lengths.
+  const [number_, length] = [0x7F, 0x7E], type = (taken, given) => [0x60, taken.length, ...taken, given.length, ...given];
+  const lent = [number_, length], room = [number_, length, number_];
+  const types = [
+    type([], [number_]), type([number_], [number_]), type([number_], []), type([...lent, number_, ...lent, ...room], [number_]), type([...lent, number_, ...room], [number_]),
+  ];
   return Uint8Array.from([
-    ...module(), ...section(1, [4, 0x60, 0, 1, 0x7F, 0x60, 1, 0x7F, 1, 0x7F, 0x60, 1, 0x7F, 0, 0x60, 6, 0x7F, 0x7E, 0x7F, 0x7F, 0x7E, 0x7F, 1, 0x7F]),
-    ...section(3, [4, 0, 1, 2, 3]), ...section(5, [1, 0, 1]), ...section(7, [6, ...shown.flatMap(([text, kind, index]) => [...name(text), kind, index])]),
-    ...section(10, [4, ...constant(0x80, 2), ...constant(16), 2, 0, 11, ...constant(status)]),
+    ...module(), ...section(1, [5, ...types.flat()]), ...section(3, [5, 0, 1, 2, 3, 4]), ...section(5, [1, 0, 1]),
+    ...section(7, [6, ...shown.flatMap(([text, kind, index]) => [...name(text), kind, index])]),
+    ...section(10, [5, ...constant(0x80, 2), ...constant(16), 2, 0, 11, ...constant(status), ...constant(status)]),
   ]);
 }
 
@@ -227,7 +247,7 @@ async function leavesNoMore([made, kind, call]) {
     const now = await memoryLeft();
     assert.ok(now <= left, `${now} bytes behind a large call, ${left} behind a small one`);
   }
-  assert.equal(library.report(TWO), REPORT);
+  assert.deepEqual(library.report(TWO), REPORT);
   assert.equal(kept.length, 4);
 }
 
@@ -236,7 +256,45 @@ const TRIES = {
   'gc with producers': () => equals(gc(TWO), hex(HEADER, ...ONE_SECTIONS, PRODUCERS)),
   'gc with names': () => equals(gc(TWO_NAMED, { names: true, producers: false }), ONE_NAMED),
   'gc without names': () => equals(gc(TWO_NAMED, { names: false, producers: false }), ONE),
-  report: () => assert.equal(report(TWO), REPORT),
+  'gc of chosen exports': () => {
+    const wanted = [
+      [{ keep: 'a' }, CHOSEN_A], [{ keep: 'b' }, CHOSEN_B], [{ keep: ['b', '\\*'] }, CHOSEN_NOT_A], [{ keep: '\\*' }, CHOSEN_STAR], [{ drop: 'a' }, CHOSEN_NOT_A],
+      [{ drop: ['a', '\\*'] }, CHOSEN_B], [{ keep: '*', drop: 'a' }, CHOSEN_NOT_A], [{ keep: ['a', 'b'], drop: ['b'] }, CHOSEN_A], [{ drop: '*' }, module()],
+      [{ keep: hex('61') }, CHOSEN_A], [{ keep: 'a*' }, CHOSEN_A], [{ keep: [], drop: '*' }, module()],
+    ];
+    wanted.forEach(([roots, smaller]) => equals(gc(CHOSEN, { ...roots, ...alone }), smaller));
+    equals(gc(CHOSEN, { keep: [], drop: [], ...alone }), gc(CHOSEN, alone));
+  },
+  'what is left of other exports': () => {
+    const roots = { keep: 'b' };
+    assert.deepEqual(report(CHOSEN, { ...roots, ...alone }), { ...REPORT, bytes: { read: 44, written: 31, dropped: 3, debug: 0 } });
+    assert.deepEqual(list(CHOSEN, roots), [{ index: 1, size: 2, name: null }]);
+    assert.deepEqual(dropped(CHOSEN, roots), [{ index: 0, size: 3, name: null }]);
+    assert.deepEqual(exports(CHOSEN, roots), [{ kind: 'function', index: 1, name: 'b' }]);
+    assert.deepEqual(imports(IMPORTS, { drop: '*' }), []);
+    assert.deepEqual(why(CHOSEN, 1, roots).chain, [{ kind: 'function', index: 1, name: null, exports: ['b'], size: 2 }]);
+    assert.equal(why(CHOSEN, 0, roots).root, null);
+    assert.deepEqual(callers(CALLS, 1, { drop: '*' }), []);
+  },
+  'a NAME that fits no export': () => {
+    const bytes = hex('63'), wanted = [
+      [{ keep: 'c' }, 'c'], [{ keep: ['a', 'c', 'd'] }, 'c'], [{ keep: 'a', drop: ['b', 'a*c'] }, 'a*c'], [{ drop: ['*', 'ab'] }, 'ab'], [{ keep: ['*', bytes] }, bytes],
+      [{ drop: '' }, ''],
+    ];
+    for (const call of [gc, report, list, dropped, exports, imports, (it, roots) => why(it, 0, roots), (it, roots) => callers(it, 0, roots)]) {
+      for (const [roots, unfit] of wanted) {
+        const error = errorOf(() => call(CHOSEN, roots));
+        assert.deepEqual([error?.constructor, error?.code, error?.unfit], [NotFound, 'NOT_FOUND', unfit]);
+        assert.equal(error.message, `no export fits ${JSON.stringify(unfit === bytes ? 'c' : unfit)}`);
+      }
+    }
+  },
+  report: () => {
+    assert.deepEqual(report(TWO), REPORT);
+    assert.deepEqual(report(TWO, alone).bytes, { read: 36, written: 31, dropped: 3, debug: 0 });
+    const { bytes } = report(Uint8Array.from([...TWO, ...INFO_SECTION, ...LINE_SECTION]), alone);
+    assert.deepEqual(bytes, { read: 36 + INFO_SECTION.length + LINE_SECTION.length, written: 31, dropped: 3, debug: INFO_SECTION.length + LINE_SECTION.length });
+  },
   diagnose: () => {
     assert.equal(diagnose(TWO), null);
     assert.equal(diagnose(LEGACY, { legacy: false }).index, 0);
@@ -244,8 +302,8 @@ const TRIES = {
     assert.ok(faults().length > 13);
   },
   'a refusal has the fault': () => faults().filter(({ fault }) => fault !== null).forEach(({ options, fault, bytes }) => {
-    refusesFor(fault, () => gc(bytes, options), () => report(bytes, options), () => list(bytes, options));
-    if (options.legacy) refusesFor(fault, () => why(bytes, 0), () => snip(bytes, 'a'), () => stub(bytes, 'env'));
+    [gc, report, list, dropped, exports, imports].forEach((call) => refusesFor(fault, () => call(bytes, options), () => call(bytes, { keep: 'a', ...options })));
+    [why, callers, snip, stub].forEach((call) => refusesFor(fault, () => call(bytes, 'a', options)));
   }),
   'a refusal of the framing has the fault': () => faults().filter(({ fault }) => fault !== null).forEach(({ fault, bytes }) => {
     if (fault.kind === 'header') refusesFor(fault, () => sections(bytes), () => strip(bytes, []));
@@ -269,6 +327,22 @@ const TRIES = {
   list: () => assert.deepEqual(list(TWO), [{ index: 1, size: 2, name: null }]),
   'list with a name': () => assert.deepEqual(list(TWO_NAMED), [{ index: 1, size: 2, name: 'é' }]),
   'list with more room': () => assert.deepEqual(list(listedInMore()), [...Array(120).keys()].map((index) => ({ index, size: 2, name: null }))),
+  dropped: () => {
+    assert.deepEqual(dropped(TWO), [{ index: 0, size: 3, name: null }]);
+    assert.deepEqual(dropped(TWO_NAMED), [{ index: 0, size: 3, name: 'g' }]);
+    assert.deepEqual(dropped(CALLS), []);
+  },
+  exports: () => {
+    assert.deepEqual(exports(CHOSEN), ['a', 'b', '*'].map((name, at) => ({ kind: 'function', index: Math.min(at, 1), name })));
+    const names = '07 15 05 01 66 00 00 01 74 01 00 01 6D 02 00 01 67 03 00 01 65 04 00', all = ['function', 'table', 'memory', 'global', 'tag'];
+    const told = exports(module(TYPE, '03 02 01 00', '04 04 01 70 00 00', '05 03 01 00 00', '0D 03 01 00 00', '06 06 01 7F 00 41 00 0B', names, '0A 04 01 02 00 0B'));
+    assert.deepEqual(told, all.map((kind, at) => ({ kind, index: 0, name: 'ftmge'[at] })));
+    assert.deepEqual(exports(module()), []);
+  },
+  imports: () => {
+    assert.deepEqual(imports(IMPORTS), [{ kind: 'function', index: 0, module: 'env', name: 'f' }, { kind: 'function', index: 2, module: 'm', name: 'h' }]);
+    assert.deepEqual(imports(module('02 09 01 02 C3 A9 01 6D 02 00 00', '07 05 01 01 6D 02 00')), [{ kind: 'memory', index: 0, module: 'é', name: 'm' }]);
+  },
   sections: () => {
     const told = (id, kind, start, size, entries) => ({ id, kind, name: null, start, size, entries });
     const wanted = [told(1, 'type', 8, 6, 1), told(3, 'function', 14, 5, 2), told(7, 'export', 19, 7, 1), told(10, 'code', 26, 10, 2)];
@@ -328,35 +402,94 @@ const TRIES = {
     equals(strip(BROKEN, '.debug*'), module(CODE, FUNCTIONS, STAR, NAMES));
     assert.deepEqual(sections(BROKEN).sections.map(({ id }) => id), [0, 10, 3, 0, 0, 0]);
   },
-  why: () => assert.equal(why(CALLS, 1), 'function 0\nfunction 1\n'),
-  'why not': () => assert.equal(why(TWO, 0), "function 0 isn't reached\n"),
-  'why with more room': () => assert.equal(why(chained(), 499), [...Array(500).keys()].map((at) => `function ${at}\n`).join('')),
-  snip: () => equals(snip(CALLS, 'a'), SNIPPED),
-  stub: () => equals(stub(IMPORTS, 'env'), STUBBED),
+  why: () => {
+    const [first, second] = [{ kind: 'function', index: 0, name: null, exports: ['a'], size: 4 }, { kind: 'function', index: 1, name: null, exports: [], size: 3 }];
+    const wanted = { item: { kind: 'function', index: 1 }, root: 'exported', chain: [first, second], alone: { functions: 1, bytes: 3 } };
+    [1, '1', hex('31')].forEach((it) => assert.deepEqual(why(CALLS, it), wanted));
+    const outer = { item: { kind: 'function', index: 0 }, root: 'exported', chain: [first], alone: { functions: 2, bytes: 7 } };
+    [0, '0', 'a', hex('61')].forEach((it) => assert.deepEqual(why(CALLS, it), outer));
+  },
+  'why by a name': () => {
+    const [{ name, index, size }] = why(TWO_NAMED, 'é').chain;
+    assert.deepEqual({ name, index, size }, { name: 'é', index: 1, size: 2 });
+    assert.deepEqual(why(TWO_NAMED, 'g'), { item: { kind: 'function', index: 0 }, root: null, chain: [], alone: null });
+  },
+  'why not': () => assert.deepEqual(why(TWO, 0), { item: { kind: 'function', index: 0 }, root: null, chain: [], alone: null }),
+  'why, of several roots': () => {
+    const told = (it) => {
+      const { root, chain } = why(ROOTS, it);
+      return [root, ...chain.map(({ kind, index }) => `${kind} ${index}`)];
+    };
+    assert.deepEqual([0, 1, 2, 3].map(told), [
+      ['start', 'function 0'], ['start', 'function 0', 'function 1'], ['active', 'element 0', 'function 2'], ['declared', 'element 1', 'function 3'],
+    ]);
+    const memory = { kind: 'memory', index: 0, name: null, exports: ['m'], size: null };
+    assert.deepEqual(why(ROOTS, 'm'), { item: { kind: 'memory', index: 0 }, root: 'exported', chain: [memory], alone: null });
+    assert.deepEqual(why(IMPORTS, 0).alone, null);
+    assert.equal(why(IMPORTS, 0).chain.at(-1).size, null);
+  },
+  'why with more room': () => {
+    const { chain, alone: left } = why(chained(5000), 4999);
+    assert.deepEqual(chain.map(({ index }) => index), [...Array(5000).keys()]);
+    assert.deepEqual(left.functions, 1);
+    assert.deepEqual(why(chained(5000), 0).alone.functions, 5000);
+  },
+  callers: () => {
+    assert.deepEqual(callers(CALLS, 1), [{ kind: 'function', index: 0, name: null, exports: ['a'], size: 4 }]);
+    [[CALLS, 0], [CALLS, 'a'], [TWO, 0]].forEach(([it, which]) => assert.deepEqual(callers(it, which), []));
+    assert.deepEqual(callers(ROOTS, 2), [{ kind: 'element', index: 0, name: null, exports: [], size: null }]);
+  },
+  snip: () => {
+    [0, '0', 'a', ['a', 0], '*', ['a*']].forEach((those) => equals(snip(CALLS, those), SNIPPED));
+    equals(snip(CALLS, 1, alone), module(TYPE, '03 03 02 00 00', '07 05 01 01 61 00 00', '0A 0A 02 04 00 10 01 0B 03 00 00 0B'));
+    equals(snip(TWO_NAMED, 'é', { names: false, producers: false }), module(TYPE, '03 02 01 00', '07 05 01 01 66 00 00', '0A 05 01 03 00 00 0B'));
+    equals(snip(CALLS, [], alone), gc(CALLS, alone));
+  },
+  stub: () => {
+    [['env'], ['e*'], ['env', { imports: 'f' }], ['*', { imports: ['f', 'g'] }], [['env', 'x']]].forEach(([from, options]) => equals(stub(IMPORTS, from, options), STUBBED));
+    equals(stub(IMPORTS, 'env', { imports: 'g' }), gc(IMPORTS));
+    equals(stub(IMPORTS, 'env', alone), STUBBED.subarray(0, -hex(PRODUCERS).length));
+  },
   version: () => assert.equal(version(), '0.1.0'),
   'an ArrayBuffer and another view': () => {
     equals(gc(TWO.buffer, alone), ONE);
     equals(gc(new DataView(Uint8Array.from([1, 2, ...TWO, 3]).buffer, 2, TWO.length), alone), ONE);
   },
   invalid: () => {
-    [gc, report, list, sections, (it) => strip(it, 'a'), (it) => why(it, 0), (it) => snip(it, 'a'), (it) => stub(it, 'a')].forEach((call) => {
+    const named = [strip, why, callers, snip, stub].map((call) => (it) => call(it, 'a'));
+    [gc, report, list, dropped, exports, imports, sections, ...named].forEach((call) => {
       refuses(InvalidModule, 'INVALID', () => call(new Uint8Array()));
       if (call !== sections) refuses(InvalidModule, 'INVALID', () => call(TWO.subarray(0, TWO.length - 1)));
     });
   },
   'legacy exceptions are invalid': () => {
     assert.ok(gc(LEGACY).length > 0);
-    [gc, report, list].forEach((call) => refuses(InvalidModule, 'INVALID', () => call(LEGACY, { legacy: false })));
+    const named = [why, callers, snip].map((call) => (it, options) => call(it, 'f', options));
+    for (const call of [gc, report, list, dropped, exports, imports, ...named]) {
+      refuses(InvalidModule, 'INVALID', () => call(LEGACY, { legacy: false }));
+      call(LEGACY, { legacy: true });
+    }
   },
   'not found': () => {
-    const calls = [() => strip(SECTIONS, 'c'), () => why(TWO, 2), () => snip(CALLS, 'b'), () => stub(IMPORTS, hex('FF'))];
-    calls.forEach((call) => refuses(NotFound, 'NOT_FOUND', call));
+    const calls = [
+      () => strip(SECTIONS, 'c'), () => why(TWO, 2), () => why(TWO, 'g'), () => why(TWO, hex('FF')), () => why(CHOSEN, 'c', { keep: ['a', 'b'] }), () => callers(TWO, 'f*'),
+      () => snip(CALLS, 'b'), () => snip(CALLS, ['a', 2]), () => snip(CALLS, 'b*'), () => snip(IMPORTS, 0), () => stub(IMPORTS, hex('FF')), () => stub(IMPORTS, 'x'),
+      () => stub(IMPORTS, []), () => stub(IMPORTS, 'env', { imports: 'h' }),
+    ];
+    for (const call of calls) {
+      refuses(NotFound, 'NOT_FOUND', call);
+      assert.equal(errorOf(call).unfit, null);
+    }
   },
   'wrong arguments': () => {
-    const calls = [() => gc('text'), () => gc(TWO, { name: false }), () => gc(TWO, { names: 0 }), () => snip(CALLS, 3), () => sections('text')];
+    const calls = [
+      () => gc('text'), () => gc(TWO, { name: false }), () => gc(TWO, { names: 0 }), () => gc(TWO, { keep: 3 }), () => gc(TWO, { drop: [null] }), () => gc(TWO, { keep: '\uD800' }),
+      () => diagnose(TWO, { keep: 'f' }), () => why(TWO), () => why(TWO, ['f']), () => why(TWO, 'f', { imports: [] }), () => callers(TWO, {}), () => snip(CALLS, { a: 1 }),
+      () => snip(CALLS, 'a', { keep: 'a' }), () => stub(IMPORTS, 3), () => stub(IMPORTS, 'env', { imports: 3 }), () => stub(IMPORTS, 'env', { keep: 'a' }), () => sections('text'),
+    ];
     const names = ['\uD800', 3, undefined, ['a', 3]].flatMap((it) => [() => strip(SECTIONS, it), () => strip(SECTIONS, 'a', { keep: it ?? null })]);
     [...calls, ...names, () => strip(SECTIONS, 'a', { names: false })].forEach((call) => assert.throws(call, TypeError));
-    [-1, 0.5, 2 ** 32, '1'].forEach((index) => assert.throws(() => why(TWO, index), RangeError));
+    [why, callers, snip].forEach((call) => [-1, 0.5, 2 ** 32].forEach((index) => assert.throws(() => call(TWO, index), RangeError)));
   },
   'the statuses that only huge modules come to': async () => {
     const wanted = [
@@ -379,7 +512,7 @@ const TRIES = {
     const other = await load(snip(wasm, 'mulkavesh_gc'));
     for (let times = 0; times < 3; times++) {
       refuses(Trapped, 'TRAPPED', () => other.gc(TWO));
-      assert.equal(other.report(TWO), REPORT);
+      assert.deepEqual(other.report(TWO), REPORT);
     }
   },
   'memory runs out': async () => {
