@@ -6,6 +6,7 @@
 It is what tests/program.sh runs, with the library of the environment's MULKAVESH_LIB. A function below whose name begins with `try_` is one part. It
 calls `same` for each comparison, which counts it and prints a line where it fails.
 """
+import collections
 import itertools
 import json
 import os
@@ -167,12 +168,44 @@ def try_gc_and_report(work):
         for flags in itertools.chain.from_iterable(itertools.combinations(FLAGS, count) for count in (0, 1, 3)):
             wanted = run(*flags, data=data, program=WALRUS_GC)
             same(f"gc {flags} of {title}", run("gc", "--quiet", *flags, data=data)[:2], wanted[:2])
-        wanted = run("--report", data=data, program=WALRUS_GC)
-        same(f"report of {title}", run("report", data=data)[:2], wanted[:2])
+        wanted, found = run("--report", data=data, program=WALRUS_GC), run("report", data=data)
+        same(f"the counts of report of {title}", (found[0], b"".join(found[1].splitlines(True)[:7])), wanted[:2])
         if wanted[0] == 0:
-            found = json.loads(run("report", "--json", data=data)[1])
-            lines = [f"{kind} kept {it['kept']} dropped {it['dropped']}\n" for kind, it in found.items()]
+            counts_, debug, bodies = json.loads(run("report", "--json", data=data)[1]), debug_bytes(data), dropped_bytes(data)
+            told, made = counts_.pop("bytes"), run("gc", "--quiet", data=data)[1]
+            lines = [f"{kind} kept {it['kept']} dropped {it['dropped']}\n" for kind, it in counts_.items()]
             same(f"report --json of {title}", "".join(lines).encode(), wanted[1])
+            bodies = told["dropped"] if bodies is None else bodies
+            same(f"the bytes of report --json of {title}", told, {"read": len(data), "written": len(made), "dropped": bodies, "debug": debug})
+            rest = len(data) - bodies - debug - len(made)
+            lines = [f"bytes read {len(data)} written {len(made)}", f"bytes of dropped functions {bodies}", f"bytes of debug information {debug}"]
+            lines += [f"bytes of the rest {abs(rest)} {'less' if rest >= 0 else 'more'}", *([f"{LONGER}"] if len(made) > len(data) else [])]
+            same(f"the bytes of report of {title}", found[1].decode().splitlines()[7:], lines)
+
+
+LONGER = "functions stand by falling size, so indices may take more bytes"
+
+
+def debug_bytes(data):
+    return sum(length for text, length in customs(data) if text.startswith(b".debug"))
+
+
+def bodies_of(data):
+    """How many bytes the body of each function has, by its index."""
+    return {it["index"]: it["size"] for _, it in parts(data) if it["kind"] == "function" and "id" not in it}
+
+
+def dropped_functions(data):
+    """The functions with a body that gc drops, by the names that the module has behind it; None where names don't tell functions apart."""
+    names, left = {index: text for text, index in named(data)}, [text for text, _ in named(run("gc", "--quiet", data=data)[1])]
+    if len(set(names.values())) < len(names) or len(set(left)) < len(left) or set(bodies_of(data)) - set(names):
+        return None
+    return [index for index in bodies_of(data) if names[index] not in left]
+
+
+def dropped_bytes(data):
+    dropped = dropped_functions(data)
+    return None if dropped is None else sum(bodies_of(data)[index] for index in dropped)
 
 
 def answer(call, *words, **more):
@@ -193,12 +226,105 @@ def try_list(work):
         try:
             listed = mulkavesh.list_functions(data)
         except mulkavesh.MulkaveshError:
-            same(f"list of {title}", run("list", data=data)[:2], (1, b""))
+            for words in ("list", "list --dropped", "list --exports", "list --imports"):
+                same(f"{words} of {title}", run(*words.split(), data=data)[:2], (1, b""))
             continue
         lines = "".join(f"{it.size} {it.index}{shown_name(it.name)}\n" for it in listed)
         same(f"list of {title}", run("list", data=data), (0, lines.encode(), ""))
         found = [(it["index"], it["size"], it["name"]) for it in json.loads(run("list", "--json", data=data)[1])]
         same(f"list --json of {title}", found, [(it.index, it.size, it.name) for it in listed])
+        total = sum(it.size for it in listed)
+        by_size = sorted(listed, key=lambda it: (-it.size, it.index))
+        shares = [f"{it.size} {it.size * 1000 // total / 10:.1f}% {it.index}{shown_name(it.name)}\n" for it in by_size]
+        shares.append(f"{total} 100.0% of {len(listed)} functions\n")
+        if total:
+            same(f"list --by size of {title}", run("list", "--by", "size", data=data), (0, "".join(shares).encode(), ""))
+            same(f"list -n 3 --by=size of {title}", run("list", "-n", "3", "--by=size", data=data)[1], "".join([*shares[:-1][:3], shares[-1]]).encode())
+        same(f"list -n2 of {title}", run("list", "-n2", data=data)[1], "".join(lines.splitlines(True)[:2]).encode())
+        found = [it["index"] for it in json.loads(run("list", "--json", "--by", "size", "-n", "4", data=data)[1])]
+        same(f"list --json --by size -n 4 of {title}", found, [it.index for it in by_size[:4]])
+        try_others_of_list(title, data)
+    same("list --by size of nothing", run("list", "--by", "size", data=functions(1))[:2], (0, b"0 100.0% of 0 functions\n"))
+
+
+EXTERNS = ("function", "table", "memory", "global", "tag")
+
+
+def exports_of(data):
+    """The name, the kind and the index of each export."""
+    for code, content, _ in sections(data):
+        count, at = read_number(content, 0) if code == 7 else (0, 0)
+        for _ in range(count):
+            text, at = read_name(content, at)
+            index, behind = read_number(content, at + 1)
+            yield text.decode(), EXTERNS[content[at]], index
+            at = behind
+
+
+def imports_of(data):
+    """The module, the name, the kind and the index of each import."""
+    before = [0] * len(EXTERNS)
+    for code, content, _ in sections(data):
+        count, at = read_number(content, 0) if code == 2 else (0, 0)
+        for _ in range(count):
+            module, at = read_name(content, at)
+            text, at = read_name(content, at)
+            kind = content[at]
+            at = behind_types(content, at + 1, kind)
+            yield module.decode(), text.decode(), EXTERNS[kind], before[kind]
+            before[kind] += 1
+
+
+def try_others_of_list(title, data):
+    """Exports, imports that stay, and functions that go."""
+    made = run("gc", "--quiet", data=data)[1]
+    rows = list(exports_of(data))
+    lines = "".join(f"{kind} {index}{shown_name(text)}\n" for text, kind, index in rows)
+    same(f"list --exports of {title}", run("list", "--exports", data=data), (0, lines.encode(), ""))
+    found = json.loads(run("list", "--exports", "--json", data=data)[1])
+    same(f"list --exports --json of {title}", found, [{"kind": kind, "index": index, "name": text} for text, kind, index in rows])
+    left = [it[:3] for it in imports_of(made)]
+    rows = [it for it in imports_of(data) if it[:3] in left]
+    lines = "".join(f"{kind} {index}{shown_name(module)}{shown_name(text)}\n" for module, text, kind, index in rows)
+    same(f"list --imports of {title}", run("list", "--imports", data=data), (0, lines.encode(), ""))
+    found = json.loads(run("list", "--imports", "--json", data=data)[1])
+    wanted = [{"kind": kind, "index": index, "module": module, "name": text} for module, text, kind, index in rows]
+    same(f"list --imports --json of {title}", found, wanted)
+    dropped = dropped_functions(data)
+    if dropped is not None:
+        names, sizes = {index: text.decode() for text, index in named(data)}, bodies_of(data)
+        lines = "".join(f"{sizes[index]} {index}{shown_name(names[index])}\n" for index in sorted(dropped))
+        same(f"list --dropped of {title}", run("list", "--dropped", data=data), (0, lines.encode(), ""))
+
+
+def try_roots(work):
+    """Exports are chosen by name: those that stay are those that are left, and nothing that they don't reach."""
+    for title, data in samples():
+        exports = [] if title in ("broken", "empty") else [text for text, _, _ in exports_of(data)]
+        if len(exports) < 2:
+            continue
+        chosen = [(exports[:1], []), (exports[:2], []), ([exports[0], "*"], []), (["*"], exports[1:2]), ([], exports[:1]), ([exports[0][:1] + "*"], []),
+                  ([], ["*"]), (["*"], [exports[-1][:2] + "*"])]
+        for keep, drop in chosen:
+            words = [word for text in keep for word in ("--keep", text)] + [f"--drop={text}" for text in drop]
+            wanted = [text for text in exports if any(is_fit(it.encode(), text.encode()) for it in keep or ["*"])
+                      and not any(is_fit(it.encode(), text.encode()) for it in drop)]
+            status, made, said = run("gc", "--quiet", *words, data=data)
+            same(f"gc {words} of {title}", (status, said, [text for text, _, _ in exports_of(made)] if status == 0 else None), (0, "", wanted))
+            same(f"gc of gc {words} of {title}", run("gc", "--quiet", data=made)[1], made)
+            found = [line.split(" ", 2)[2] for line in run("list", "--exports", *words, data=data)[1].decode().splitlines()]
+            same(f"list --exports {words} of {title}", found, [shown_name(text)[1:] for text in wanted])
+            left = run("list", *words, data=data)[1].splitlines()
+            same(f"how many functions list {words} of {title} has", len(left), sum(1 for _ in body_sizes(made)))
+            told = run("report", *words, data=data)[1].decode().splitlines()
+            same(f"what report {words} of {title} says is written", told[7], f"bytes read {len(data)} written {len(made)}")
+        for words in (["--keep", "no such export"], ["--keep", exports[0], "--drop", "no such export"], ["--drop=no such export", "--keep=nor this"]):
+            for order in (["gc"], ["report"], ["list"], ["list", "--exports"], ["why", "0"], ["gc", "--quiet"]):
+                said = run(*order, *words, data=data)
+                same(f"{order} {words} of {title}", said, (1, b"", "mulkavesh: standard input: no export fits no such export\n"))
+    data = functions(3, [("a*b", 0), ("axb", 1), ("c", 2)])
+    for words, wanted in ((("--keep", "a\\*b"), ["a*b"]), (("--keep", "a*b"), ["a*b", "axb"]), (("--drop", "a*"), ["c"]), (("--keep=c", "--keep=c"), ["c"])):
+        same(f"gc {words}", [text for text, _, _ in exports_of(run("gc", "-q", *words, data=data)[1])], wanted)
 
 
 # the standard's words for sections, by their ids
@@ -378,43 +504,147 @@ def try_parts(work):
         same(f"sections --all --json of {title}", (listed[0], listed[2], json.loads(listed[1])), (0, "", list(objects)))
 
 
-def try_snip_and_stub(work):
+TRAP = b"\0\0\x0b"
+
+
+def code_of(data):
+    """The body of each function that has one, by the name that it has alone."""
+    names = {index: text for text, index in named(data)}
+    bodies = {it["index"]: data[it["start"] : it["start"] + it["size"]] for _, it in parts(data) if it["kind"] == "function" and "id" not in it}
+    texts = collections.Counter(names.values())
+    return {names[index]: code for index, code in bodies.items() if index in names and texts[names[index]] == 1}
+
+
+def try_snip(work):
+    """Each function that is meant traps, under its name, whoever calls it."""
     for title, data in samples():
-        names = [text.decode() for text, _ in exported(data)] if title not in ("broken", "empty") else []
-        for text in [*names[:40], "no such export", "memory"]:
-            same(f"snip {text} of {title}", run("snip", "--", text, data=data)[:2], answer(mulkavesh.snip, data, text))
-        for text in ("env", "wasi_snapshot_preview1", "no such module"):
-            same(f"stub {text} of {title}", run("stub", text, data=data)[:2], answer(mulkavesh.stub, data, text))
+        if title in ("broken", "empty"):
+            same(f"snip of {title}", run("snip", "--function", "0", data=data)[:2], (1, b""))
+            continue
+        own, before = code_of(data), imported_functions(data)
+        first = [text.decode() for text in list(own)[:6] if text.isascii() and b"*" not in text and not text.isdigit()]
+        for words in (*([text] for text in first), first[:3], *([f"{text[:2]}*"] for text in first[:2])):
+            if not words:
+                continue
+            order = [word for text in words for word in ("--function", text)]
+            status, made, said = run("snip", "--quiet", *order, data=data)
+            same(f"snip {order} of {title}", (status, said), (0, ""))
+            hit = [text for text in own if any(is_fit(it.encode(), text) for it in words)]
+            found = code_of(made)
+            same(f"what traps behind snip {order} of {title}", [found[text] for text in hit if text in found], [TRAP for text in hit if text in found])
+            same(f"whether others trap behind snip {order} of {title}", [text for text in found if found[text] == TRAP and text not in hit and own[text] != TRAP], [])
+        for words, line in ((["--function", "no such function"], "there is no such function"), (["--function", "no*such"], "there is no such function")):
+            same(f"snip {words} of {title}", run("snip", *words, data=data), (1, b"", f"mulkavesh: standard input: {line}\n"))
+        if before:
+            said = "mulkavesh: standard input: one of the functions is imported\n"
+            same(f"snip of an imported function of {title}", run("snip", "--function", "0", data=data), (1, b"", said))
+    data = functions(3, [("run", 0), ("b", 2)], [(0, "x"), (1, "gone"), (2, "xy")])
+    for words, wanted in (("--function=x*", [TRAP, TRAP]), ("--function=b", [b"\0\x0b", TRAP]), ("--function=0 --function=1", [b"\0\x0b", TRAP])):
+        status, made, _ = run("snip", "-q", "--no-producers", *words.split(), data=data)
+        same(f"snip {words}", (status, sorted(it[-2:] if it != TRAP else it for it in code_of(made).values())), (0, sorted(it[-2:] if it != TRAP else it for it in wanted)))
+
+
+def try_stub(work):
+    """Functions that are imported from a module trap: such imports are gone, and the others stay where they are reached."""
+    for title, data in samples():
+        rows = [] if title in ("broken", "empty") else list(imports_of(data))
+        modules = list(dict.fromkeys(module for module, _, kind, _ in rows if kind == "function"))
+        for module in modules:
+            names = [text for it, text, kind, _ in rows if it == module and kind == "function"]
+            for words, gone in ((["--module", module], names), (["--module", module, "--import", names[0]], names[:1]), ([f"--module={module[:2]}*"], names)):
+                status, made, said = run("stub", "--quiet", *words, data=data)
+                left = [(it, text) for it, text, kind, _ in imports_of(made) if kind == "function"] if status == 0 else None
+                kept = [(it, text) for it, text, kind, _ in imports_of(run("gc", "-q", data=data)[1]) if kind == "function"]
+                fits = [(it, text) for it, text in kept if is_fit(words[-1].split("=")[-1].encode(), it.encode())] if "=" in words[-1] else None
+                wanted = [it for it in kept if it not in (fits if fits is not None else [(module, text) for text in gone])]
+                same(f"the imports behind stub {words} of {title}", (status, said, left), (0, "", wanted))
+        for words in (["--module", "no such module"], ["--module", "*", "--import", "no such import"]):
+            line = "mulkavesh: standard input: no function is imported so\n"
+            wanted = (1, b"", line) if title not in ("broken", "empty") else (1, b"")
+            same(f"stub {words} of {title}", run("stub", *words, data=data)[: len(wanted)], wanted)
+
+
+# A module whose functions call others: the callers, by their indices.
+CALLS = {0: [1, 2], 1: [3], 2: [3, 4], 3: [], 4: [5], 5: [], 6: [5]}
+
+
+def calling(exports, names=()):
+    """A module with functions that call as CALLS says, with these exports and names of functions."""
+    bodies = [b"\0" + b"".join(b"\x10" + number(it) for it in called) + b"\x0b" for called in CALLS.values()]
+    parts_ = [section(1, row([b"\x60\0\0"])), section(3, row([b"\0"] * len(CALLS)))]
+    parts_.append(section(7, row([name(text) + b"\0" + number(at) for text, at in exports])))
+    parts_.append(section(10, row([number(len(it)) + it for it in bodies])))
+    listed = row([number(at) + name(text) for at, text in names])
+    return module_of(*parts_, custom("name", b"\1" + number(len(listed)) + listed))
+
+
+# What is asked of that module, with its exports `run` (0) and `b` (4), and what is answered.
+ASKED = (
+    ("0", 'function 0 main, 6 bytes, exported as "run"\nit and what it alone keeps: 4 functions, 18 bytes\n'),
+    ("main", 'function 0 main, 6 bytes, exported as "run"\nit and what it alone keeps: 4 functions, 18 bytes\n'),
+    ("run", 'function 0 main, 6 bytes, exported as "run"\nit and what it alone keeps: 4 functions, 18 bytes\n'),
+    ("1", 'function 0 main, 6 bytes, exported as "run"\nfunction 1, 4 bytes\nit and what it alone keeps: 1 functions, 4 bytes\n'),
+    ("b", 'function 4 four, 4 bytes, exported as "b"\nit and what it alone keeps: 2 functions, 6 bytes\n'),
+    ("6", "function 6 six isn't reached\n"),
+    ("2 --drop b", 'function 0 main, 6 bytes, exported as "run"\nfunction 2, 6 bytes\nit and what it alone keeps: 3 functions, 12 bytes\n'),
+    ("3 --callers", "function 1, 4 bytes\nfunction 2, 6 bytes\n"),
+    ("5 --callers", 'function 4 four, 4 bytes, exported as "b"\n'),
+    ("0 --callers", ""),
+    ("1 --keep b", "function 1 isn't reached\n"),
+)
 
 
 def try_why(work):
+    data = calling([("run", 0), ("b", 4)], [(0, "main"), (4, "four"), (6, "six")])
+    for words, wanted in ASKED:
+        same(f"why {words}", run("why", *words.split(), data=data), (0, wanted.encode(), ""))
+    found = json.loads(run("why", "--json", "1", data=data)[1])
+    links = [{"kind": "function", "index": 0, "name": "main", "exports": ["run"], "size": 6}, {"kind": "function", "index": 1, "name": None, "exports": [], "size": 4}]
+    same("why --json 1", found, {"reached": True, "root": "exported", "chain": links, "alone": {"functions": 1, "bytes": 4}})
+    same("why --json 6", json.loads(run("why", "--json", "6", data=data)[1]), {"reached": False, "root": None, "chain": [], "alone": None})
+    same("why --callers --json 1", json.loads(run("why", "--callers", "--json", "1", data=data)[1]), links[:1])
     for title, data in samples():
-        for index in (0, 1, 2, 5, 100, 4294967295):
-            same(f"why {index} of {title}", run("why", str(index), data=data)[:2], answer(mulkavesh.why, data, index))
-        same(f"why 4294967296 of {title}", run("why", "4294967296", data=data)[:2], (1, b""))
         if title in ("broken", "empty"):
+            same(f"why 0 of {title}", run("why", "0", data=data)[:2], (1, b""))
             continue
-        meant = {text: index for text, index in [*reversed(list(exported(data))), *reversed(list(named(data)))] if not text.isdigit()}
-        kept = {it.index for it in mulkavesh.list_functions(data)[:40]}.union(index for _, index in list(exported(data))[:40])
-        for text, index in [it for it in meant.items() if it[1] in kept]:
-            wanted = answer(mulkavesh.why, data, index)
-            same(f"why {text} of {title}", run("why", "--", text.decode(), data=data)[:2], wanted)
+        absent = "mulkavesh: standard input: there is no such function or export\n"
+        for text in ("4294967295", "4294967296", "no such name"):
+            same(f"why {text} of {title}", run("why", text, data=data), (1, b"", absent))
+        names, made = {index: text.decode() for text, index in reversed(list(named(data)))}, run("gc", "-q", data=data)[1]
+        exports = {}
+        for text, kind, index in exports_of(data):
+            exports.setdefault((kind, index), []).append(text)
+        for text, kind, index in list(exports_of(data))[:20]:
+            if text.isdigit() or text in names.values():
+                continue
+            found = json.loads(run("why", "--json", "--", text, data=data)[1])
+            last = found["chain"][-1]
+            same(f"why --json {text} of {title}", (last["kind"], last["index"], last["exports"], found["reached"]), (kind, index, exports[kind, index], True))
+            if kind == "function":
+                same(f"the name of {text} of {title}", last["name"], names.get(index))
+        sizes = sorted(body_sizes(made))
+        for index in sorted(bodies_of(data))[:12]:
             found = json.loads(run("why", "--json", str(index), data=data)[1])
-            lines = "".join(f"{it['kind']} {it['index']}\n" for it in found["chain"])
-            same(f"why --json {index} of {title}", (found["reached"], lines.encode()), (b"isn't reached" not in wanted[1], wanted[1]))
-    same("why of what isn't reached", json.loads(run("why", "--json", "gone", data=TWO)[1]), {"reached": False, "chain": []})
+            for it in found["chain"]:
+                if it["kind"] == "function":
+                    same(f"a name in why {index} of {title}", it["name"], names.get(it["index"]))
+                    same(f"whether a size in why {index} of {title} is one", it["size"] in sizes or it["index"] not in bodies_of(data), True)
+            if found["alone"]:
+                snipped = run("snip", "-q", "--function", str(index), data=data)[1]
+                gone = len(sizes) + imported_functions(made) - len(list(body_sizes(snipped))) - imported_functions(snipped)
+                same(f"how many go with {index} of {title}", found["alone"]["functions"], gone + 1)
 
 
 def try_names(work):
     """Of a name that several have the first is meant; a name that is a number is an index; names of all kinds come through."""
     data = functions(4, [("b", 3), ("a", 2), ("3", 2)], [(1, "same"), (2, "same"), (3, "a\"\\\n\x1b[1mé")])
-    same("why of two names", run("why", "same", data=data)[1], b"function 1 isn't reached\n")
-    same("why of an export", run("why", "a", data=data)[1], b"function 2\n")
-    same("why of a number", run("why", "3", data=data)[1], b"function 3\n")
+    same("why of two names", run("why", "same", data=data)[1], b"function 1 same isn't reached\n")
+    same("why of an export", run("why", "a", data=data)[1].splitlines()[0], b'function 2 same, 2 bytes, exported as "a", "3"')
+    same("why of a number", run("why", "3", data=data)[1].splitlines()[0], 'function 3 a"\\??[1mé, 2 bytes, exported as "b"'.encode())
     data = functions(2, [("a\"\\\n\x1b[1mé", 1)], [(1, "a\"\\\n\x1b[1mé")])
     same("list of a name", run("list", data=data)[1], "2 1 a\"\\??[1mé\n".encode())
     same("list --json of a name", json.loads(run("list", "--json", data=data)[1]), [{"index": 1, "size": 2, "name": "a\"\\\n\x1b[1mé"}])
-    same("why of a name", run("why", "a\"\\\n\x1b[1mé", data=data)[1], b"function 1\n")
+    same("why of a name", run("why", "a\"\\\n\x1b[1mé", data=data)[1].splitlines()[0], 'function 1 a"\\??[1mé, 2 bytes, exported as "a"\\??[1mé"'.encode())
     data = functions(1, [("a", 0)])
     same("list without names", json.loads(run("list", "--json", data=data)[1]), [{"index": 0, "size": 2, "name": None}])
     same("list of nothing", run("list", data=functions(1))[:2], (0, b""))
@@ -449,7 +679,7 @@ def try_hidden_characters(work):
         same(f"list --json of {text!r}", found, (0, f'[{{"index":0,"size":2,"name":"{escaped}"}}]\n'.encode(), ""))
         same(f"list --json of {text!r}, read", json.loads(found[1])[0]["name"], text)
         if "\x00" not in text:
-            same(f"why {text!r}", run("why", "--", text, data=data), (0, b"function 0\n", ""))
+            same(f"why {text!r}", run("why", "--", text, data=data)[1].decode().splitlines()[:1], [f'function 0 {seen}, 2 bytes, exported as "run"'])
             folder = work / text
             folder.mkdir()
             line = f"mulkavesh: {work}/{seen}: is a directory\n"
@@ -578,59 +808,166 @@ def body_sizes(data):
 
 def try_page_list(work):
     """The page's line on the largest functions: ten at most, with the sizes that bodies have in the smaller module, and the names that IN has."""
-    line, source = page_line("./mulkavesh list "), work / "in.wasm"
+    line, source = page_line("./mulkavesh list --by size "), work / "in.wasm"
     for title, data in samples():
         status, made, _ = run("gc", "--quiet", data=data)
-        if status:
+        if status or not any(body_sizes(made)):
             continue
         source.write_bytes(data)
         status, text, said = run_line(line, work)
-        found = [row.split(" ", 2) for row in text.splitlines()]
+        *rows, total = text.splitlines()
+        found = [row.split(" ", 3) for row in rows]
         same(f"the sizes of {line} of {title}", [int(row[0]) for row in found], sorted(body_sizes(made), reverse=True)[:10])
+        same(f"the total of {line} of {title}", total, f"{sum(body_sizes(made))} 100.0% of {len(list(body_sizes(made)))} functions")
         names = dict((index, shown_name(text.decode("utf-8", "replace"))[1:]) for text, index in reversed(list(named(data))))
-        same(f"the names of {line} of {title}", [row[2] if len(row) > 2 else "" for row in found], [names.get(int(row[1]), "") for row in found])
+        same(f"the names of {line} of {title}", [row[3] if len(row) > 3 else "" for row in found], [names.get(int(row[2]), "") for row in found])
         same(f"what {line} of {title} says", (status, said), (0, ""))
+
+
+SHARED = (TOP / "tests" / "samples" / "c22-shared.wasm").read_bytes()
+# What stays of that module's functions whatever is exported: the start function, and what its table has.
+STAYING_OF_SHARED = {"__wasm_init_memory", "add", "sub", "mul", "dv"}
+
+
+def names_left(data):
+    return {text.decode() for text, _ in named(data)}
+
+
+def try_page_roots(work):
+    """The page's lines on chosen exports, over a shared library: `wasm-objdump` showed which function calls which."""
+    (work / "in.wasm").write_bytes(SHARED)
+    (work / "names").write_text("fac\nisqrt\n")
+    for begin, out, wanted in (
+        ("./mulkavesh gc --keep fac", "two.wasm", ["fac", "gcd"]), ("./mulkavesh gc --keep 's*'", "some.wasm", ["sieve"]),
+        ("./mulkavesh gc $(sed ", "out.wasm", ["fac", "isqrt"]),
+    ):
+        line = page_line(begin)
+        status, text, _ = run_line(line, work)
+        made = (work / out).read_bytes()
+        same(line, (status, text, [text for text, _, _ in exports_of(made)]), (0, "", wanted))
+        same(f"the functions that {line} leaves", names_left(made), {*wanted, *STAYING_OF_SHARED})
+
+
+def try_page_reasons(work):
+    """Its lines on what goes, on what a function costs and what goes with it, on callers and on imports, over that module."""
+    (work / "in.wasm").write_bytes(SHARED)
+    for begin, wanted in (
+        ("./mulkavesh list --dropped ", "2 1 __wasm_call_ctors\n"),
+        ("./mulkavesh list --imports ", "memory 0 env memory\ntable 0 env __indirect_function_table\nglobal 0 env __memory_base\nglobal 1 env __table_base\nfunction 0 env host_log\n"),
+        ("./mulkavesh why fib ", f'function 6 fib, {self_size("fib")} bytes, exported as "fib"\nit and what it alone keeps: 1 functions, {self_size("fib")} bytes\n'),
+        ("./mulkavesh why --callers ", f'function 6 fib, {self_size("fib")} bytes, exported as "fib"\n'),
+    ):
+        line = page_line(begin)
+        same(line, run_line(line, work), (0, wanted, ""))
+
+
+def self_size(text):
+    """How many bytes the body of the function of this name has in what gc makes of that module."""
+    return len(code_of(run("gc", "-q", data=SHARED)[1])[text.encode()])
+
+
+# What calls each function of a shared library by its name, and says which of them trap.
+CALLER = """
+const { readFileSync } = require('fs');
+const memory = new WebAssembly.Memory({ initial: 2 }), table = new WebAssembly.Table({ initial: 8, element: 'anyfunc' });
+const at = value => new WebAssembly.Global({ value: 'i32', mutable: false }, value);
+const env = { memory, __indirect_function_table: table, __memory_base: at(1024), __table_base: at(0), host_log: it => it };
+const { exports } = new WebAssembly.Instance(new WebAssembly.Module(readFileSync(process.argv[1])), { env });
+const trapped = [];
+for (const [name, call] of Object.entries(exports)) {
+  try { call(1, 1, 1); } catch (error) { if (error instanceof WebAssembly.RuntimeError) trapped.push(name); else throw error; }
+}
+console.log(trapped.join(' '));
+"""
+
+
+def try_page_snip(work):
+    """Its line on functions that trap: the output is valid, and they and no others trap."""
+    line = page_line("./mulkavesh snip ")
+    (work / "in.wasm").write_bytes(SHARED)
+    status, text, _ = run_line(line, work)
+    made, own = code_of((work / "out.wasm").read_bytes()), code_of(SHARED)
+    same(line, (status, text, {text for text, code in made.items() if code == TRAP}), (0, "", {b"dead_import_user", b"dead_plain"}))
+    same(f"the functions that {line} leaves", set(made), set(own) - {b"__wasm_call_ctors"})
+    if not shutil.which("wasm-validate") or not shutil.which("node"):
+        print("not tried: whether what snip writes is valid and traps, since there is no wasm-validate or no node")
+        return
+    same(f"whether what {line} writes is valid", subprocess.run(["wasm-validate", "--enable-all", work / "out.wasm"], check=False).returncode, 0)
+    for file, wanted in (("in.wasm", b"\n"), ("out.wasm", b"dead_import_user dead_plain\n")):
+        done = subprocess.run(["node", "-e", CALLER, work / file], capture_output=True, check=False)
+        same(f"what traps in {file} of {line}", (done.returncode, done.stdout), (0, wanted))
+
+
+def try_page_stub(work):
+    """Its line on WASI: no function is imported from there, and the output is valid; over a module of a C program, where it is there."""
+    line = page_line("./mulkavesh stub ")
+    for title, data in samples():
+        rows = [] if title in ("broken", "empty") else list(imports_of(data))
+        if not any(module == "wasi_snapshot_preview1" for module, *_ in rows):
+            continue
+        (work / "in.wasm").write_bytes(data)
+        status, text, _ = run_line(line, work)
+        made = (work / "out.wasm").read_bytes()
+        same(f"{line} of {title}", (status, text, [it for it in imports_of(made) if it[0] == "wasi_snapshot_preview1"]), (0, "", []))
+        if shutil.which("wasm-validate"):
+            same(f"whether what {line} writes of {title} is valid", subprocess.run(["wasm-validate", "--enable-all", work / "out.wasm"], check=False).returncode, 0)
 
 
 def try_faults(work):
     """Each subcommand that refuses bytes as invalid says in its line what `check` writes, under the same choice of legacy exceptions."""
-    choosing = (["gc"], ["report"], ["report", "--json"], ["list"])
+    choosing = (
+        ["gc"], ["report"], ["report", "--json"], ["list"], ["list", "--dropped"], ["list", "--exports"], ["list", "--imports"], ["gc", "--keep", "a"],
+        ["snip", "--function", "a"], ["stub", "--module", "env"], ["why", "0"], ["why", "a"], ["why", "--json", "0"], ["why", "--callers", "0"])
     framed = (["strip", "--section", "a"], ["sections"], ["sections", "--json"])
-    others = (["snip", "a"], ["stub", "env"], ["why", "0"], ["why", "a"], ["why", "--json", "0"])
     for legacy, kind, _, data, words in faults():
         flags = [] if legacy else ["--no-legacy"]
         if kind:
             said = run("check", *flags, data=data)[1].decode()
             same(f"check of {data.hex()}", said, f"{words}\n")
             unread = [["sections", "--all"]] if kind in ("header", "section") else []
-            for order in (*([*it, *flags] for it in choosing), *(others if legacy else ()), *(() if data[:8] == TWO[:8] else framed), *unread):
+            for order in (*([*it, *flags] for it in choosing), *(() if data[:8] == TWO[:8] else framed), *unread):
                 line = f"mulkavesh: standard input: the input WebAssembly is invalid: {said}"
                 same(f"{order} of {data.hex()}", run(*order, data=data), (1, b"", line))
 
 
+def note_of(data, made, report):
+    """What is said of a module that became this one, where `report` is the report on it."""
+    rows, parts_ = report.splitlines(), []
+    bodies = int(rows[8].rpartition(" ")[2])
+    for line in rows[:7]:
+        kind, _, kept, _, dropped = line.split()
+        if dropped != "0":
+            behind = f" ({bodies:,} bytes)" if kind == "functions" else ""
+            parts_.append(f"{int(dropped):,} of {int(kept) + int(dropped):,} {kind}{behind}")
+    debug = debug_bytes(data)
+    parts_ += [f"{debug:,} bytes of debug information"] if debug else []
+    rest = len(data) - len(made) - bodies - debug
+    longer = f"; {LONGER}" if len(made) > len(data) else ""
+    what = f"dropped: {', '.join(parts_) or 'nothing'}; rest: {abs(rest):,} bytes {'less' if rest >= 0 else 'more'}{longer}"
+    return f"mulkavesh: {len(data):,} bytes become {len(made):,}; {what}\n"
+
+
 def try_note(work):
+    """What gc, snip and stub say: the bytes of dropped bodies are those of the report, which is compared elsewhere."""
     for title, data in samples():
         status, made, said = run("gc", data=data)
         if status:
             continue
-        parts = []
-        for line in run("report", data=data)[1].decode().splitlines():
-            kind, _, kept, _, dropped = line.split()
-            if dropped != "0":
-                parts.append(f"{int(dropped):,} of {int(kept) + int(dropped):,} {kind}")
-        debug = sum(length for text, length in customs(data) if text.startswith(b".debug"))
-        parts += [f"{debug:,} bytes of debug information"] if debug else []
-        wanted = f"mulkavesh: {len(data):,} bytes become {len(made):,}; dropped: {', '.join(parts) or 'nothing'}\n"
-        same(f"what gc says of {title}", said, wanted)
+        same(f"what gc says of {title}", said, note_of(data, made, run("report", data=data)[1].decode()))
         same(f"what gc --quiet says of {title}", run("gc", "--quiet", data=data)[2], "")
+        for words in (["snip", "--function", "*"], ["stub", "--module", "*"]):
+            status, made, said = run(*words, data=data)
+            if status == 0:
+                same(f"how {words} of {title} begins", said.startswith(f"mulkavesh: {len(data):,} bytes become {len(made):,}; dropped: "), True)
+                same(f"what {words} --quiet of {title} says", run(*words, "--quiet", data=data), (0, made, ""))
 
 
 def try_silence(work):
-    """What is said on standard error where all was done: nothing, but for what gc says without --quiet, and for snip and stub, of which nothing is told here."""
+    """What is said on standard error where all was done: nothing, but for what gc, snip and stub say without --quiet."""
     data = functions(2, [("run", 1)], [(0, "gone"), (1, "main")], [custom("notes", b"abc")])
     for words in (
         "check", "report", "list", "why 0", "why main", "sections", "sections --all", "strip --section notes", "gc --quiet", "check --json", "report --json", "list --json", "sections --json",
-        "why --json run",
+        "why --json run", "list --dropped", "list --exports", "list --imports", "list --by size", "why --callers main", "snip -q --function main", "gc -q --keep run",
     ):
         status, _, said = run(*words.split(), data=data)
         same(f"what {words} says", (status, said), (0, ""))
