@@ -69,9 +69,6 @@ parts x y xs ys e = (cc, cc)
 pub opens_apart : (b : ℕ) (bs : List ℕ) → OpensText (b ∷ bs) → is_space b ≡ false
 opens_apart b bs opens = ⊎_elim (λ f. ap is_space (parts b 0x28 bs f.0 f.1).0) (λ f. ap is_space (parts b 0x3B bs (0x3B ∷ f.0) f.1).0) opens
 
-opens_some : OpensText [] → ⊥
-opens_some opens = ⊎_elim (λ f. absurd cc) (λ f. absurd cc) opens
-
 -- white space in front makes no difference
 text_behind : (b : ℕ) (bs : List ℕ) → is_space b ≡ true → IsText (b ∷ bs) → IsText bs
 text_behind b bs white (space, text, e, all, opens) = by_space space e all
@@ -93,13 +90,6 @@ text_at_once b bs black (space, text, e, all, opens) = by_space space e all
 
 opened_text : (bytes : List ℕ) → OpensText bytes → IsText bytes
 opened_text bytes opens = ([], bytes, refl, All-nil White, opens)
-
-no_text : IsText [] → ⊥
-no_text (space, text, e, all, opens) = by_space space e
-  where
-    by_space : (space : List ℕ) → [] ≡ space ++ text → ⊥
-    by_space [] e = opens_some (subst OpensText (sym e) opens)
-    by_space (s ∷ ss) e = absurd cc
 
 -- they are text where what is left from a place on is text
 abbrev pub TextFrom : ℕ → List ℕ → Type 0

@@ -3,7 +3,7 @@ use Rattle.std.proofs.Common.{◌≡◌, ℕ, zero, suc, ◌+◌, ◌-◌, ◌<�
 use Rattle.std.proofs.lemmas.List.{map-append}
 use Rattle.std.specs.Prelude.{Option, Some, None}
 use Rattle.wasm_forms.specs.Reading.{◌>>=◌}
-use Rattle.wasm_forms.specs.Grammar.{Block, U32, at}
+use Rattle.wasm_forms.specs.Grammar.{Block, at}
 use Rattle.wasm_forms.proofs.Bind.{some_same, bind_some, bind_at}
 use Rattle.wasm_forms.proofs.Exact.{exact}
 use Rattle.wasm_entries.specs.Record.{Segment}
@@ -20,11 +20,6 @@ block_shorter bytes content rest e =
     let u = (exact Block).takes bytes (content, rest) e in
     let count : List ℕ = u.1.1.0 in
     omega (arith, ap length u.1.0, length-append u.0 rest, ap length u.1.1.1.0, length-append count content, number_long 5 (2 ^ 32) count (length content) u.1.1.1.1)
-
-pub number_shorter : (bytes rest : List ℕ) (n : ℕ) → at U32 bytes ≡ Some (n, rest) → length rest < length bytes
-number_shorter bytes rest n e =
-    let u = (exact U32).takes bytes (n, rest) e in
-    omega (arith, ap length u.1.0, length-append u.0 rest, number_long 5 (2 ^ 32) u.0 n u.1.1)
 
 pub data_shorter : (bytes rest : List ℕ) (d : Segment) → at data_form bytes ≡ Some (d, rest) → length rest < length bytes
 unfolding data_form

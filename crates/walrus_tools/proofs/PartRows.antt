@@ -24,7 +24,7 @@ use Rattle.wasm_frames.proofs.PieceText.{piece_exact}
 use Rattle.walrus_model.proofs.LeastLengths.{number_long}
 use Rattle.walrus_tools.specs.Parts.{Part, SectionPart, brings_function, functions_imported, functions_in, segments_in, IsParted, AreParts, HasParts, FramesNothing, IsImported, HasOnePartList, ModuleHasParts, OnlyModulesHaveParts}
 use Rattle.walrus_tools.specs.PartSteps.{part_from}
-use Rattle.walrus_tools.proofs.PartText.{part_again, within_exists}
+use Rattle.walrus_tools.proofs.PartText.{id_same, part_again, within_exists}
 
 -- ---- sections by their contents, and as they stand
 
@@ -193,9 +193,6 @@ parts_end bytes functions segments so_far h = ended h.sections h.stand h.onward 
   ended [] none onward = subst (HasParts bytes) (append-nil so_far) (onward [] (none, refl))
   ended (s ∷ ss) none onward = absurd none
 
-ids_same : (i j : ℕ) (xs ys : List ℕ) → i ∷ xs ≡ j ∷ ys → i ≡ j
-ids_same i j xs ys e = cc
-
 -- what the next section gives
 pub record NextParts (bytes : List ℕ) (functions segments : ℕ) (p : Piece) (left : List Piece) (so_far : List Part) : Type 0 where
   pub now : List Part
@@ -246,7 +243,7 @@ parts_next bytes functions segments p left so_far h = next_of h.sections h.stand
         };
         within = omega (arith, size, stands.starts, whole, h.reaches);
         functions_fit = λ is.
-            let code : id_of s ≡ 10 = ids_same (id_of s) p.id (section.size ++ section.content) (stands.size ++ stands.content) (sym section.spelled ∙ stands.spelled) ∙ is in
+            let code : id_of s ≡ 10 = id_same (id_of s) p.id (section.size ++ section.content) (stands.size ++ stands.content) (sym section.spelled ∙ stands.spelled) ∙ is in
             omega (arith, size, fit, whole, few_left, no_imports s code);
         segments_fit = omega (arith, size, h.segments_fit, whole);
       }

@@ -101,7 +101,7 @@ row_ends : (place id : ℕ) (bytes size content count row : List ℕ) → bytes 
     → place + length bytes ≡ ((place + 1 + length size) + length count) + length row
 row_ends place id bytes size content count row spelled split = omega (arith, ap length spelled, length-append size content, ap length split, length-append count row)
 
-id_same : (i j : ℕ) (xs ys : List ℕ) → i ∷ xs ≡ j ∷ ys → i ≡ j
+pub id_same : (i j : ℕ) (xs ys : List ℕ) → i ∷ xs ≡ j ∷ ys → i ≡ j
 id_same i j xs ys e = cc
 
 abbrev with_segments : ℕ → List Part × ℕ → Option (List Part × (ℕ × ℕ))

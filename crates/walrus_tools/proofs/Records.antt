@@ -17,9 +17,6 @@ one_kind true false h = absurd (omega (arith, h))
 one_kind false true h = absurd (omega (arith, h))
 one_kind false false h = refl
 
-first_is : (i j : ℕ) (xs ys : List ℕ) → i ∷ xs ≡ j ∷ ys → i ≡ j
-first_is i j xs ys h = cc
-
 five_are : (k a b c d l e f g h : ℕ) (xs ys : List ℕ) → k ∷ a ∷ b ∷ c ∷ d ∷ xs ≡ l ∷ e ∷ f ∷ g ∷ h ∷ ys → (k ≡ l) × (a ≡ e) × (b ≡ f) × (c ≡ g) × (d ≡ h) × (xs ≡ ys)
 five_are k a b c d l e f g h xs ys is = (cc, cc, cc, cc, cc, cc)
 

@@ -16,9 +16,6 @@ use Rattle.walrus_tools.specs.StripSteps.{IsLeftOf, IsMet}
 use Rattle.walrus_tools.specs.declared.choice.Choice.{Choice as HeldChoice}
 use Rattle.walrus_tools.proofs.Among.{among, none_among}
 
-pub is_not : (r : Bool) (P : Type 0) → (r ≡ true) ↔ P → r ≡ false → P → ⊥
-is_not r P iff isnt h = let yes : r ≡ true = iff.1 h in absurd cc
-
 pub untrue : false ≡ true → ⊥
 untrue h = cc
 

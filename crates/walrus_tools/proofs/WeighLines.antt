@@ -1,5 +1,5 @@
 -- The lines of what is told of a module that becomes smaller, in which all stands in front of the rest.
-use Rattle.std.proofs.Common.{◌≡◌, ℕ, List, [], ◌++◌, codes, decimal, append_assoc, sym, ◌∙◌}
+use Rattle.std.proofs.Common.{◌≡◌, ℕ, List, [], ◌++◌, codes, decimal, append_assoc, sym, ap, ◌∙◌}
 use Rattle.walrus_theorem.specs.Report.{line}
 use Rattle.walrus_tools.specs.WeighText.{number_text, sizes_text}
 
@@ -27,3 +27,7 @@ number_nested text word number is =
 
 pub rest_nested : (text front end : List ℕ) (number : ℕ) → text ≡ front ++ (decimal number ++ end) → text ≡ front ++ decimal number ++ end
 rest_nested text front end number is = is ∙ sym (append_assoc front (decimal number) end)
+
+-- behind what stood there and one text stands the next one
+pub line_behind : (old front line text more : List ℕ) → text ≡ old ++ front → more ≡ text ++ line → more ≡ old ++ (front ++ line)
+line_behind old front line text more is next = next ∙ ap (λ (t : List ℕ). t ++ line) is ∙ append_assoc old front line

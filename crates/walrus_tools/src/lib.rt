@@ -3,7 +3,7 @@
 //! What each promises follows from what the library promises of its calls.
 //! A file has the name of its call: in `src/tool` tools for programs to call, in `src/examples` callers that show one thing each.
 //!
-//! Read first: `src/tool/gc.rt` (the program's own work) and `src/tool/snip.rt` (a snipper's).
+//! Read first: `src/tool/gc.rt` (the program's own work) and `src/tool/snip_functions.rt` (a snipper's).
 //! Main clause: `gc` in `src/tool/gc.rt`, with `RunsOn` (walrus): what a run makes of known bytes, or why it refuses them.
 #![tactic(auto)]
 

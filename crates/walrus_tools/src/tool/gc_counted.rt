@@ -25,7 +25,8 @@ pub fn gc_counted(
     wanted: Wanted,
     choices: &[Choice<'_>],
 ) -> Result<Smaller>
-    ensures { AnswersWeighed (KeepsChosen (choices_seen choices.now)) (RefusesChosen (choices_seen choices.now))
+    ensures { AnswersWeighed
+        (KeepsChosen (choices_seen choices.now)) (RefusesChosen (choices_seen choices.now))
         (config_wanted wanted) bytes.now result }
 {
     let config = ModuleConfig::of_choices(wanted.names, wanted.producers, wanted.legacy);

@@ -54,7 +54,8 @@ fn add_kinds(
     add_kind(alloc, text, "tags", before.tags, after.tags)?;
     add_kind(alloc, text, "globals", before.globals, after.globals)?;
     add_kind(alloc, text, "elements", before.elements, after.elements)?;
-    add_kind(alloc, text, "data", before.data_, after.data_)
+    add_kind(alloc, text, "data", before.data_, after.data_)?;
+    Ok(())
 }
 
 // ---- bytes
@@ -110,7 +111,8 @@ fn add_bytes(alloc: Global, text: &mut String, told: Weighed) -> result::Result<
     text.push_str(debug.as_str())?;
     let rest = rest_line(alloc, rest_of(told), told.written)?;
     text.push_str(rest.as_str())?;
-    text.push_str(longer(told.read, told.written))
+    text.push_str(longer(told.read, told.written))?;
+    Ok(())
 }
 
 /// How many bytes of the input are neither bodies of functions that are dropped nor debug information.

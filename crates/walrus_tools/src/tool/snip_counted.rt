@@ -25,7 +25,8 @@ pub fn snip_counted(
     wanted: Wanted,
     functions: &[Meant<'_>],
 ) -> Result<Smaller>
-    ensures { AnswersWeighed (SnipsMeant (texts functions.now)) (RefusesMeant (texts functions.now))
+    ensures { AnswersWeighed
+        (SnipsMeant (texts functions.now)) (RefusesMeant (texts functions.now))
         (config_wanted wanted) bytes.now result }
 {
     let config = ModuleConfig::of_choices(wanted.names, wanted.producers, wanted.legacy);

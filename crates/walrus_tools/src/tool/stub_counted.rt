@@ -26,8 +26,10 @@ pub fn stub_counted(
     modules: &[Choice<'_>],
     names: &[Choice<'_>],
 ) -> Result<Smaller>
-    ensures { AnswersWeighed (StubsMatching (choices_seen modules.now) (choices_seen names.now))
-        (RefusesMatching (choices_seen modules.now) (choices_seen names.now)) (config_wanted wanted) bytes.now result }
+    ensures { AnswersWeighed
+        (StubsMatching (choices_seen modules.now) (choices_seen names.now))
+        (RefusesMatching (choices_seen modules.now) (choices_seen names.now))
+        (config_wanted wanted) bytes.now result }
 {
     let config = ModuleConfig::of_choices(wanted.names, wanted.producers, wanted.legacy);
     let mut module = config.parse(alloc, bytes)?;

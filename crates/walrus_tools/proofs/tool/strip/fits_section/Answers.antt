@@ -1,5 +1,6 @@
 use Rattle.std.proofs.Common.{refl}
-use Rattle.walrus_tools.proofs.StripLemmas.{is_not, none_at_all, none_more, one_fits}
+use Rattle.walrus_tools.proofs.ChoiceLemmas.{is_not}
+use Rattle.walrus_tools.proofs.StripLemmas.{none_at_all, none_more, one_fits}
 use Rattle.walrus_tools.proofs.tool.strip.fits_section.Goals as goal
 
 pub returns-then-fits_name : goal.returns-then-fits_name

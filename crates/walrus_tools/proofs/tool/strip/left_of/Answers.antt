@@ -1,5 +1,5 @@
 use Rattle.std.proofs.Common.{inl, inr, refl}
-use Rattle.walrus_tools.proofs.StripLemmas.{is_not}
+use Rattle.walrus_tools.proofs.ChoiceLemmas.{is_not}
 use Rattle.walrus_tools.proofs.tool.strip.left_of.Goals as goal
 
 pub returns-then-section_goes : goal.returns-then-section_goes
