@@ -55,10 +55,12 @@ mod PlacedEnds
 mod PlacedOps
 mod PlacedSlots
 mod Places
+pub use Rattle.walrus.proofs.DeviceLemmas
 mod ReadBodies
 mod ReasonEnds
 pub mod Records
 mod RenameSteps
+mod RootLemmas
 mod SectionLemmas
 mod SectionsWritten
 mod SizeEnds
@@ -77,4 +79,3 @@ mod TrapBody
 mod TrapSound
 mod TrapTurn
 mod TrapWhole
-pub use Rattle.walrus.proofs.DeviceLemmas
