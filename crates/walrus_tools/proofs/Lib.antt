@@ -1,8 +1,10 @@
+mod AloneEnds
 mod Among
 pub mod AnswerLemmas
 mod BodiesRise
 mod CallBody
 mod CallSound
+mod CallersEnds
 mod ChoiceLemmas
 mod ChoiceLists
 mod Choosers
@@ -69,6 +71,7 @@ mod StubCall
 mod StubStep
 mod StubTurn
 mod TrapBody
+mod TrapReached
 mod TrapSound
 mod TrapTurn
 mod TrapWhole
