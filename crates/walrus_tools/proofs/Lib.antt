@@ -1,8 +1,10 @@
+mod AloneEnds
 mod Among
 pub mod AnswerLemmas
 mod BodiesRise
 mod CallBody
 mod CallSound
+mod CallersEnds
 mod ChoiceLemmas
 mod ChoiceLists
 mod Choosers
@@ -76,6 +78,7 @@ mod StubStep
 mod StubTurn
 mod ThoseLemmas
 mod TrapBody
+mod TrapReached
 mod TrapSound
 mod TrapTurn
 mod TrapWhole
