@@ -1,8 +1,10 @@
+mod AloneEnds
 mod Among
 pub mod AnswerLemmas
 mod BodiesRise
 mod CallBody
 mod CallSound
+mod CallersEnds
 mod ChoiceLemmas
 mod ChoiceLists
 mod Choosers
@@ -56,10 +58,12 @@ mod PlacedEnds
 mod PlacedOps
 mod PlacedSlots
 mod Places
+pub use Rattle.walrus.proofs.DeviceLemmas
 mod ReadBodies
 mod ReasonEnds
 pub mod Records
 mod RenameSteps
+mod RootLemmas
 mod SectionLemmas
 mod SectionsWritten
 mod SizeEnds
@@ -75,6 +79,7 @@ mod StubStep
 mod StubTurn
 mod ThoseLemmas
 mod TrapBody
+mod TrapReached
 mod TrapSound
 mod TrapTurn
 mod TrapWhole
