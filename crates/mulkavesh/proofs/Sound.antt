@@ -1,287 +1,256 @@
--- What the program makes of the arguments behind a subcommand they say.
-use Rattle.std.proofs.Common.{◌≡◌, ℕ, Bool, true, false, List, [], ◌∷◌, ◌++◌, map, refl, sym, ap, ap₂, ◌∙◌, subst, inl, inr, ◌⊎◌, ⊎_elim, codes, string_bytes}
-use Rattle.std.specs.Prelude.{◌↔◌, All, Contains, Option, Some, None, Result, Ok, Err, String, flat_map, if◌then◌else◌}
+-- What the program makes of the arguments behind a subcommand they say, and what it says is wrong with them is wrong.
+use Rattle.std.proofs.Common.{◌≡◌, ℕ, Bool, true, false, List, [], ◌∷◌, ◌++◌, length, map, refl, sym, ap, ap₂, ◌∙◌, subst, inl, inr, ◌⊎◌, codes, string_bytes}
+use Rattle.std.specs.Prelude.{All, Option, Some, None, Result, Ok, Err, String, flat_map, if◌then◌else◌, ⊤}
 use Rattle.std.specs.declared.alloc.Global.{Global}
 use Rattle.std.proofs.lemmas.List.{append-nil, append_assoc}
-use Rattle.std.proofs.lemmas.List.Elements.{All-append, All-nil, Contains-append_cases, Contains-append_left, Contains-append_right}
+use Rattle.std.proofs.lemmas.List.Elements.{All-append, All-cons, All-nil}
 use Rattle.mulkavesh.specs.declared.order.Flag.{Flag}
 use Rattle.mulkavesh.specs.declared.order.Flag.TheVariants.{Quiet}
 use Rattle.mulkavesh.specs.declared.order.Naming.{Naming}
-use Rattle.mulkavesh.specs.declared.order.Naming.TheVariants.{Short, Long, Section}
 use Rattle.mulkavesh.specs.declared.order.Value.{Value}
 use Rattle.mulkavesh.specs.declared.order.Work.{Work}
 use Rattle.mulkavesh.specs.declared.mistakes.Wrong.{Wrong}
-use Rattle.mulkavesh.specs.declared.mistakes.Wrong.TheVariants.{NotTaken}
+use Rattle.mulkavesh.specs.declared.mistakes.Wrong.TheVariants.{BadValue, NotTaken, NoValue, SecondInput, SecondOutput, TakesNoValue, UnknownOption}
 use Rattle.mulkavesh.specs.declared.words.Spelling.{Spelling}
 use Rattle.mulkavesh.specs.declared.words.Spelling.TheVariants as kind
 use Rattle.mulkavesh.specs.declared.words.Place.{Place}
 use Rattle.mulkavesh.specs.declared.words.Place.TheVariants as place
-use Rattle.mulkavesh.specs.Order.{Said, has_flag, has_naming, is_set, joined_front, naming_word, value_bytes}
-use Rattle.mulkavesh.specs.Steps.{Put, put_spelled, put_value, put_words, set, spelling_of, then_at, then_put, with_flag, with_plain, with_value}
-use Rattle.mulkavesh.specs.Words.{IsPlain, Piece, Word, behind_words, ending_words, flag, flag_in, naming_in, one_value, out_behind, out_equals, out_in, piece_words, plain, plain_in, quiet, section_equals, section_in, valued}
-use Rattle.mulkavesh.proofs.Spelling.{IsFlagWord, IsSpelled, spelled_is, without_front}
-use Rattle.mulkavesh.proofs.Pieces.{Adds, IsValue, IsWell, Turns, adds, held, kept_flags, turns_flag, turns_plain, turns_quiet, turns_value}
+use Rattle.mulkavesh.specs.Mistakes.{IsNamed}
+use Rattle.mulkavesh.specs.Order.{Said, has_flag, has_naming, joined_front, naming_word, value_bytes, without}
+use Rattle.mulkavesh.specs.Steps.{Put, put_spelled, put_value, put_words, set, spelling_of, then_at, then_put, with_plain, with_value}
+use Rattle.mulkavesh.specs.Words.{IsFilled, IsGood, IsPiece, IsPlain, Piece, Valued, Word, behind_words, ending_words, flag, flag_in, joined, out_of, piece_words, plain, plain_in, quiet, valued, valued_in}
+use Rattle.mulkavesh.proofs.Spelling.{IsFlagWord, IsSpelled, flag_piece, spelled_is, without_front}
+use Rattle.mulkavesh.proofs.Pieces.{Puts, Suits, Turns, adds, held, suits_flag, suits_plain, suits_value, turns_both, turns_flag, turns_none, turns_value}
+use Rattle.mulkavesh.proofs.Wrongs.{Errs, ErrsBehind, ValueRefused, behind_more, errs_ending, errs_more, here, refused_plain, refused_value}
 
 -- ---- what arguments say of an order that is begun
 
--- the flags that are asked for in n are those in o, and these
-abbrev pub Asks : (o n : Said) → List Flag → Type 0
-Asks o n fs = (f : Flag) → (is_set n f ≡ true) ↔ ((is_set o f ≡ true) ⊎ Contains fs f)
-
-pub record Reads (o : Said) (ws : List (String Global)) (n : Said) : Type 0 where
+pub record Tells (o : Said) (words : List Word) (n : Said) : Type 0 where
   pub pieces : List Piece
   pub behind : Option (List Word)
-  pub are : map string_bytes ws ≡ flat_map piece_words pieces ++ ending_words behind
-  pub plain_words : All IsPlain (flat_map plain_in pieces)
+  pub are : words ≡ flat_map piece_words pieces ++ ending_words behind
+  pub made : All IsPiece pieces
   pub known : All (λ (f : Flag). has_flag o.work f ≡ true) (flat_map flag_in pieces)
-  pub known_values : All (λ (k : Naming). has_naming o.work k ≡ true) (flat_map naming_in pieces)
-  pub work : n.work ≡ o.work
-  pub flags : Asks o n (flat_map flag_in pieces)
-  pub sections : map value_bytes n.sections ≡ map value_bytes o.sections ++ flat_map section_in pieces
-  pub output : one_value n.output ≡ one_value o.output ++ flat_map out_in pieces
-  pub holds : held n ≡ held o ++ (flat_map plain_in pieces ++ behind_words behind)
-  pub well : IsWell n
+  pub known_values : All (λ (v : Valued). (has_naming o.work v.0 ≡ true) × IsGood v) (flat_map valued_in pieces)
+  pub turns : Turns (flat_map flag_in pieces) (flat_map valued_in pieces) (flat_map plain_in pieces ++ behind_words behind) o n
 
--- behind `--`
-pub record ReadsBehind (o : Said) (ws : List (String Global)) (n : Said) : Type 0 where
-  pub work : n.work ≡ o.work
-  pub flags : (f : Flag) → is_set n f ≡ is_set o f
-  pub sections : n.sections ≡ o.sections
-  pub output : n.output ≡ o.output
-  pub holds : held n ≡ held o ++ map string_bytes ws
-  pub well : IsWell n
-
--- the value that an argument has as a whole, or behind an option in it
-abbrev pub value_in : String Global → Option Naming → Value
-value_in w joined = record { argument = w; joined = joined }
-
--- behind an option whose value is the next argument
-pub record ReadsValue (k : Naming) (o : Said) (ws : List (String Global)) (n : Said) : Type 0 where
-  pub first : String Global
-  pub rest : List (String Global)
-  pub are : ws ≡ first ∷ rest
-  pub middle : Said
-  pub put : with_value o k (value_in first None) ≡ Ok middle
-  pub reads : Reads middle rest n
-
-abbrev pub ReadsAt : Place → Said → List (String Global) → Said → Type 0
-ReadsAt place.Anywhere o ws n = Reads o ws n
-ReadsAt (place.Value k) o ws n = has_naming o.work k ≡ true → ReadsValue k o ws n
-ReadsAt place.Behind o ws n = ReadsBehind o ws n
-
-abbrev pub is_behind_value : Place → Bool
-is_behind_value (place.Value k) = true
-is_behind_value _ = false
-
--- ---- no argument more
-
-pub same_order : (o n : Said) (a p : Place) → ◌≡◌ {A = Put} (Ok (o, a)) (Ok (n, p)) → (n ≡ o) × (p ≡ a)
-same_order o n a p same = let e : ◌≡◌ {A = Said × Place} (o, a) (n, p) = cc in (sym (ap (λ (s : Said × Place). s.0) e), sym (ap (λ (s : Said × Place). s.1) e))
-
-none_more : (o : Said) → IsWell o → Reads o [] o
-none_more o well = record {
+tells_none : (o : Said) → IsFilled o → Tells o [] o
+tells_none o filled = record {
   pieces = [];
   behind = None;
   are = refl;
-  plain_words = All-nil IsPlain;
+  made = All-nil IsPiece;
   known = All-nil (λ (f : Flag). has_flag o.work f ≡ true);
-  known_values = All-nil (λ (k : Naming). has_naming o.work k ≡ true);
-  work = refl;
-  flags = kept_flags o o [] refl (λ f. refl);
-  sections = sym (append-nil (map value_bytes o.sections));
-  output = sym (append-nil (one_value o.output));
-  holds = sym (append-nil (held o));
-  well = well;
+  known_values = All-nil (λ (v : Valued). (has_naming o.work v.0 ≡ true) × IsGood v);
+  turns = turns_none o filled;
 }
 
--- ---- a piece more
-
-piece_more : (p : Piece) (o m n : Said) (all ws : List (String Global)) → map string_bytes all ≡ piece_words p ++ map string_bytes ws → Turns p o m → Reads m ws n → Reads o all n
-piece_more p o m n all ws are t r = record {
+-- with a piece in front
+tells_more : (p : Piece) (o m n : Said) (words : List Word) → Suits p o.work → Turns (flag_in p) (valued_in p) (plain_in p) o m → Tells m words n → Tells o (piece_words p ++ words) n
+tells_more p o m n words s t r = record {
   pieces = p ∷ r.pieces;
   behind = r.behind;
-  are = are ∙ ap (λ (l : List Word). piece_words p ++ l) r.are ∙ sym (append_assoc (piece_words p) (flat_map piece_words r.pieces) (ending_words r.behind));
-  plain_words = All-append IsPlain (plain_in p) _ t.plain_words r.plain_words;
-  known = All-append (λ (f : Flag). has_flag o.work f ≡ true) (flag_in p) _ t.known (subst (λ (work : Work). All (λ (f : Flag). has_flag work f ≡ true) (flat_map flag_in r.pieces)) t.work r.known);
-  known_values = All-append (λ (k : Naming). has_naming o.work k ≡ true) (naming_in p) _ t.known_values
-      (subst (λ (work : Work). All (λ (k : Naming). has_naming work k ≡ true) (flat_map naming_in r.pieces)) t.work r.known_values);
-  work = r.work ∙ t.work;
-  flags = λ f. (
-    λ h. ⊎_elim
-        (λ before. ⊎_elim (λ old. inl old) (λ now. inr (Contains-append_left (flag_in p) _ f now)) ((t.flags f).0 before))
-        (λ later. inr (Contains-append_right (flag_in p) _ f later)) ((r.flags f).0 h),
-    λ s. (r.flags f).1 (⊎_elim
-        (λ old. inl ((t.flags f).1 (inl old)))
-        (λ some. ⊎_elim (λ now. inl ((t.flags f).1 (inr now))) (λ later. inr later) (Contains-append_cases (flag_in p) _ f some)) s),
-  );
-  sections = r.sections ∙ ap (λ (l : List Word). l ++ flat_map section_in r.pieces) t.sections ∙ append_assoc (map value_bytes o.sections) (section_in p) (flat_map section_in r.pieces);
-  output = r.output ∙ ap (λ (l : List Word). l ++ flat_map out_in r.pieces) t.output ∙ append_assoc (one_value o.output) (out_in p) (flat_map out_in r.pieces);
-  holds = r.holds ∙ ap (λ (l : List Word). l ++ (flat_map plain_in r.pieces ++ behind_words r.behind)) t.holds
-      ∙ append_assoc (held o) (plain_in p) (flat_map plain_in r.pieces ++ behind_words r.behind)
-      ∙ ap (λ (l : List Word). held o ++ l) (sym (append_assoc (plain_in p) (flat_map plain_in r.pieces) (behind_words r.behind)));
-  well = r.well;
+  are = ap (λ (l : List Word). piece_words p ++ l) r.are ∙ sym (append_assoc (piece_words p) (flat_map piece_words r.pieces) (ending_words r.behind));
+  made = All-cons IsPiece p r.pieces s.made r.made;
+  known = All-append (λ (f : Flag). has_flag o.work f ≡ true) (flag_in p) _ s.known (subst (λ (work : Work). All (λ (f : Flag). has_flag work f ≡ true) (flat_map flag_in r.pieces)) t.work r.known);
+  known_values = All-append (λ (v : Valued). (has_naming o.work v.0 ≡ true) × IsGood v) (valued_in p) _ s.known_values
+      (subst (λ (work : Work). All (λ (v : Valued). (has_naming work v.0 ≡ true) × IsGood v) (flat_map valued_in r.pieces)) t.work r.known_values);
+  turns = subst (λ (l : List Word). Turns (flag_in p ++ flat_map flag_in r.pieces) (valued_in p ++ flat_map valued_in r.pieces) l o n) (sym (append_assoc (plain_in p) (flat_map plain_in r.pieces) (behind_words r.behind)))
+      (turns_both o m n (flag_in p) (flat_map flag_in r.pieces) (valued_in p) (flat_map valued_in r.pieces) (plain_in p) (flat_map plain_in r.pieces ++ behind_words r.behind) t r.turns);
 }
 
-behind_more : (o m n : Said) (w : String Global) (ws : List (String Global)) → Adds o m w → ReadsBehind m ws n → ReadsBehind o (w ∷ ws) n
-behind_more o m n w ws a r = record {
-  work = r.work ∙ a.work;
-  flags = λ f. r.flags f ∙ a.flags f;
-  sections = r.sections ∙ a.sections;
-  output = r.output ∙ a.output;
-  holds = r.holds ∙ ap (λ (l : List Word). l ++ map string_bytes ws) a.holds ∙ append_assoc (held o) (string_bytes w ∷ []) (map string_bytes ws);
-  well = r.well;
-}
-
--- ---- the argument `--`
-
-ends : (o n : Said) (w : String Global) (ws : List (String Global)) → string_bytes w ≡ codes "--" → ReadsBehind o ws n → Reads o (w ∷ ws) n
-ends o n w ws is r = record {
+tells_ending : (o n : Said) (words : List Word) → Turns [] [] words o n → Tells o (codes "--" ∷ words) n
+tells_ending o n words t = record {
   pieces = [];
-  behind = Some (map string_bytes ws);
-  are = ap (λ (b : Word). b ∷ map string_bytes ws) is;
-  plain_words = All-nil IsPlain;
+  behind = Some words;
+  are = refl;
+  made = All-nil IsPiece;
   known = All-nil (λ (f : Flag). has_flag o.work f ≡ true);
-  known_values = All-nil (λ (k : Naming). has_naming o.work k ≡ true);
-  work = r.work;
-  flags = kept_flags o n [] refl r.flags;
-  sections = ap (map value_bytes) r.sections ∙ sym (append-nil (map value_bytes o.sections));
-  output = ap one_value r.output ∙ sym (append-nil (one_value o.output));
-  holds = r.holds;
-  well = r.well;
+  known_values = All-nil (λ (v : Valued). (has_naming o.work v.0 ≡ true) × IsGood v);
+  turns = t;
 }
+
+-- ---- what they say, or what is wrong with them
+
+-- behind an option that has a value, none stands there
+abbrev pub Ends : Said → List Word → Said → Place → Type 0
+Ends o words n place.Anywhere = Tells o words n
+Ends o words n (place.Value k) = Errs o words (NoValue k)
+Ends o words n place.Behind = Tells o words n
+
+abbrev pub Answers : Said → List Word → Put → Type 0
+Answers o words (Ok s) = Ends o words s.0 s.1
+Answers o words (Err m) = Errs o words m
+
+answers_more : (p : Piece) (o m : Said) (words : List Word) (r : Put) → Suits p o.work → Turns (flag_in p) (valued_in p) (plain_in p) o m → Answers m words r → Answers o (piece_words p ++ words) r
+answers_more p o m words (Ok (n, place.Anywhere)) s t a = tells_more p o m n words s t a
+answers_more p o m words (Ok (n, place.Value k)) s t a = errs_more p (flag_in p) o m words (NoValue k) s.made t a
+answers_more p o m words (Ok (n, place.Behind)) s t a = tells_more p o m n words s t a
+answers_more p o m words (Err e) s t a = errs_more p (flag_in p) o m words e s.made t a
+
+-- behind `--`
+abbrev pub AnswersBehind : Said → List Word → Put → Type 0
+AnswersBehind o words (Ok s) = (s.1 ≡ place.Behind) × Turns [] [] words o s.0
+AnswersBehind o words (Err m) = ErrsBehind o words m
+
+behind_one : (o m : Said) (word : Word) (words : List Word) (r : Put) → Turns [] [] (word ∷ []) o m → AnswersBehind m words r → AnswersBehind o (word ∷ words) r
+behind_one o m word words (Ok s) t a = (a.0, turns_both o m s.0 [] [] [] [] (word ∷ []) words t a.1)
+behind_one o m word words (Err e) t a = behind_more o m word words e t a
+
+answers_ending : (o : Said) (words : List Word) (r : Put) → AnswersBehind o words r → Answers o (codes "--" ∷ words) r
+answers_ending o words (Ok s) a = subst (λ (p : Place). Ends o (codes "--" ∷ words) s.0 p) (sym a.0) (tells_ending o s.0 words a.1)
+answers_ending o words (Err m) e = errs_ending o words m e
+
+-- where the first of them stands
+abbrev pub AnswersAt : Place → Said → List Word → Put → Type 0
+AnswersAt place.Anywhere o words r = Answers o words r
+AnswersAt (place.Value k) o words r = has_naming o.work k ≡ true → Answers o (naming_word k ∷ words) r
+AnswersAt place.Behind o words r = AnswersBehind o words r
 
 -- ---- an option and its value
+
+-- the value that an argument has as a whole, or behind an option in it
+abbrev pub value_in : String Global → Option Naming → Value
+value_in w front = record { argument = w; joined = front }
 
 pub whole_value : (w : String Global) → value_bytes (value_in w None) ≡ string_bytes w
 whole_value w = without_front [] (string_bytes w)
 
 pub joined_value : (w : String Global) (k : Naming) (rest : Word) → string_bytes w ≡ joined_front (Some k) ++ rest → value_bytes (value_in w (Some k)) ≡ rest
-joined_value w k rest is = by k rest is
-  where
-    by : (k : Naming) (rest : Word) → string_bytes w ≡ joined_front (Some k) ++ rest → value_bytes (value_in w (Some k)) ≡ rest
-    by Short rest is = rw is (without_front (codes "-o") rest)
-    by Long rest is = rw is (without_front (codes "--output=") rest)
-    by Section rest is = rw is (without_front (codes "--section=") rest)
+joined_value w k rest is = ap (without (joined_front (Some k))) is ∙ without_front (joined_front (Some k)) rest
 
-pub valued_is : (k : Naming) (w : Word) → IsValue (valued k w) k w
-valued_is k w = record { outs = refl; sections = refl; namings = refl; flags = refl; plains = refl; gone = refl }
+-- the piece is this option and this value
+pub record IsValue (p : Piece) (k : Naming) (w : Word) : Type 0 where
+  pub made : IsPiece p
+  pub flags : flag_in p ≡ []
+  pub values : valued_in p ≡ (k, w) ∷ []
+  pub plains : plain_in p ≡ []
 
-pub short_value : (w : String Global) (byte : ℕ) (rest : Word) → string_bytes w ≡ codes "-o" ++ byte ∷ rest → IsValue (out_behind byte rest) Short (value_bytes (value_in w (Some Short)))
-short_value w byte rest is =
-    subst (λ (l : Word). IsValue (out_behind byte rest) Short l) (sym (joined_value w Short (byte ∷ rest) is)) (record { outs = refl; sections = refl; namings = refl; flags = refl; plains = refl; gone = refl })
+pub valued_is : (k : Naming) (v : Value) (w : Word) → value_bytes v ≡ w → IsValue (valued k w) k (value_bytes v)
+valued_is k v w is = record { made = tt; flags = refl; values = ap (λ (l : Word). (k, l) ∷ []) (sym is); plains = refl }
 
-pub long_value : (w : String Global) (rest : Word) → string_bytes w ≡ codes "--output=" ++ rest → IsValue (out_equals rest) Long (value_bytes (value_in w (Some Long)))
-long_value w rest is =
-    subst (λ (l : Word). IsValue (out_equals rest) Long l) (sym (joined_value w Long rest is)) (record { outs = refl; sections = refl; namings = refl; flags = refl; plains = refl; gone = refl })
+pub joined_is : (k : Naming) (v : Value) (w : Word) → value_bytes v ≡ w → IsPiece (joined k w) → IsValue (joined k w) k (value_bytes v)
+joined_is k v w is made = record { made = made; flags = refl; values = ap (λ (l : Word). (k, l) ∷ []) (sym is); plains = refl }
 
-pub section_value : (w : String Global) (rest : Word) → string_bytes w ≡ codes "--section=" ++ rest → IsValue (section_equals rest) Section (value_bytes (value_in w (Some Section)))
-section_value w rest is =
-    subst (λ (l : Word). IsValue (section_equals rest) Section l) (sym (joined_value w Section rest is)) (record { outs = refl; sections = refl; namings = refl; flags = refl; plains = refl; gone = refl })
+-- it is put
+pub value_turns : (p : Piece) (k : Naming) (o n : Said) (v : Value) → IsValue p k (value_bytes v) → Puts k o n v → Turns (flag_in p) (valued_in p) (plain_in p) o n
+value_turns p k o n v is puts =
+    subst (λ (fs : List Flag). Turns fs (valued_in p) (plain_in p) o n) (sym is.flags)
+    (subst (λ (vs : List Valued). Turns [] vs (plain_in p) o n) (sym is.values)
+    (subst (λ (ws : List Word). Turns [] ((k, value_bytes v) ∷ []) ws o n) (sym is.plains) puts.turns))
 
--- an option and a value in one argument
-pub record IsJoined (p : Piece) (k : Naming) (w : Word) (v : Value) : Type 0 where
-  pub words : piece_words p ≡ w ∷ []
-  pub value : IsValue p k (value_bytes v)
-
-pub joined_is : (w : String Global) (k : Naming) → IsSpelled (string_bytes w) (kind.Joined k) → (p : Piece) × IsJoined p k (string_bytes w) (value_in w (Some k))
-joined_is w Short (byte, more, is) = (out_behind byte more, record { words = ap (λ (l : Word). l ∷ []) (sym is); value = short_value w byte more is })
-joined_is w Long (more, is) = (out_equals more, record { words = ap (λ (l : Word). l ∷ []) (sym is); value = long_value w more is })
-joined_is w Section (more, is) = (section_equals more, record { words = ap (λ (l : Word). l ∷ []) (sym is); value = section_value w more is })
-
-value_more : (k : Naming) (o n : Said) (w : String Global) (ws : List (String Global)) → IsWell o → string_bytes w ≡ naming_word k → has_naming o.work k ≡ true → ReadsValue k o ws n → Reads o (w ∷ ws) n
-value_more k o n w ws well is has r =
-    let v : Value = value_in r.first None in
-    let words : map string_bytes (w ∷ ws) ≡ naming_word k ∷ string_bytes r.first ∷ map string_bytes r.rest = ap₂ (λ (b : Word) (l : List (String Global)). b ∷ map string_bytes l) is r.are in
-    piece_more (valued k (string_bytes r.first)) o r.middle n (w ∷ ws) r.rest words
-    (turns_value (valued k (string_bytes r.first)) k o r.middle v well (subst (λ (l : Word). IsValue (valued k (string_bytes r.first)) k l) (sym (whole_value r.first)) (valued_is k (string_bytes r.first))) has r.put)
-    r.reads
+pub value_suits : (p : Piece) (k : Naming) (w : Work) (l : Word) → IsValue p k l → has_naming w k ≡ true → IsGood (k, l) → Suits p w
+value_suits p k w l is has good = suits_value w p (k, l) is.made is.flags is.values has good
 
 -- ---- argument for argument
 
--- what was put, where something was
-then_ok : (a : Place) (m : Result Said Wrong) (ws : List (String Global)) (n : Said) (p : Place) → then_put (λ (k : Said) (q : Place). put_words k q ws) (then_at a m) ≡ Ok (n, p)
-    → (k : Said) × (m ≡ Ok k) × (put_words k a ws ≡ Ok (n, p))
-then_ok a (Ok k) ws n p same = (k, refl, same)
-then_ok a (Err e) ws n p same = absurd (cc)
+module _ (w : String Global) (ws : List (String Global)) (o : Said) (filled : IsFilled o)
+    (rest : (a : Place) (m : Said) → IsFilled m → AnswersAt a m (map string_bytes ws) (put_words m a ws)) where
+  -- what comes of the others behind this
+  abbrev then_all : Put → Put
+  then_all s = then_put (λ (k : Said) (q : Place). put_words k q ws) s
 
-module _ (w : String Global) (ws : List (String Global)) (o n : Said) (p : Place) (well : IsWell o)
-    (rest : (a : Place) (m : Said) → IsWell m → put_words m a ws ≡ Ok (n, p) → ReadsAt a m ws n) where
-  abbrev Then : Put → Type 0
-  Then s = then_put (λ (k : Said) (q : Place). put_words k q ws) s ≡ Ok (n, p)
+  abbrev words : List Word
+  words = string_bytes w ∷ map string_bytes ws
 
   -- one piece in front of the others
-  in_front : (q : Piece) (m : Said) → piece_words q ≡ string_bytes w ∷ [] → Turns q o m → put_words m place.Anywhere ws ≡ Ok (n, p) → Reads o (w ∷ ws) n
-  in_front q m words t same = piece_more q o m n (w ∷ ws) ws (ap (λ (l : List Word). l ++ map string_bytes ws) (sym words)) t (rest place.Anywhere m t.well same)
+  in_front : (p : Piece) (m : Said) → piece_words p ≡ string_bytes w ∷ [] → Suits p o.work → Turns (flag_in p) (valued_in p) (plain_in p) o m → Answers o words (put_words m place.Anywhere ws)
+  in_front p m are s t =
+      subst (λ (l : List Word). Answers o (l ++ map string_bytes ws) (put_words m place.Anywhere ws)) are
+      (answers_more p o m (map string_bytes ws) (put_words m place.Anywhere ws) s t (rest place.Anywhere m t.filled))
 
-  as_plain : IsPlain (string_bytes w) → Then (then_at place.Anywhere (with_plain o w)) → Reads o (w ∷ ws) n
-  as_plain is_plain same =
-      let t = then_ok place.Anywhere (with_plain o w) ws n p same in
-      in_front (plain (string_bytes w)) t.0 refl (turns_plain o t.0 w is_plain (adds o t.0 w well t.1)) t.2
-
-  as_flag : (f : Flag) → IsFlagWord (string_bytes w) f → Then (then_at place.Anywhere (with_flag o f w)) → Reads o (w ∷ ws) n
-  as_flag f is same = by (has_flag o.work f) refl same
+  as_plain : IsPlain (string_bytes w) → Answers o words (then_all (then_at place.Anywhere (with_plain o w)))
+  as_plain is_plain = by (with_plain o w) refl
     where
-      named : (f : Flag) → IsFlagWord (string_bytes w) f → has_flag o.work f ≡ true → put_words (set o f) place.Anywhere ws ≡ Ok (n, p) → Reads o (w ∷ ws) n
-      named f (inl is) has same = in_front (flag f) (set o f) (ap (λ (l : Word). l ∷ []) (sym is)) (turns_flag o f has well) same
-      named f (inr q) has same =
-          in_front quiet (set o Quiet) (ap (λ (l : Word). l ∷ []) (sym q.1)) (turns_quiet o (sym (ap (λ (g : Flag). has_flag o.work g) q.0) ∙ has) well)
-          (subst (λ (g : Flag). put_words (set o g) place.Anywhere ws ≡ Ok (n, p)) q.0 same)
+      by : (r : Result Said Wrong) → with_plain o w ≡ r → Answers o words (then_all (then_at place.Anywhere r))
+      by (Ok m) is = in_front (plain (string_bytes w)) m refl (suits_plain o.work (string_bytes w) is_plain) (adds o m w filled is)
+      by (Err e) is =
+          let r = refused_plain o w e filled is in
+          subst (λ (x : Wrong). Errs o words x) r.0
+          (here o words (SecondInput w) (None, map string_bytes ws, refl, (λ none. is_plain), ap length (append-nil (held o)) ∙ r.1))
 
-      by : (b : Bool) → has_flag o.work f ≡ b → Then (then_at place.Anywhere (if b then Ok (set o f) else Err (NotTaken w))) → Reads o (w ∷ ws) n
-      by true has same = named f is has same
-      by false has same = absurd (cc)
-
-  as_naming : (k : Naming) → string_bytes w ≡ naming_word k → Then (put_spelled o (kind.Naming k) w) → Reads o (w ∷ ws) n
-  as_naming k is same = by (has_naming o.work k) refl same
+  as_behind : AnswersBehind o words (then_all (then_at place.Behind (with_plain o w)))
+  as_behind = by (with_plain o w) refl
     where
-      by : (b : Bool) → has_naming o.work k ≡ b → Then (if b then Ok (o, place.Value k) else Err (NotTaken w)) → Reads o (w ∷ ws) n
-      by true has same = value_more k o n w ws well is has (rest (place.Value k) o well same has)
-      by false has same = absurd (cc)
+      by : (r : Result Said Wrong) → with_plain o w ≡ r → AnswersBehind o words (then_all (then_at place.Behind r))
+      by (Ok m) is = let t = adds o m w filled is in behind_one o m (string_bytes w) (map string_bytes ws) (put_words m place.Behind ws) t (rest place.Behind m t.filled)
+      by (Err e) is =
+          let r = refused_plain o w e filled is in
+          record { before = []; second = w; rest = map string_bytes ws; are = refl; is = r.0; full = ap length (append-nil (held o)) ∙ r.1 }
 
-  as_joined : (k : Naming) → IsSpelled (string_bytes w) (kind.Joined k) → Then (put_spelled o (kind.Joined k) w) → Reads o (w ∷ ws) n
-  as_joined k is same = by (has_naming o.work k) refl same
+  as_flag : (f : Flag) → IsFlagWord (string_bytes w) f → Answers o words (then_all (then_at place.Anywhere (if has_flag o.work f then Ok (set o f) else Err (NotTaken w))))
+  as_flag f is = by (has_flag o.work f) refl
     where
-      by : (b : Bool) → has_naming o.work k ≡ b → Then (if b then put_value o k w (Some k) else Err (NotTaken w)) → Reads o (w ∷ ws) n
-      by true has same =
-          let v : Value = value_in w (Some k) in
-          let t = then_ok place.Anywhere (with_value o k v) ws n p same in
-          let j = joined_is w k is in
-          in_front j.0 t.0 (j.1).words (turns_value j.0 k o t.0 v well (j.1).value has t.1) t.2
-      by false has same = absurd (cc)
+      named : (f : Flag) → IsFlagWord (string_bytes w) f → has_flag o.work f ≡ true → Answers o words (put_words (set o f) place.Anywhere ws)
+      named f (inl is) has = in_front (flag f) (set o f) (ap (λ (l : Word). l ∷ []) (sym is)) (suits_flag o.work (flag f) f tt refl refl has) (turns_flag o f filled)
+      named f (inr q) has =
+          subst (λ (g : Flag). Answers o words (put_words (set o g) place.Anywhere ws)) (sym q.0)
+          (in_front quiet (set o Quiet) (ap (λ (l : Word). l ∷ []) (sym q.1)) (suits_flag o.work quiet Quiet tt refl refl (sym (ap (λ (g : Flag). has_flag o.work g) q.0) ∙ has)) (turns_flag o Quiet filled))
 
-  as_spelled : (s : Spelling) → IsSpelled (string_bytes w) s → Then (put_spelled o s w) → Reads o (w ∷ ws) n
-  as_spelled (kind.Flag f) is same = as_flag f is same
-  as_spelled kind.Valued is same = absurd (cc)
-  as_spelled (kind.Naming k) is same = as_naming k is same
-  as_spelled (kind.Joined k) is same = as_joined k is same
-  as_spelled kind.Ending is same = ends o n w ws is (rest place.Behind o well same)
-  as_spelled kind.Unknown is same = absurd (cc)
-  as_spelled kind.Plain is same = as_plain is same
+      by : (b : Bool) → has_flag o.work f ≡ b → Answers o words (then_all (then_at place.Anywhere (if b then Ok (set o f) else Err (NotTaken w))))
+      by true has = named f is has
+      by false has = here o words (NotTaken w) (map string_bytes ws, refl, inl (f, flag_piece (string_bytes w) f is, has))
 
-  at_word : put_words o place.Anywhere (w ∷ ws) ≡ Ok (n, p) → Reads o (w ∷ ws) n
-  at_word same = as_spelled (spelling_of (string_bytes w)) (spelled_is (string_bytes w)) same
+  -- the option isn't one of the subcommand
+  not_taken : (k : Naming) → IsNamed k (string_bytes w) → has_naming o.work k ≡ false → Errs o words (NotTaken w)
+  not_taken k named has = here o words (NotTaken w) (map string_bytes ws, refl, inr (k, named, has))
 
-  at_value : (k : Naming) → put_words o (place.Value k) (w ∷ ws) ≡ Ok (n, p) → has_naming o.work k ≡ true → ReadsValue k o (w ∷ ws) n
-  at_value k same has =
-      let v : Value = value_in w None in
-      let t = then_ok place.Anywhere (with_value o k v) ws n p same in
-      let is = turns_value (valued k (string_bytes w)) k o t.0 v well (subst (λ (l : Word). IsValue (valued k (string_bytes w)) k l) (sym (whole_value w)) (valued_is k (string_bytes w))) has t.1 in
-      record { first = w; rest = ws; are = refl; middle = t.0; put = t.1; reads = rest place.Anywhere t.0 is.well t.2 }
+  -- a piece that is an option and its value, in front of these arguments
+  as_value : (p : Piece) (k : Naming) (v : Value) → IsValue p k (value_bytes v) → has_naming o.work k ≡ true → Answers o (piece_words p ++ map string_bytes ws) (then_all (then_at place.Anywhere (with_value o k v)))
+  as_value p k v value has = by (with_value o k v) refl
+    where
+      by : (r : Result Said Wrong) → with_value o k v ≡ r → Answers o (piece_words p ++ map string_bytes ws) (then_all (then_at place.Anywhere r))
+      by (Ok m) is =
+          let puts = turns_value o m v filled k is in
+          let t = value_turns p k o m v value puts in
+          answers_more p o m (map string_bytes ws) (put_words m place.Anywhere ws) (value_suits p k o.work (value_bytes v) value has puts.good) t (rest place.Anywhere m t.filled)
+      by (Err e) is = refused (refused_value k o v e is)
+        where
+          refused : ValueRefused k o v e → Errs o (piece_words p ++ map string_bytes ws) e
+          refused (inl r) =
+              subst (λ (x : Wrong). Errs o (piece_words p ++ map string_bytes ws) x) r.0
+              (here o (piece_words p ++ map string_bytes ws) (SecondOutput v) (p, map string_bytes ws, value.made, refl, ap (flat_map out_of) value.values ∙ r.1, r.2))
+          refused (inr r) =
+              subst (λ (x : Wrong). Errs o (piece_words p ++ map string_bytes ws) x) r.0
+              (here o (piece_words p ++ map string_bytes ws) (BadValue k v) (p, map string_bytes ws, value.made, refl, value.values, has, r.1))
 
-  at_behind : put_words o place.Behind (w ∷ ws) ≡ Ok (n, p) → ReadsBehind o (w ∷ ws) n
-  at_behind same =
-      let t = then_ok place.Behind (with_plain o w) ws n p same in
-      let a = adds o t.0 w well t.1 in
-      behind_more o t.0 n w ws a (rest place.Behind t.0 a.well t.2)
+  as_naming : (k : Naming) → string_bytes w ≡ naming_word k → Answers o words (then_all (if has_naming o.work k then Ok (o, place.Value k) else Err (NotTaken w)))
+  as_naming k is = by (has_naming o.work k) refl
+    where
+      by : (b : Bool) → has_naming o.work k ≡ b → Answers o words (then_all (if b then Ok (o, place.Value k) else Err (NotTaken w)))
+      by true has = subst (λ (l : Word). Answers o (l ∷ map string_bytes ws) (put_words o (place.Value k) ws)) (sym is) (rest (place.Value k) o filled has)
+      by false has = not_taken k (inl is) has
 
-pub sound : (ws : List (String Global)) (a : Place) (o n : Said) (p : Place) → IsWell o → put_words o a ws ≡ Ok (n, p) → is_behind_value p ≡ false → ReadsAt a o ws n
-sound [] place.Anywhere o n p well same whole = let e = same_order o n place.Anywhere p same in subst (λ (m : Said). Reads o [] m) (sym e.0) (none_more o well)
-sound [] (place.Value k) o n p well same whole =
-    let e = same_order o n (place.Value k) p same in
-    absurd (let behind : is_behind_value p ≡ true = ap is_behind_value e.1 in let untrue : true ≡ false = sym behind ∙ whole in cc)
-sound [] place.Behind o n p well same whole =
-    let e = same_order o n place.Behind p same in
-    subst (λ (m : Said). ReadsBehind o [] m) (sym e.0) (record { work = refl; flags = λ f. refl; sections = refl; output = refl; holds = sym (append-nil (held o)); well = well })
-sound (w ∷ ws) place.Anywhere o n p well same whole = at_word w ws o n p well (λ a m ok is. sound ws a m n p ok is whole) same
-sound (w ∷ ws) (place.Value k) o n p well same whole = at_value w ws o n p well (λ a m ok is. sound ws a m n p ok is whole) k same
-sound (w ∷ ws) place.Behind o n p well same whole = at_behind w ws o n p well (λ a m ok is. sound ws a m n p ok is whole) same
+  as_joined : (k : Naming) → IsSpelled (string_bytes w) (kind.Joined k) → Answers o words (then_all (if has_naming o.work k then put_value o k w (Some k) else Err (NotTaken w)))
+  as_joined k (l, is, made) = by (has_naming o.work k) refl
+    where
+      by : (b : Bool) → has_naming o.work k ≡ b → Answers o words (then_all (if b then put_value o k w (Some k) else Err (NotTaken w)))
+      by true has =
+          subst (λ (first : Word). Answers o (first ∷ map string_bytes ws) (then_all (put_value o k w (Some k)))) (sym is)
+          (as_value (joined k l) k (value_in w (Some k)) (joined_is k (value_in w (Some k)) l (joined_value w k l is) made) has)
+      by false has = not_taken k (inr (l, is)) has
+
+  as_spelled : (s : Spelling) → IsSpelled (string_bytes w) s → Answers o words (then_all (put_spelled o s w))
+  as_spelled (kind.Flag f) is = as_flag f is
+  as_spelled kind.Valued is = here o words (TakesNoValue w) (map string_bytes ws, refl, is)
+  as_spelled (kind.Naming k) is = as_naming k is
+  as_spelled (kind.Joined k) is = as_joined k is
+  as_spelled kind.Ending is =
+      subst (λ (l : Word). Answers o (l ∷ map string_bytes ws) (put_words o place.Behind ws)) (sym is)
+      (answers_ending o (map string_bytes ws) (put_words o place.Behind ws) (rest place.Behind o filled))
+  as_spelled kind.Unknown is = here o words (UnknownOption w) (map string_bytes ws, refl, is)
+  as_spelled kind.Plain is = as_plain is
+
+  at_word : Answers o words (put_words o place.Anywhere (w ∷ ws))
+  at_word = as_spelled (spelling_of (string_bytes w)) (spelled_is (string_bytes w))
+
+  at_value : (k : Naming) → has_naming o.work k ≡ true → Answers o (naming_word k ∷ words) (put_words o (place.Value k) (w ∷ ws))
+  at_value k has = as_value (valued k (string_bytes w)) k (value_in w None) (valued_is k (value_in w None) (string_bytes w) (whole_value w)) has
+
+pub answered : (ws : List (String Global)) (a : Place) (o : Said) → IsFilled o → AnswersAt a o (map string_bytes ws) (put_words o a ws)
+answered [] place.Anywhere o filled = tells_none o filled
+answered [] (place.Value k) o filled = λ has. here o (naming_word k ∷ []) (NoValue k) (refl, has)
+answered [] place.Behind o filled = (refl, turns_none o filled)
+answered (w ∷ ws) place.Anywhere o filled = at_word w ws o filled (λ a m ok. answered ws a m ok)
+answered (w ∷ ws) (place.Value k) o filled = at_value w ws o filled (λ a m ok. answered ws a m ok) k
+answered (w ∷ ws) place.Behind o filled = as_behind w ws o filled (λ a m ok. answered ws a m ok)

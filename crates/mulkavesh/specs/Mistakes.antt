@@ -51,16 +51,16 @@ IsNotTaken w word = ((f : Flag) × IsFlag f word × (has_flag w f ≡ false)) �
 abbrev pub HasValue : Word → Type 0
 HasValue word = (f : Flag) × (front : Word) × (value : Word) × IsFlag f front × (word ≡ front ++ (codes "=" ++ value))
 
--- where arguments stand behind these pieces: the first of them is wrong so
-module _ (w : Work) (pieces : List Piece) (more : List Word) where
+-- where arguments stand behind pieces that name these files to be written and have these plain arguments: the first of them is wrong so
+module _ (w : Work) (outs plains more : List Word) where
   abbrev pub WrongAt : Wrong → Type 0
   WrongAt (UnknownOption a) = (rest : List Word) × (more ≡ string_bytes a ∷ rest) × IsUnknown (string_bytes a)
   WrongAt (NotTaken a) = (rest : List Word) × (more ≡ string_bytes a ∷ rest) × IsNotTaken w (string_bytes a)
   WrongAt (TakesNoValue a) = (rest : List Word) × (more ≡ string_bytes a ∷ rest) × HasValue (string_bytes a)
   WrongAt (NoValue n) = (more ≡ naming_word n ∷ []) × (has_naming w n ≡ true)
   WrongAt (BadValue n v) = (p : Piece) × (rest : List Word) × IsPiece p × (more ≡ piece_words p ++ rest) × (valued_in p ≡ (n, value_bytes v) ∷ []) × (has_naming w n ≡ true) × (IsGood (n, value_bytes v) → ⊥)
-  WrongAt (SecondOutput v) = (p : Piece) × (rest : List Word) × IsPiece p × (more ≡ piece_words p ++ rest) × (flat_map out_of (valued_in p) ≡ value_bytes v ∷ []) × (flat_map out_of (flat_map valued_in pieces) ≢ [])
-  WrongAt (SecondInput a) = (behind : Option (List Word)) × (rest : List Word) × (more ≡ ending_words behind ++ string_bytes a ∷ rest) × (behind ≡ None → IsPlain (string_bytes a)) × (length (flat_map plain_in pieces ++ behind_words behind) ≡ room w)
+  WrongAt (SecondOutput v) = (p : Piece) × (rest : List Word) × IsPiece p × (more ≡ piece_words p ++ rest) × (flat_map out_of (valued_in p) ≡ value_bytes v ∷ []) × (outs ≢ [])
+  WrongAt (SecondInput a) = (behind : Option (List Word)) × (rest : List Word) × (more ≡ ending_words behind ++ string_bytes a ∷ rest) × (behind ≡ None → IsPlain (string_bytes a)) × (length (plains ++ behind_words behind) ≡ room w)
   WrongAt _ = ⊥
 
 -- this is missing of what the arguments say, or doesn't go together in it
@@ -74,7 +74,7 @@ IsMissing o _ = ⊥
 -- this is wrong behind the subcommand
 abbrev pub IsWrong : (w : Work) (words : List Word) → Wrong → Type 0
 IsWrong w words wrong =
-    ((pieces : List Piece) × (more : List Word) × Stands words pieces more × WrongAt w pieces more wrong)
+    ((pieces : List Piece) × (more : List Word) × Stands words pieces more × WrongAt w (flat_map out_of (flat_map valued_in pieces)) (flat_map plain_in pieces) more wrong)
     ⊎ ((o : Said) × Reads (work_word w ∷ words) o × IsMissing o wrong)
 
 -- memory ran out
