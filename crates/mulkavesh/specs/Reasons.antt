@@ -6,7 +6,7 @@ use Rattle.walrus_tools.specs.declared.links.Link.{Link}
 use Rattle.walrus_tools.specs.declared.roots.Root.{Root}
 use Rattle.walrus_tools.specs.declared.roots.Root.TheVariants.{Active, Declared, Exported, Start}
 use Rattle.walrus_tools.specs.declared.goers.Alone.{Alone}
-use Rattle.walrus_tools.specs.declared.tool.why.Reason.{Reason}
+use Rattle.walrus_tools.specs.declared.reasons.Reason.{Reason}
 use Rattle.mulkavesh.specs.Json.{separated}
 use Rattle.mulkavesh.specs.Links.{link_line, link_object, link_text}
 

@@ -2,7 +2,6 @@
 use Rattle.std.specs.Prelude.{ℕ, Bool, true, false, not, List, [], ◌++◌, Option, Some, None, Result, Ok, Err, String, codes, flat_map, is_some, string_bytes, ◌≡◌, ⊤}
 use Rattle.std.specs.Global.{Vec}
 use Rattle.std.specs.declared.alloc.Global.{Global}
-use Rattle.walrus_tools.specs.CallerAnswers.{AnswersCallers}
 use Rattle.walrus_tools.specs.Choice.{Choice}
 use Rattle.walrus_tools.specs.ChosenModule.{AnswersChosen, KeepsChosen, RefusesChosen}
 use Rattle.walrus_tools.specs.DroppedList.{AnswersDropped}
@@ -12,7 +11,7 @@ use Rattle.walrus_tools.specs.Facade.{Config, Error, Fault, InvalidWasm, Memory}
 use Rattle.walrus_tools.specs.FunctionList.{AnswersListed}
 use Rattle.walrus_tools.specs.ImportList.{AnswersImports}
 use Rattle.walrus_tools.specs.PartList.{HasParts, IsNone, Part}
-use Rattle.walrus_tools.specs.ReasonAnswers.{AnswersWhy}
+use Rattle.walrus_tools.specs.ReasonAnswers.{AnswersCallers, AnswersWhy}
 use Rattle.walrus_tools.specs.Sections.{LacksHeader, Piece, StandUpTo}
 use Rattle.walrus_tools.specs.StripAnswers.{AnswersStripped}
 use Rattle.walrus_tools.specs.StubMatching.{AnswersMatching, RefusesMatching, StubsMatching}

@@ -1,7 +1,7 @@
 //! The functions that stay, or those that go, as a text: a line or an object each.
 
-ghost use Rattle.std.specs.Prelude.{◌≡◌, ◌++◌, IfOk, OnOk};
-ghost use Rattle.mulkavesh.specs.Entries.{TellsListed, first_of, listed_line, listed_object, listed_text};
+ghost use Rattle.std.specs.Prelude.{◌≡◌, IfOk};
+ghost use Rattle.mulkavesh.specs.Entries.{TellsListed, first_of, listed_line, listed_object};
 
 use crate::numbers::add_decimal;
 use crate::order::Listing;
@@ -38,10 +38,14 @@ impl Row for Listed {
 pub(crate) fn first_of<T>(all: &[T], count: Option<u32>) -> &[T]
     ensures { result.now ≡ first_of count all.now }
 {
-    match count {
-        Some(count) => all.get(..count as usize).unwrap_or(all),
-        None => all,
+    let Some(count) = count else {
+        return all;
+    };
+    let count = count as usize;
+    if count < all.len() {
+        return &all[..count];
     }
+    all
 }
 
 /// So many of the functions as they stand, or so many of them by size, for people or for programs.

@@ -50,9 +50,9 @@ fn add_all_quoted(to: &mut Vec<u8>, names: &[String]) -> Result<(), AllocError>
 fn add_exports(to: &mut Vec<u8>, names: &[String]) -> Result<(), AllocError>
     ensures { OnOk result (to.new.items ≡ to.old.items ++ exports_text (map string_bytes names.now)) }
 {
-    if names.is_empty() {
+    let [_, ..] = names else {
         return Ok(());
-    }
+    };
     to.extend_from_slice(b", exported as ")?;
     add_all_quoted(to, names)
 }

@@ -182,8 +182,8 @@ fn add_all(to: &mut Vec<u8>, parts: &[Vec<u8>]) -> Result<(), AllocError>
 fn add_parts(to: &mut Vec<u8>, parts: &[Vec<u8>]) -> Result<(), AllocError>
     ensures { OnOk result (to.new.items ≡ to.old.items ++ parts_text (map vec_bytes parts.now)) }
 {
-    if parts.is_empty() {
+    let [_, ..] = parts else {
         return to.extend_from_slice(b"nothing");
-    }
+    };
     add_all(to, parts)
 }

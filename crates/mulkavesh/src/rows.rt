@@ -1,6 +1,6 @@
 //! A list as a text: for people a line each, for programs an array of objects.
 
-ghost use Rattle.std.specs.Prelude.{◌≡◌, ◌++◌, IfOk, List, OnOk, codes, flat_map, map, true, ℕ};
+ghost use Rattle.std.specs.Prelude.{◌≡◌, ◌++◌, IfOk, List, OnOk, false, flat_map, map, true, ℕ};
 ghost use Rattle.mulkavesh.specs.Json.{separated};
 ghost use Rattle.mulkavesh.specs.Rows.{item_members, name_json, name_text, rows_text};
 ghost use Rattle.walrus_tools.specs.Facade.{item_of};
@@ -58,19 +58,34 @@ pub(crate) fn add_objects<T: Row>(
     Ok(())
 }
 
+// A line for each.
+fn text<T: Row>(alloc: Global, rows: &[T]) -> Result<Vec<u8>, AllocError>
+    ensures { IfOk result (λ text. text.items ≡ rows_text T.line T.object false rows.now) }
+{
+    let mut text = Vec::new(alloc);
+    add_lines(alloc, &mut text, rows)?;
+    Ok(text)
+}
+
+// An array of objects.
+fn json<T: Row>(alloc: Global, rows: &[T]) -> Result<Vec<u8>, AllocError>
+    ensures { IfOk result (λ text. text.items ≡ rows_text T.line T.object true rows.now) }
+{
+    let mut text = Vec::new(alloc);
+    text.push(b'[')?;
+    add_objects(alloc, &mut text, ",\n ", rows)?;
+    text.extend_from_slice(b"]\n")?;
+    Ok(text)
+}
+
 /// The list, for people or for programs.
 pub(crate) fn told<T: Row>(alloc: Global, is_json: bool, rows: &[T]) -> Result<Vec<u8>, AllocError>
     ensures { IfOk result (λ text. text.items ≡ rows_text T.line T.object is_json rows.now) }
 {
-    let mut text = Vec::new(alloc);
     if is_json {
-        text.push(b'[')?;
-        add_objects(alloc, &mut text, ",\n ", rows)?;
-        text.extend_from_slice(b"]\n")?;
-    } else {
-        add_lines(alloc, &mut text, rows)?;
+        return json(alloc, rows);
     }
-    Ok(text)
+    text(alloc, rows)
 }
 
 // ---- what stands in them

@@ -6,4 +6,4 @@ use Rattle.mulkavesh.proofs.links.add_all_quoted.Goals as goal
 
 pub names-preserved : goal.names-preserved
 names-preserved c =
-    text_more (codes ", ") quoted string_bytes c.args.names.now c.names.place _ _ c.names-test.true c.name-item.is _ _ _ _ c.names.invariant c.in_ok-add_comma.ensures c.in_ok-add_quoted.ensures
+    text_more (codes ", ") quoted string_bytes c.args.names.now c.names.place _ _ c.names-test.true c.index-names-place.is _ _ _ _ c.names.invariant c.in_ok-add_comma.ensures c.in_ok-add_quoted.ensures

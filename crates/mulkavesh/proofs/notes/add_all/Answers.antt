@@ -5,4 +5,4 @@ use Rattle.mulkavesh.proofs.notes.add_all.Goals as goal
 
 pub parts-preserved : goal.parts-preserved
 parts-preserved c =
-    text_more vec_bytes (codes ", ") c.args.parts.now c.parts.place _ _ c.parts-test.true c.part-item.is _ _ _ _ c.parts.invariant c.in_ok-add_comma.ensures c.in_ok-extend_from_slice.ensures.items
+    text_more vec_bytes (codes ", ") c.args.parts.now c.parts.place _ _ c.parts-test.true c.index-parts-place.is _ _ _ _ c.parts.invariant c.in_ok-add_comma.ensures c.in_ok-extend_from_slice.ensures.items
