@@ -585,7 +585,7 @@ ASKED = (
     ("run", 'function 0 main, 6 bytes, exported as "run"\nit and what it alone keeps: 4 functions, 18 bytes\n'),
     ("1", 'function 0 main, 6 bytes, exported as "run"\nfunction 1, 4 bytes\nit and what it alone keeps: 1 functions, 4 bytes\n'),
     ("b", 'function 4 four, 4 bytes, exported as "b"\nit and what it alone keeps: 2 functions, 6 bytes\n'),
-    ("6", "function 6 six isn't reached\n"),
+    ("6", "function 6 isn't reached\n"),
     ("2 --drop b", 'function 0 main, 6 bytes, exported as "run"\nfunction 2, 6 bytes\nit and what it alone keeps: 3 functions, 12 bytes\n'),
     ("3 --callers", "function 1, 4 bytes\nfunction 2, 6 bytes\n"),
     ("5 --callers", 'function 4 four, 4 bytes, exported as "b"\n'),
@@ -638,7 +638,7 @@ def try_why(work):
 def try_names(work):
     """Of a name that several have the first is meant; a name that is a number is an index; names of all kinds come through."""
     data = functions(4, [("b", 3), ("a", 2), ("3", 2)], [(1, "same"), (2, "same"), (3, "a\"\\\n\x1b[1mé")])
-    same("why of two names", run("why", "same", data=data)[1], b"function 1 same isn't reached\n")
+    same("why of two names", run("why", "same", data=data)[1], b"function 1 isn't reached\n")
     same("why of an export", run("why", "a", data=data)[1].splitlines()[0], b'function 2 same, 2 bytes, exported as "a", "3"')
     same("why of a number", run("why", "3", data=data)[1].splitlines()[0], 'function 3 a"\\??[1mé, 2 bytes, exported as "b"'.encode())
     data = functions(2, [("a\"\\\n\x1b[1mé", 1)], [(1, "a\"\\\n\x1b[1mé")])
