@@ -21,6 +21,7 @@ mod FinishLemmas
 mod FoundEnds
 mod Fronts
 mod FunctionsThere
+mod GoingLists
 mod HookEnds
 mod HookSteps
 mod ImportMatches
