@@ -2,6 +2,7 @@ mod AloneEnds
 mod Among
 pub mod AnswerLemmas
 mod BodiesRise
+mod BodySearch
 mod CallBody
 mod CallSound
 mod CallersEnds
@@ -82,3 +83,4 @@ mod TrapReached
 mod TrapSound
 mod TrapTurn
 mod TrapWhole
+mod WhyEnds
