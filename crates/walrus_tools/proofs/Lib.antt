@@ -1,8 +1,11 @@
+mod AloneEnds
 mod Among
 pub mod AnswerLemmas
 mod BodiesRise
+mod BodySearch
 mod CallBody
 mod CallSound
+mod CallersEnds
 mod ChoiceLemmas
 mod ChoiceLists
 mod Choosers
@@ -56,10 +59,12 @@ mod PlacedEnds
 mod PlacedOps
 mod PlacedSlots
 mod Places
+pub use Rattle.walrus.proofs.DeviceLemmas
 mod ReadBodies
 mod ReasonEnds
 pub mod Records
 mod RenameSteps
+mod RootLemmas
 mod SectionLemmas
 mod SectionsWritten
 mod SizeEnds
@@ -75,7 +80,8 @@ mod StubStep
 mod StubTurn
 mod ThoseLemmas
 mod TrapBody
+mod TrapReached
 mod TrapSound
 mod TrapTurn
 mod TrapWhole
-pub use Rattle.walrus.proofs.DeviceLemmas
+mod WhyEnds

@@ -1,5 +1,5 @@
 -- What would go with a function of a module if its body trapped ("Structure > Instructions > Control Instructions").
-use Rattle.std.specs.Prelude.{ℕ, Bool, true, false, ◌-◌, ◌≡◌, ◌↔◌, ◌⊎◌, List, [], Option, IsTrue, filter, map, nat_eq, option_map}
+use Rattle.std.specs.Prelude.{ℕ, Bool, true, false, ◌-◌, ◌≡◌, ◌↔◌, ◌⊎◌, List, [], Option, IsTrue, filter, map, ◌==◌, option_map}
 use Rattle.std.specs.List.{sum_by}
 use Rattle.walrus_base.specs.Operators.{function_item}
 use Rattle.walrus_model.specs.Abstract.{Abstract, Function, FunctionKind, ImportedFunction, LocalFunction, Uninitialised}
@@ -28,7 +28,7 @@ handlers_if false types = types
 
 -- the module in which the function at place f traps, and which is else the same
 abbrev pub trapped_at : (f : ℕ) → Abstract → Abstract
-trapped_at f v = record v { functions = λ i. trapped_if (nat_eq i f) (v.functions i); handler_types = λ i. handlers_if (nat_eq i f) (v.handler_types i) }
+trapped_at f v = record v { functions = λ i. trapped_if (i == f) (v.functions i); handler_types = λ i. handlers_if (i == f) (v.handler_types i) }
 
 -- ---- what goes with it
 

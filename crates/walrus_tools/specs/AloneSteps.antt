@@ -1,7 +1,8 @@
 -- The steps to what would go with a function: the trap, the body put back, the functions that go, and what they cost.
-use Rattle.std.specs.Prelude.{ℕ, Bool, true, false, not, ◌&&◌, ◌||◌, ◌≡◌, List, Option, Some, None, filter, is_some, length, nat_eq, slice_set}
+use Rattle.std.specs.Prelude.{ℕ, Bool, true, false, not, ◌&&◌, ◌||◌, ◌≡◌, List, Option, Some, None, count_by, filter, is_some, ◌==◌, slice_set}
+use Rattle.std.specs.List.{range_with_len}
 use Rattle.walrus_base.specs.Arena.{item_at}
-use Rattle.walrus_base.specs.Marks.{Sets, is_marked, places_marked}
+use Rattle.walrus_base.specs.Marks.{Sets, is_marked, mark_places}
 use Rattle.walrus_base.specs.declared.keys.FunctionKey.{FunctionKey}
 use Rattle.walrus_base.specs.declared.marks.Marks.{Marks}
 use Rattle.walrus_items.specs.Functions.{FunctionValue, functions}
@@ -57,7 +58,7 @@ module _ {S : Type 0} where
 
 -- a function is there and goes with f: it is f, or isn't used
 abbrev pub goes_at : List (Option FunctionValue) → (used : ℕ → Bool) → (f i : ℕ) → Bool
-goes_at all used f i = is_some (item_at all i) && (nat_eq i f || not (used i))
+goes_at all used f i = is_some (item_at all i) && (i == f || not (used i))
 
 -- a mark is set, if so
 abbrev pub MarksIf : (so : Bool) → (place : ℕ) → (old new : Marks FunctionKey) → Type 0
@@ -80,4 +81,4 @@ size_if goes body = size_where (goes body.0) body
 
 -- as many as are marked, and the bytes of the bodies of these
 abbrev pub alone_in : Marks FunctionKey → List (ℕ × (ℕ × ℕ)) → Alone
-alone_in marks bodies = record { functions = length (places_marked marks); bytes = bytes_of (filter (λ body. is_marked marks body.0) bodies) }
+alone_in marks bodies = record { functions = count_by (is_marked marks) (range_with_len 0 (mark_places marks)); bytes = bytes_of (filter (λ body. is_marked marks body.0) bodies) }

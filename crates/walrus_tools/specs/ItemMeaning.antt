@@ -10,7 +10,7 @@ use Rattle.walrus_items.specs.Kinds.{exported}
 use Rattle.walrus_items.specs.Searches.{first}
 use Rattle.walrus_items.specs.declared.error.Error.{Error}
 use Rattle.walrus_items.specs.declared.error.Error.TheVariants.{NotFound}
-use Rattle.walrus_items.specs.declared.roots.ItemId.{ItemId}
+use Rattle.walrus_code.specs.declared.items.ItemId.{ItemId}
 use Rattle.walrus_contents.specs.declared.parts.Contents.{Contents}
 use Rattle.walrus_tools.specs.ExportNames.{named}
 use Rattle.walrus_tools.specs.FunctionMeaning.{SaysIndex, SaysNone}

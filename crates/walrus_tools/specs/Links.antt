@@ -57,16 +57,22 @@ IsActiveKind (ActiveElements table offset) = ⊤
 IsActiveKind PassiveElements = ⊥
 IsActiveKind DeclaredElements = ⊥
 
--- an active segment
-abbrev pub IsActive : Abstract → Item → Type 0
-IsActive m (Elements, i) = (e : Element) × (m.elements i ≡ Some e) × IsActiveKind e.kind
-IsActive m (DataSegments, i) = (d : DataSegment) × (m.data_segments i ≡ Some d) × IsRootData d.kind
-IsActive m _ = ⊥
+-- an active segment of these
+abbrev pub IsActiveIn : (elements : ℕ → Option Element) (segments : ℕ → Option DataSegment) → Item → Type 0
+IsActiveIn elements segments (Elements, i) = (e : Element) × (elements i ≡ Some e) × IsActiveKind e.kind
+IsActiveIn elements segments (DataSegments, i) = (d : DataSegment) × (segments i ≡ Some d) × IsRootData d.kind
+IsActiveIn elements segments _ = ⊥
 
--- a declared segment
+abbrev pub IsActive : Abstract → Item → Type 0
+IsActive m x = IsActiveIn m.elements m.data_segments x
+
+-- a declared segment of these
+abbrev pub IsDeclaredIn : (elements : ℕ → Option Element) → Item → Type 0
+IsDeclaredIn elements (Elements, i) = (e : Element) × (elements i ≡ Some e) × (e.kind ≡ DeclaredElements)
+IsDeclaredIn elements _ = ⊥
+
 abbrev pub IsDeclared : Abstract → Item → Type 0
-IsDeclared m (Elements, i) = (e : Element) × (m.elements i ≡ Some e) × (e.kind ≡ DeclaredElements)
-IsDeclared m _ = ⊥
+IsDeclared m x = IsDeclaredIn m.elements x
 
 -- this makes the item a root, and nothing that stands before it does (segments aren't exported, and an active one isn't declared)
 abbrev pub IsRootBy : Abstract → Root → Item → Type 0

@@ -1,7 +1,7 @@
 //! What would go with a function if its body trapped: what it alone keeps, and what that costs.
 
-ghost use Rattle.std.specs.Prelude.{◌≡◌, ◌<◌, ◌^◌, IfOk, MatchResult, map};
-ghost use Rattle.std.specs.List.{sum_by};
+ghost use Rattle.std.specs.Prelude.{◌≡◌, ◌<◌, ◌^◌, IfOk, MatchResult, count_by, map};
+ghost use Rattle.std.specs.List.{range_with_len, sum_by};
 ghost use Rattle.walrus_base.specs.Arena.{IsLive as IsLiveAt};
 ghost use Rattle.walrus_base.specs.Id.{place};
 ghost use Rattle.walrus_base.specs.IdSet.{has_id};
@@ -130,13 +130,22 @@ fn size_of_marked(marks: &Marks<FunctionKey>, bodies: &[(FunctionId, Range<usize
     sum
 }
 
+// How many functions are marked.
+fn count_marked(marks: &Marks<FunctionKey>) -> usize
+    ensures { result ≡ count_by (is_marked marks.now) (range_with_len 0 (mark_places marks.now)) }
+{
+    (0..marks.places())
+        .filter(|place| marks.is_marked(FunctionId::at(*place)))
+        .count()
+}
+
 /// How many functions are marked, and how many bytes those of these bodies have that are theirs.
 pub(crate) fn alone_of(goers: &Marks<FunctionKey>, bodies: &[(FunctionId, Range<usize>)]) -> Alone
     requires { bytes_of (map range_of bodies.now) < 2 ^ 64 }
     ensures { result ≡ alone_in goers.now (map range_of bodies.now) }
 {
     Alone {
-        functions: goers.iter().count(),
+        functions: count_marked(goers),
         bytes: size_of_marked(goers, bodies),
     }
 }

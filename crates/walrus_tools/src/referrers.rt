@@ -204,7 +204,7 @@ fn callers_in(alloc: Global, parts: Parts<'_>, item: ItemId) -> Result<Vec<ItemI
 ///
 /// `DeadItem` only where an item of the module isn't sound: a function with neither an import nor a body, or one that uses a local that isn't
 /// there. And `Memory`.
-pub(crate) fn callers_of<S>(alloc: Global, module: &Module<S>, item: ItemId) -> Result<Vec<ItemId>>
+pub(crate) fn callers_of(alloc: Global, module: &Module, item: ItemId) -> Result<Vec<ItemId>>
     ensures { MatchResult result
         (λ callers. AreCallers (held_view «module».now) (item_of item) (items_in callers))
         (IsRefusal (HasUnsound (held_view «module».now))) }

@@ -1,0 +1,334 @@
+-- Why an item stays that a text means, and what refers to it, of what was parsed, edited, collected and written: what the whole way comes to, and each
+-- refusal.
+use Rattle.std.proofs.Common.{◌≡◌, ℕ, true, false, List, [], ◌∷◌, Option, Some, None, map, refl, sym, ap, ◌∙◌, subst, inl, inr}
+use Rattle.std.specs.Global.{Vec}
+use Rattle.std.specs.Prelude.{Contains, IsSome, Result, Ok, Err, option_map, ◌↔◌}
+use Rattle.walrus_base.specs.Arena.{item_at}
+use Rattle.walrus_base.specs.Operators.{Types, Functions, Tables, Memories, Tags, Globals, Elements, DataSegments, Item, function_item}
+use Rattle.walrus_base.specs.declared.keys.FunctionKey.{FunctionKey}
+use Rattle.walrus_base.specs.declared.locals.ModuleLocals.{ModuleLocals}
+use Rattle.walrus_base.specs.declared.marks.Marks.{Marks}
+use Rattle.walrus_code.specs.Transform.{Transform}
+use Rattle.walrus_model.specs.Abstract.{Abstract, Custom}
+use Rattle.walrus_model.specs.Config.{Config}
+use Rattle.walrus_model.specs.Live.{IsLive}
+use Rattle.walrus_model.specs.Names.{body_of_function, body_of_kind}
+use Rattle.walrus_model.specs.Pipeline.{Collected}
+use Rattle.walrus_model.specs.Reached.{Reached}
+use Rattle.walrus_model.specs.Refers.{Refers}
+use Rattle.walrus_model.specs.Roots.{IsRoot, exported, start, data_segment, element_segment, asked_for}
+use Rattle.walrus_items.specs.Exports.{exports}
+use Rattle.walrus_items.specs.Functions.{FunctionValue, functions}
+use Rattle.walrus_items.specs.declared.custom.CustomSection.{Ghosts}
+use Rattle.walrus_items.specs.declared.error.Error.{Error}
+use Rattle.walrus_items.specs.declared.error.ErrorKind.{ErrorKind}
+use Rattle.walrus_items.specs.declared.error.Error.TheVariants as error
+use Rattle.walrus_items.specs.declared.function_kind.FunctionKind.{FunctionKind}
+use Rattle.walrus_items.specs.declared.function_kind.FunctionKind.TheVariants.{Import, Local, Uninitialized}
+use Rattle.walrus_items.specs.Transform.{transform_of}
+use Rattle.walrus_items.specs.declared.transform.CodeTransform.{CodeTransform}
+use Rattle.walrus_items.specs.declared.raw_section.RawCustomSection.{RawCustomSection}
+use Rattle.walrus_contents.specs.There.{IsRefusal}
+use Rattle.walrus_contents.specs.View.{contents_view, function, kind_of}
+use Rattle.walrus_contents.specs.declared.parts.Contents.{Contents}
+use Rattle.walrus_theorem.proofs.SameItems.{live_back, live_on}
+use Rattle.walrus_module.specs.Asked.{OneMayRefuse}
+use Rattle.walrus_module.specs.Customs.{sections}
+use Rattle.walrus_module.specs.Emission.{EmitsTransform}
+use Rattle.walrus_module.specs.Flags.{Flags, config_of}
+use Rattle.walrus_module.specs.Parsed.{IsParsed, RefusesBytes}
+use Rattle.walrus_module.specs.Raws.{raw_sections}
+use Rattle.walrus_module.specs.Settings.{settings}
+use Rattle.walrus_module.specs.View.{contents_of, held_view, meanings, view}
+use Rattle.walrus_module.specs.declared.entry.SectionEntry.{SectionEntry}
+use Rattle.walrus_module.specs.declared.module.Module.{Module}
+use Rattle.walrus_module.proofs.KeptRaw.{none_refuses}
+use Rattle.walrus_module.proofs.RawStays.{all_raw}
+use Rattle.walrus.specs.Collected.{Collects}
+use Rattle.walrus.specs.Marked.{ReachesUnsound}
+use Rattle.walrus.specs.Used.{RefusesSearch}
+use Rattle.walrus.specs.Why.{Explains}
+use Rattle.walrus_tools.specs.Alone.{IsAlone}
+use Rattle.walrus_tools.specs.AloneSteps.{HoldsSame, alone_in}
+use Rattle.walrus_tools.specs.Callers.{AreCallers, HasUnsound}
+use Rattle.walrus_tools.specs.Choice.{Choice}
+use Rattle.walrus_tools.specs.ChosenModule.{KeepsChosen, KeepsIn, RefusesChosen}
+use Rattle.walrus_tools.specs.Edits.{AnswersEdited, IsWhole, with_customs}
+use Rattle.walrus_tools.specs.FunctionMeaning.{has_body, is_local}
+use Rattle.walrus_tools.specs.ItemMeaning.{FindsItem, MeansIn, MeansItem}
+use Rattle.walrus_tools.specs.Links.{IsRootBy, LinkTold, TellsRoot, link_of}
+use Rattle.walrus_tools.specs.Measures.{IsMeasured}
+use Rattle.walrus_tools.specs.ReasonAnswers.{AnswersCallers, AnswersWhy, AreAsked, IsAsked, IsReachedBody, IsReasoned, MeansNothing, RefusesText, TellsAlone}
+use Rattle.walrus_tools.specs.ReasonBytes.{ReasonTold}
+use Rattle.walrus_tools.specs.ReasonSteps.{FindsGoers, HasNoBodyAt, RefusesGoers, TellsGoers}
+use Rattle.walrus_tools.specs.RootSteps.{FindsChainRoot, FindsRoot}
+use Rattle.walrus_tools.specs.declared.goers.Alone.{Alone}
+use Rattle.walrus_tools.specs.declared.roots.Root.{Root}
+use Rattle.walrus_tools.specs.declared.roots.Root.TheVariants as roots
+use Rattle.walrus_tools.proofs.AloneEnds.{alone_told, back_again, never_dead, same_view}
+use Rattle.walrus_tools.proofs.CallersEnds.{left_sound}
+use Rattle.walrus_tools.proofs.ChosenEnds.{chosen_held, chosen_whole}
+use Rattle.walrus_tools.proofs.EditEnds.{edit_refused, memory_refused, parsed_whole, plain_edited}
+use Rattle.walrus_tools.proofs.MeasuredEnds.{emission_lacks, measured, search_lacks}
+use Rattle.walrus_tools.proofs.RootLemmas.{root_by}
+use Rattle.walrus_tools.proofs.TrapReached.{function_reached}
+
+untrue : false ≡ true → ⊥
+untrue h = cc
+
+-- ---- what custom sections don't change
+
+module _ (customs : List Custom) (m : Contents) where
+  same_root : (root : Root) (x : Item) → IsRootBy (contents_view m) root x → IsRootBy (with_customs customs m) root x
+  same_root roots.Exported x h = h
+  same_root roots.Start x h = h
+  same_root roots.Active x h = h
+  same_root roots.Declared x h = h
+
+  -- what is a root of the one is one of the other
+  held_root : (x : Item) → IsRoot (with_customs customs m) x → IsRoot (contents_view m) x
+  held_root x (exported e at is) = exported e at is
+  held_root x (start f at is) = start f at is
+  held_root x (data_segment i d at root is) = data_segment i d at root is
+  held_root x (element_segment i e at root is) = element_segment i e at root is
+  held_root x (asked_for at) = asked_for at
+
+  -- what was found of the first item of a chain is told of it
+  pub root_told : (x : Item) (chain : Option (List Item)) (root : Option Root) → Explains (with_customs customs m) x chain → FindsChainRoot (contents_view m) chain root → TellsRoot (with_customs customs m) chain root
+  root_told x None root found is = is
+  root_told x (Some []) root found is = absurd (let no_such : [] ≡ found.first ∷ found.others = found.is in cc)
+  root_told x (Some (y ∷ ys)) None found lacks =
+      let same : y ≡ found.first = heads y ys found.first found.others found.is in
+      absurd (root_by (contents_view m) y refl lacks (held_root y (subst (IsRoot (with_customs customs m)) (sym same) found.rooted)))
+    where
+      heads : (a : Item) (rest : List Item) (b : Item) (others : List Item) → a ∷ rest ≡ b ∷ others → a ≡ b
+      heads a rest b others h = cc
+  root_told x (Some (y ∷ ys)) (Some root) found is = same_root root y is
+
+module _ (v : Abstract) (customs : List Custom) (kept : List Item) where
+  abbrev W : Abstract
+  W = record v { customs = customs; section_roots = kept }
+
+  refers_on : (x y : Item) → Refers v x y → Refers W x y
+  refers_on (Types, i) y h = h
+  refers_on (Functions, i) y h = h
+  refers_on (Tables, i) y h = h
+  refers_on (Memories, i) y h = h
+  refers_on (Tags, i) y h = h
+  refers_on (Globals, i) y h = h
+  refers_on (Elements, i) y h = h
+  refers_on (DataSegments, i) y h = h
+
+  refers_back : (x y : Item) → Refers W x y → Refers v x y
+  refers_back (Types, i) y h = h
+  refers_back (Functions, i) y h = h
+  refers_back (Tables, i) y h = h
+  refers_back (Memories, i) y h = h
+  refers_back (Tags, i) y h = h
+  refers_back (Globals, i) y h = h
+  refers_back (Elements, i) y h = h
+  refers_back (DataSegments, i) y h = h
+
+  pub callers_on : (y : Item) (callers : List Item) → AreCallers v y callers → AreCallers W y callers
+  callers_on y callers h = record {
+    rising = h.rising;
+    are = λ x. (
+      λ at. (live_on v customs kept x ((h.are x).0 at).0, refers_on x y ((h.are x).0 at).1),
+      λ so. (h.are x).1 (live_back v customs kept x so.0, refers_back x y so.1),
+    );
+  }
+
+-- a module holds the same as itself
+pub same_module : {S : Type 0} (m : Module S) → HoldsSame m m
+same_module m = record { same = refl; others = refl }
+
+-- ---- functions with bodies
+
+local_kind : (locals : ModuleLocals) (k : FunctionKind) → is_local k ≡ false → IsSome (body_of_kind (kind_of locals k)) → ⊥
+local_kind locals (Local l) none h = untrue (sym none)
+local_kind locals (Import i) none h = untrue h
+local_kind locals (Uninitialized ty) none h = untrue h
+
+no_body : (locals : ModuleLocals) (o : Option FunctionValue) → has_body o ≡ false → IsSome (body_of_function (option_map (function locals) o)) → ⊥
+no_body locals None none h = untrue h
+no_body locals (Some f) none h = local_kind locals f.kind none h
+
+module _ {V : Type 0} {O : V → Type 0} (G : (v : V) → Ghosts (O v)) where
+  -- the module that is left where goers were looked for is as it was before
+  pub goers_stay : (x : Item) (stays back : Module (SectionEntry V O)) (marks : Option (Marks FunctionKey)) → TellsGoers G x stays back (Ok marks) → HoldsSame stays back
+  goers_stay x stays back None h = h.0
+  goers_stay x stays back (Some marks) h = back_again h.0 h.2.body stays h.2.trapped h.2.trades back h.2.back
+
+  module _ (edited stays : Module (SectionEntry V O)) (ran : Collects G edited stays) where
+    -- what goes with the item is told
+    pub alone_so : (back : Module (SectionEntry V O)) (x : Item) (transform : Transform) (marks : Option (Marks FunctionKey)) → TellsGoers G x stays back (Ok marks)
+        → TellsAlone (view G edited) transform x (option_map (λ (m : Marks FunctionKey). alone_in m transform.function_ranges) marks)
+    alone_so back x transform None h f reached =
+        let kept : item_at (functions stays.funcs) f ≡ item_at (functions edited.funcs) f = ran.items.functions.kept f (inl (subst (λ (y : Item). Reached (view G edited) y) reached.is reached.reached)) in
+        no_body edited.locals (item_at (functions edited.funcs) f) (ap has_body (sym kept) ∙ h.1 f reached.is) reached.local
+    alone_so back x transform (Some marks) (f, is, g) =
+        let was = ran.items.functions.left f (g.trades).function (g.trades).was in (
+          f,
+          record {
+            is = is;
+            local = subst (λ (o : Option FunctionValue). IsSome (body_of_function (option_map (function edited.locals) o))) (sym was.1)
+                (subst (λ (k : FunctionKind). IsSome (body_of_kind (kind_of edited.locals k))) (sym (g.trades).had) refl);
+            reached = subst (λ (y : Item). Reached (view G edited) y) (sym is) (function_reached (view G edited) f was.0);
+          },
+          alone_told G edited stays g.trapped ran f g.body g.trades g.used g.finds marks g.goers transform.function_ranges,
+        )
+
+-- ---- from bytes
+
+module _ (c : Config) (bytes : List ℕ) (choices : List Choice) (text : List ℕ) where
+  -- what is answered where no module is written
+  abbrev Refused : Error → Type 0
+  Refused e = AnswersEdited (KeepsChosen choices) (RefusesText choices text) c bytes (Err e)
+
+  -- bytes that aren't parsed
+  pub bytes_lack : (e : Error) → RefusesBytes c bytes e → Refused e
+  bytes_lack (error.Memory m) h = tt
+  bytes_lack (error.InvalidWasm k) h = h
+  bytes_lack _ h = absurd h
+
+  pub why_refused : (e : Error) → Refused e → AnswersWhy c bytes choices text (Err e)
+  why_refused (error.Memory m) h = tt
+  why_refused (error.InvalidWasm k) h = h
+  why_refused error.TooLarge h = inl h
+  why_refused _ h = h
+
+  pub callers_refused : (e : Error) → Refused e → AnswersCallers c bytes choices text (Err e)
+  callers_refused (error.Memory m) h = tt
+  callers_refused (error.InvalidWasm k) h = h
+  callers_refused error.TooLarge h = inl h
+  callers_refused _ h = h
+
+module _ {V : Type 0} {O : V → Type 0} (G : (v : V) → Ghosts (O v)) (choices : List Choice) (text : List ℕ) (g : Flags) (plain : g.preserve_code_transform ≡ false) (bytes : List ℕ)
+    (read : Module (SectionEntry V O)) (parsed : IsParsed (config_of g) bytes (view G read)) where
+  abbrev c : Config
+  c = config_of g
+
+  abbrev Edits : Contents → Contents → Type 0
+  Edits = KeepsChosen choices
+
+  abbrev Refuses : Contents → Error → Type 0
+  Refuses = RefusesText choices text
+
+  -- what is answered where no module is written
+  abbrev Lacks : Error → Type 0
+  Lacks e = AnswersEdited Edits Refuses c bytes (Err e)
+
+  valid : (k : ErrorKind) → Refuses (contents_of read) (error.InvalidWasm k) → ⊥
+  valid k (inl h) = h
+  valid k (inr h) = h.2
+
+  small : Refuses (contents_of read) error.TooLarge → ⊥
+  small (inl h) = h
+  small (inr h) = h.2
+
+  -- a choice fits no export
+  pub choice_lacks : (e : Error) → RefusesChosen choices (contents_of read) e → Lacks e
+  choice_lacks e h = edit_refused G Edits Refuses c bytes read parsed valid small e (inl h)
+
+  module _ (edited : Module (SectionEntry V O)) (kept : KeepsIn choices read edited) where
+    -- the text means nothing
+    pub text_lacks : (e : Error) → FindsItem (functions edited.funcs) (exports edited.exports) text (Err e) → Lacks e
+    text_lacks error.NotFound h = edit_refused G Edits Refuses c bytes read parsed valid small error.NotFound (inr (contents_of edited, chosen_held choices read edited kept, h))
+    text_lacks _ h = absurd h
+
+    pub whole : IsWhole c edited
+    whole = chosen_whole choices read edited kept c (parsed_whole G Edits Refuses c bytes read parsed)
+
+    pub edits : Edits (contents_of read) (contents_of edited)
+    edits = chosen_held choices read edited kept
+
+    pub own : edited.customs ≡ read.customs
+    own = ap (λ (m : Module (SectionEntry V O)). m.customs) kept.others
+
+    -- the search for a chain, or that of gc, refuses
+    pub search_stops : (raws : List RawCustomSection) → sections read.customs ≡ raw_sections raws → settings read ≡ g → (e : Error)
+        → RefusesSearch (ReachesUnsound (view G edited)) (OneMayRefuse (meanings G edited)) e → Lacks e
+    search_stops raws are configured e h = search_lacks G Edits Refuses g plain bytes read parsed edited edits own whole raws are (ap settings kept.others ∙ configured) e h
+
+    module _ (raws : List RawCustomSection) (are : sections read.customs ≡ raw_sections raws) (stays : Module (SectionEntry V O)) (ran : Collects G edited stays) where
+      raw_still : sections stays.customs ≡ raw_sections raws
+      raw_still = ap sections (ran.others.customs ∙ own) ∙ are
+
+      -- the search where the item traps refuses, for want of memory alone
+      pub goers_lack : (x : Item) (e : Error) → RefusesGoers G x stays e → Lacks e
+      goers_lack x e (inl memory) = memory_refused Edits Refuses c bytes e memory
+      goers_lack x e (inr (f, body, trapped, trades, refused)) = by e refused where
+        by : (e : Error) → RefusesSearch (ReachesUnsound (view G trapped)) (OneMayRefuse (meanings G trapped)) e → Lacks e
+        by (error.Memory m) h = tt
+        by error.DeadItem h = absurd (never_dead G edited stays trapped ran f body trades h)
+        by (error.Caller words) h = absurd (none_refuses G trapped raws (ap sections (ap (λ (m : Module (SectionEntry V O)). m.customs) (trades.others)) ∙ raw_still) h)
+        by _ h = absurd h
+
+      -- the walk over what is left refuses, for want of memory alone
+      pub callers_lack : (e : Error) → IsRefusal (HasUnsound (held_view stays)) e → Lacks e
+      callers_lack (error.Memory m) h = tt
+      callers_lack error.DeadItem h = absurd (left_sound G edited stays ran h)
+      callers_lack _ h = absurd h
+
+      module _ (configured : settings read ≡ g) (back : Module (SectionEntry V O)) (again : HoldsSame stays back) (left : Module (SectionEntry V O)) where
+        set_so : settings edited ≡ g
+        set_so = ap settings kept.others ∙ configured
+
+        collected : Collected (view G edited) (view G back)
+        collected = subst (λ (v : Abstract). Collected (view G edited) v) (sym (same_view G stays back again)) ran.collected
+
+        same_customs : back.customs ≡ edited.customs
+        same_customs = ap (λ (m : Module (SectionEntry V O)). m.customs) again.others ∙ ran.others.customs
+
+        set_back : settings back ≡ settings edited
+        set_back = ap settings again.others ∙ ran.others.settings
+
+        module _ (answer : Result (Vec ℕ × CodeTransform) Error) (emits : EmitsTransform G back left true answer) where
+          stay : left.customs ≡ back.customs
+          stay = (emits.emits).raw (all_raw back.customs raws (ap sections (same_customs ∙ own) ∙ are))
+
+        -- emission refuses
+        pub way_lacks : (e : Error) → EmitsTransform G back left true (Err e) → Lacks e
+        way_lacks e h =
+            emission_lacks G Edits Refuses g plain bytes read parsed edited edits own whole raws are set_so back collected same_customs left (stay (Err e) h) (settings back) set_back e
+            (h.emits).left (h.emits).well_made
+
+        -- the whole way
+        abbrev pub way_measured : (output : Vec ℕ) (transform : CodeTransform) → EmitsTransform G back left true (Ok (output, transform)) → IsMeasured Edits c bytes (view G left) (transform_of transform)
+        way_measured output transform h =
+            measured G Edits Refuses g plain bytes read parsed edited edits own whole raws are set_so back collected same_customs left (stay (Ok (output, transform)) h)
+            (h.emits).left (settings back) (set_back ∙ set_so) output transform (h.emits).well_made (h.transform (inr refl))
+
+    module _ (u : Abstract) (transform : Transform) (m : IsMeasured Edits c bytes u transform) (held : m.comes.module_edited ≡ contents_of edited) (same : m.comes.customs ≡ (view G read).customs)
+        (x : Item) (means : MeansItem (functions edited.funcs) (exports edited.exports) text x) where
+      -- the item is meant
+      pub asked : IsAsked c bytes choices text x
+      asked = record {
+        module_left = u;
+        transform = transform;
+        measured = m;
+        means = subst (λ (h : Contents). MeansIn h text x) (sym held) means;
+      }
+
+      now : view G edited ≡ with_customs m.comes.customs m.comes.module_edited
+      now = plain_edited G Edits Refuses c bytes read parsed edited edits own whole
+          ∙ ap (λ (cs : List Custom). with_customs cs (contents_of edited)) (sym same) ∙ ap (λ (h : Contents). with_customs m.comes.customs h) (sym held)
+
+      -- what is told of it
+      pub why_told : (chain : Option (List Item)) → Explains (view G edited) x chain → (links : Option (List LinkTold)) → links ≡ option_map (map (link_of u transform.function_ranges)) chain
+          → (root : Option Root) → FindsChainRoot (held_view edited) chain root → (alone : Option Alone) → TellsAlone (view G edited) transform x alone
+          → IsReasoned c bytes choices text (record { item = x; links = links; root = root; alone = alone })
+      why_told chain explains links are root found alone goes =
+          let explained = subst (λ (v : Abstract). Explains v x chain) now explains in
+          record {
+            asked = asked;
+            chain = chain;
+            explains = explained;
+            links = are;
+            root = root_told m.comes.customs m.comes.module_edited x chain root explained (subst (λ (h : Contents). FindsChainRoot (contents_view h) chain root) (sym held) found);
+            alone = subst (λ (v : Abstract). TellsAlone v transform x alone) now goes;
+          }
+
+      -- what is told of what refers to it
+      pub callers_told : (callers : List Item) → AreCallers m.comes.left.module_collected x callers → (links : List LinkTold) → links ≡ map (link_of u transform.function_ranges) callers → AreAsked c bytes choices text links
+      callers_told callers refer links are = record { item = x; asked = asked; callers = callers; refer = refer; are = are }
