@@ -2,7 +2,7 @@
 """Compares include/mulkavesh.h with the signatures of crates/mulkavesh_c, and rust/mulkavesh-sys and python/mulkavesh.py with the header.
 
 A slice is a pointer and its length, a `&mut usize` a pointer, and a `Global` nothing. Compared are the names, the types and the order of the
-parameters, the constants (those of what is wrong with bytes are numbers of crates/walrus_tools), the words of docs/FORMATS.md for these with the header's
+parameters, the constants (those of what is wrong with bytes, of items and of roots are numbers of crates/walrus_tools), the words of docs/FORMATS.md for these with the header's
 comments and with tests/faults.txt, and the version with those of the packages; no compiler is needed. Prints what differs, a line each, and ends with
 status 1 where there is any.
 """
@@ -41,7 +41,7 @@ def of_sources():
 
 
 def of_header(text):
-    for name, between in re.findall(r"^uint32_t (\w+)\((.*)\);", text, re.M):
+    for name, between in re.findall(r"^uint32_t (\w+)\(([^;]*)\);", text, re.M):
         pairs = re.findall(r"(const uint8_t \*|uint8_t \*|uint32_t |size_t \*|size_t )(\w+)", between)
         yield name, ([(its_name, C[its_type]) for its_type, its_name in pairs], True)
 
@@ -69,11 +69,22 @@ def faults_of_sources():
         yield "RULE" + re.sub(r"([A-Z])", r"_\1", name).upper(), int(number)
 
 
+def items_of_sources():
+    """The kinds of items, those of exports and imports, and what makes an item a root, by the names that the header gives them."""
+    tools = ("crates", "walrus_tools", "src")
+    for file, front, most in (("export_groups.rt", "KIND", 7), ("spelled.rt", "EXTERN", 4)):
+        numbers = re.findall(r"ItemId::(\w+)\(_\) => (\d+),", read(*tools, file))
+        yield from ((f"{front}_{name.upper()}", int(number)) for name, number in numbers if int(number) <= most)
+    for name, number in re.findall(r"(None|Root::\w+)\)? => (\d+),", read(*tools, "tool", "reason_list.rt")):
+        yield f"ROOT_{name.removeprefix('Root::').upper()}", int(number)
+
+
 def constants_of_sources():
-    """The statuses, flags, the version, what parts are told as, and what is wrong with bytes, by the names that the header gives them."""
+    """The statuses, flags, the version, what parts are told as, items, roots and what is wrong with bytes, by the names that the header gives them."""
     text = "".join(path.read_text(encoding="utf-8") for path in sorted((CRATES / CRATE / "src").glob("*.rt")))
     text += read("crates", "walrus_tools", "src", "tool", "section_parts.rt")
-    return {**{name: int(number) for name, number in re.findall(r"const (\w+): u(?:8|32) = (\d+);", text)}, **dict(faults_of_sources())}
+    named = {name: int(number) for name, number in re.findall(r"const (\w+): u(?:8|32) = (\d+);", text)}
+    return {**named, **dict(items_of_sources()), **dict(faults_of_sources())}
 
 
 def constants_of_header(text):
@@ -87,7 +98,10 @@ def constants_of_rust(text):
 
 def constants_of_python(text):
     found = {name: int(number) for name, number in re.findall(r"^_(FUNCTION|SEGMENT) = (\d+)$", text, re.M)}
-    for of_python, front in (("Status", ""), ("FaultKind", "FAULT_"), ("Beginning", "BEGINS_"), ("Rule", "RULE_")):
+    for name, front in (("_OF_LINKS", "KIND_"), ("_OF_EXTERNS", "EXTERN_")):
+        words = re.search(rf"^{name} = \((.*)\)$", text, re.M)[1]
+        found.update((front + word.upper(), number) for number, word in enumerate(re.findall(r'"(\w+)"', words)))
+    for of_python, front in (("Status", ""), ("FaultKind", "FAULT_"), ("Beginning", "BEGINS_"), ("Rule", "RULE_"), ("Root", "ROOT_")):
         numbers = re.search(rf"class {of_python}\(.*?(?=\n\n\n)", text, re.S)
         found.update((front + name, int(number)) for name, number in re.findall(r"^    ([A-Z_]+) = (\d+)", numbers[0], re.M))
     return found
@@ -143,7 +157,7 @@ def wrong():
         yield from differing("rust/mulkavesh-sys", numbers, constants_of_rust(rust))
     python = read("python", "mulkavesh.py")
     if python is not None:
-        others = ("VERSION", "NO_NAMES", "NO_PRODUCERS", "NO_LEGACY", "FAULT_NONE")
+        others = ("VERSION", "NO_NAMES", "NO_PRODUCERS", "NO_LEGACY", "FAULT_NONE", "ROOT_NONE")
         numbers = {name: number for name, number in constants.items() if name not in others}
         yield from differing("python/mulkavesh.py", numbers, constants_of_python(python))
     yield from versions(constants["VERSION"])

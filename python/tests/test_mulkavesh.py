@@ -586,7 +586,7 @@ class Declared(unittest.TestCase):
     @unittest.skipUnless(HEADER.exists(), "there is no include/mulkavesh.h")
     def test_the_calls_of_the_header(self) -> None:
         declared = {}
-        for name, parameters in re.findall(r"^uint32_t (\w+)\((.*)\);", HEADER.read_text(encoding="utf-8"), re.M):
+        for name, parameters in re.findall(r"^uint32_t (\w+)\(([^;]*)\);", HEADER.read_text(encoding="utf-8"), re.M):
             declared[name] = [self.IN_C[kind] for kind in re.findall(r"(const uint8_t \*|uint8_t \*|uint32_t |size_t \*|size_t )\w", parameters)]
         self.assertEqual(len(declared), 15)
         for name, kinds in declared.items():

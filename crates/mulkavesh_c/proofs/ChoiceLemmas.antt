@@ -1,24 +1,87 @@
 -- What a call answers under the choices that were read.
-use Rattle.std.proofs.Common.{◌≡◌, ℕ, true, false, List, Option, Some, None, sym, subst}
-use Rattle.std.specs.Global.{Vec}
-use Rattle.walrus_tools.specs.Choice.{AreChoices, AreRead, Choice, choices_seen}
-use Rattle.walrus_tools.specs.StripAnswers.{AnswersStripped}
-use Rattle.walrus_tools.specs.declared.choice.Choice.{Choice as HeldChoice}
+use Rattle.std.proofs.Common.{◌≡◌, ◌⊎◌, ℕ, true, false, List, Option, Some, None, length, refl, sym, ◌∙◌, subst, inl, inr}
+use Rattle.std.specs.Prelude.{Err, unwrap_or, if◌then◌else◌}
+use Rattle.std.specs.declared.alloc.AllocError.{AllocError}
+use Rattle.walrus_tools.specs.Choice.{AreChoices, Choice, IsList}
+use Rattle.walrus_tools.specs.ChosenModule.{AnswersUnfit, TellsOfParsed}
+use Rattle.walrus_tools.specs.Facade.{Config, Error, InvalidWasm, Memory, NotFound, TooLarge}
+use Rattle.walrus_tools.specs.Wanted.{config_wanted}
+use Rattle.walrus_tools.specs.declared.wanted.Wanted.{Wanted}
 use Rattle.walrus_tools.proofs.Records.{one_list}
-use Rattle.mulkavesh_c.specs.Answer.{Answer}
-use Rattle.mulkavesh_c.specs.Names.{UnderChoices}
+use Rattle.mulkavesh_c.specs.Answer.{Answer, Puts}
+use Rattle.mulkavesh_c.specs.ChosenRoots.{AreAsked, GivesChosen, IsNumbered, IsUnfit, MakesChosen, NumbersUnfit}
+use Rattle.mulkavesh_c.specs.Flags.{is_known, wanted}
+use Rattle.mulkavesh_c.specs.Names.{LacksChoices, UnderChoices}
+use Rattle.mulkavesh_c.specs.declared.answer.Made.{Made}
+use Rattle.mulkavesh_c.proofs.AnswerLemmas.{asks, gives}
 
 pub untrue : false ≡ true → ⊥
 untrue h = cc
 
-pub under_choices : (bytes input : List ℕ) (found : Option (Vec HeldChoice)) (v : Vec HeldChoice) (held : List HeldChoice) → found ≡ Some v → AreRead bytes found → held ≡ v.items
-    → (r : Answer) → AnswersStripped input (choices_seen held) r → UnderChoices bytes (AnswersStripped input) r
-under_choices bytes input found v held is read same r answers = λ choices are.
-    let held_are : AreChoices bytes (choices_seen held) = subst (λ (l : List HeldChoice). AreChoices bytes (choices_seen l)) (sym same) (subst (AreRead bytes) is read) in
-    subst (λ (cs : List Choice). AnswersStripped input cs r) (one_list (choices_seen held) choices bytes held_are are) answers
+-- what is so of the choices that were read is so of all that the bytes are
+pub under_choices : (bytes : List ℕ) (held : List Choice) → AreChoices bytes held → (Answers : List Choice → Answer → Type 0) (answer : Answer) → Answers held answer → UnderChoices bytes Answers answer
+under_choices bytes held held_are Answers answer answers = λ choices are. subst (λ (cs : List Choice). Answers cs answer) (one_list held choices bytes held_are are) answers
 
-pub under_none : (bytes input : List ℕ) (found : Option (Vec HeldChoice)) → found ≡ None → AreRead bytes found → (r : Answer) → UnderChoices bytes (AnswersStripped input) r
-under_none bytes input found is read r = λ choices are. absurd (none choices are)
-  where
-    none : (choices : List Choice) → AreChoices bytes choices → ⊥
-    none = subst (AreRead bytes) is read
+-- where no choices could be read, nothing is asked of the answer but for want of memory
+pub under_none : (bytes : List ℕ) (Answers : List Choice → Answer → Type 0) (e : Error) → LacksChoices bytes e → ((choices : List Choice) (m : AllocError) → Answers choices (Err (Memory m))) → UnderChoices bytes Answers (Err e)
+under_none bytes Answers (Memory m) lacks passes = λ choices are. passes choices m
+under_none bytes Answers (InvalidWasm kind) lacks passes = λ choices are. absurd (lacks (choices, are))
+under_none bytes Answers TooLarge lacks passes = λ choices are. absurd (lacks (choices, are))
+under_none bytes Answers _ lacks passes = λ choices are. absurd (lacks (choices, are))
+
+-- ---- a choice of exports
+
+-- a refusal that says which number is wanted isn't there is none of the exports that don't fit
+no_number : (c : Config) (bytes : List ℕ) (choices : List Choice) (e : Error) → AnswersUnfit c bytes choices (Err e) → ◌≡◌ {A = Answer} (Err e) (Err NotFound) → ⊥
+no_number c bytes choices NotFound unfit same = unfit
+no_number c bytes choices (Memory m) unfit same = cc
+no_number c bytes choices (InvalidWasm kind) unfit same = cc
+no_number c bytes choices TooLarge unfit same = unfit
+no_number c bytes choices _ unfit same = unfit
+
+-- what unfit tells is the number, or else how many choices there are is
+pub unfit_number : (c : Config) (bytes : List ℕ) (choices : List Choice) (found : Option ℕ) → TellsOfParsed c bytes choices found → (number : ℕ) → number ≡ unwrap_or found (length choices) → IsUnfit c bytes choices number
+unfit_number c bytes choices (Some n) tells number is = inl (subst (λ (k : ℕ). TellsOfParsed c bytes choices (Some k)) (sym is) tells)
+unfit_number c bytes choices None tells number is = inr (tells, is)
+
+-- a refusal of unfit stands for the answer
+pub numbered_refused : (c : Config) (bytes : List ℕ) (choices : List Choice) (answer : Answer) (e : Error) (made : Made) → (made.answer ≡ Err e) × (made.number ≡ 0) → AnswersUnfit c bytes choices (Err e) → IsNumbered c bytes choices answer made
+numbered_refused c bytes choices answer e made same unfit = record {
+  answers = inr (e, same.0, unfit);
+  numbers = λ h. absurd (no_number c bytes choices e unfit (sym same.0 ∙ h));
+}
+
+-- an answer that isn't that something isn't found needs no number
+pub numbered_same : (c : Config) (bytes : List ℕ) (choices : List Choice) (answer : Answer) (made : Made) → made.answer ≡ answer → (answer ≡ Err NotFound → ⊥) → IsNumbered c bytes choices answer made
+numbered_same c bytes choices answer made same found = record { answers = inl same; numbers = λ h. absurd (found (sym same ∙ h)) }
+
+module _ (c : Config) (bytes choice : List ℕ) (Answered : List Choice → Answer → Type 0)
+    (passes : (choices : List Choice) (e : Error) → AnswersUnfit c bytes choices (Err e) → Answered choices (Err e)) where
+  pub made_refused : (e : Error) → LacksChoices choice e → (made : Made) → (made.answer ≡ Err e) × (made.number ≡ 0) → MakesChosen c bytes choice Answered made
+  made_refused (Memory m) lacks made same = record {
+    answers = λ choices are. subst (Answered choices) (sym same.0) (passes choices (Memory m) tt);
+    numbers = λ h. let wrong : ◌≡◌ {A = Answer} (Err (Memory m)) (Err NotFound) = sym same.0 ∙ h in absurd cc;
+  }
+  made_refused (InvalidWasm kind) lacks made same = record { answers = λ choices are. absurd (lacks (choices, are)); numbers = λ h choices are. absurd (lacks (choices, are)) }
+  made_refused TooLarge lacks made same = record { answers = λ choices are. absurd (lacks (choices, are)); numbers = λ h choices are. absurd (lacks (choices, are)) }
+  made_refused _ lacks made same = record { answers = λ choices are. absurd (lacks (choices, are)); numbers = λ h choices are. absurd (lacks (choices, are)) }
+
+  pub made_chosen : (held : List Choice) → AreChoices choice held → (answer : Answer) → Answered held answer → (made : Made) → IsNumbered c bytes held answer made → MakesChosen c bytes choice Answered made
+  made_chosen held held_are answer answers made numbered = record {
+    answers = under_choices choice held held_are Answered made.answer (so numbered.answers);
+    numbers = λ h choices are. subst (λ (cs : List Choice). IsUnfit c bytes cs made.number) (one_list held choices choice held_are are) (numbered.numbers h);
+  }
+    where
+      so : (made.answer ≡ answer) ⊎ ((e : Error) × (made.answer ≡ Err e) × AnswersUnfit c bytes held (Err e)) → Answered held made.answer
+      so (inl same) = subst (Answered held) (sym same) answers
+      so (inr (e, same, unfit)) = subst (Answered held) (sym same) (passes held e unfit)
+
+-- the whole call, where flags and choice are known
+pub gives_chosen : (Answered : Config → List Choice → Answer → Type 0) (flags : ℕ) (bytes choice : List ℕ) (w : Wanted) → ◌≡◌ {A = Option Wanted} (Some w) (if is_known flags then Some (wanted flags) else None) → IsList choice
+    → (made : Made) → MakesChosen (config_wanted w) bytes choice (Answered (config_wanted w)) made → (old new : List ℕ) (told status : ℕ) → Puts made.answer made.number old new told status
+    → GivesChosen flags bytes choice Answered old new told status
+gives_chosen Answered flags bytes choice w is list made makes old new told status puts =
+    let known = asks (is_known flags) (wanted flags) w is in
+    let makes_so = subst (λ (v : Wanted). MakesChosen (config_wanted v) bytes choice (Answered (config_wanted v)) made) known.1 makes in
+    let c = config_wanted (wanted flags) in
+    gives (UnderChoices choice (Answered c)) (AreAsked flags choice) (NumbersUnfit c bytes choice) old new told status (known.0, list) made.answer made.number makes_so.answers makes_so.numbers puts

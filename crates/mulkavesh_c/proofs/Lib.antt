@@ -1,3 +1,4 @@
 mod AnswerLemmas
-mod ChainLemmas
 mod ChoiceLemmas
+mod QuestionLemmas
+mod TextLemmas

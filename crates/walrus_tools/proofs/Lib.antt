@@ -2,6 +2,7 @@ mod AloneEnds
 mod Among
 pub mod AnswerLemmas
 mod BodiesRise
+mod BodySearch
 mod CallBody
 mod CallSound
 mod CallersEnds
@@ -23,6 +24,7 @@ mod FinishLemmas
 mod FoundEnds
 mod Fronts
 mod FunctionsThere
+mod GoingLists
 mod HookEnds
 mod HookSteps
 mod ImportMatches
@@ -86,3 +88,4 @@ mod TrapWhole
 mod WeighEnds
 mod WeighLines
 pub use Rattle.walrus.proofs.DeviceLemmas
+mod WhyEnds

@@ -1,6 +1,7 @@
 -- Why an item stays that a text means, and what refers to it, of what was parsed, edited, collected and written: what the whole way comes to, and each
 -- refusal.
 use Rattle.std.proofs.Common.{◌≡◌, ℕ, true, false, List, [], ◌∷◌, Option, Some, None, map, refl, sym, ap, ◌∙◌, subst, inl, inr}
+use Rattle.std.specs.Global.{Vec}
 use Rattle.std.specs.Prelude.{Contains, IsSome, Result, Ok, Err, option_map, ◌↔◌}
 use Rattle.walrus_base.specs.Arena.{item_at}
 use Rattle.walrus_base.specs.Operators.{Types, Functions, Tables, Memories, Tags, Globals, Elements, DataSegments, Item, function_item}
@@ -24,6 +25,8 @@ use Rattle.walrus_items.specs.declared.error.ErrorKind.{ErrorKind}
 use Rattle.walrus_items.specs.declared.error.Error.TheVariants as error
 use Rattle.walrus_items.specs.declared.function_kind.FunctionKind.{FunctionKind}
 use Rattle.walrus_items.specs.declared.function_kind.FunctionKind.TheVariants.{Import, Local, Uninitialized}
+use Rattle.walrus_items.specs.Transform.{transform_of}
+use Rattle.walrus_items.specs.declared.transform.CodeTransform.{CodeTransform}
 use Rattle.walrus_items.specs.declared.raw_section.RawCustomSection.{RawCustomSection}
 use Rattle.walrus_contents.specs.There.{IsRefusal}
 use Rattle.walrus_contents.specs.View.{contents_view, function, kind_of}
@@ -31,13 +34,16 @@ use Rattle.walrus_contents.specs.declared.parts.Contents.{Contents}
 use Rattle.walrus_theorem.proofs.SameItems.{live_back, live_on}
 use Rattle.walrus_module.specs.Asked.{OneMayRefuse}
 use Rattle.walrus_module.specs.Customs.{sections}
+use Rattle.walrus_module.specs.Emission.{EmitsTransform}
 use Rattle.walrus_module.specs.Flags.{Flags, config_of}
 use Rattle.walrus_module.specs.Parsed.{IsParsed, RefusesBytes}
 use Rattle.walrus_module.specs.Raws.{raw_sections}
+use Rattle.walrus_module.specs.Settings.{settings}
 use Rattle.walrus_module.specs.View.{contents_of, held_view, meanings, view}
 use Rattle.walrus_module.specs.declared.entry.SectionEntry.{SectionEntry}
 use Rattle.walrus_module.specs.declared.module.Module.{Module}
 use Rattle.walrus_module.proofs.KeptRaw.{none_refuses}
+use Rattle.walrus_module.proofs.RawStays.{all_raw}
 use Rattle.walrus.specs.Collected.{Collects}
 use Rattle.walrus.specs.Marked.{ReachesUnsound}
 use Rattle.walrus.specs.Used.{RefusesSearch}
@@ -52,7 +58,7 @@ use Rattle.walrus_tools.specs.FunctionMeaning.{has_body, is_local}
 use Rattle.walrus_tools.specs.ItemMeaning.{FindsItem, MeansIn, MeansItem}
 use Rattle.walrus_tools.specs.Links.{IsRootBy, LinkTold, TellsRoot, link_of}
 use Rattle.walrus_tools.specs.Measures.{IsMeasured}
-use Rattle.walrus_tools.specs.ReasonAnswers.{AnswersText, AreAsked, IsAsked, IsReachedBody, IsReasoned, MeansNothing, RefusesText, TellsAlone}
+use Rattle.walrus_tools.specs.ReasonAnswers.{AnswersCallers, AnswersWhy, AreAsked, IsAsked, IsReachedBody, IsReasoned, MeansNothing, RefusesText, TellsAlone}
 use Rattle.walrus_tools.specs.ReasonBytes.{ReasonTold}
 use Rattle.walrus_tools.specs.ReasonSteps.{FindsGoers, HasNoBodyAt, RefusesGoers, TellsGoers}
 use Rattle.walrus_tools.specs.RootSteps.{FindsChainRoot, FindsRoot}
@@ -63,6 +69,7 @@ use Rattle.walrus_tools.proofs.AloneEnds.{alone_told, back_again, never_dead, sa
 use Rattle.walrus_tools.proofs.CallersEnds.{left_sound}
 use Rattle.walrus_tools.proofs.ChosenEnds.{chosen_held, chosen_whole}
 use Rattle.walrus_tools.proofs.EditEnds.{edit_refused, memory_refused, parsed_whole, plain_edited}
+use Rattle.walrus_tools.proofs.MeasuredEnds.{emission_lacks, measured, search_lacks}
 use Rattle.walrus_tools.proofs.RootLemmas.{root_by}
 use Rattle.walrus_tools.proofs.TrapReached.{function_reached}
 
@@ -131,6 +138,10 @@ module _ (v : Abstract) (customs : List Custom) (kept : List Item) where
     );
   }
 
+-- a module holds the same as itself
+pub same_module : {S : Type 0} (m : Module S) → HoldsSame m m
+same_module m = record { same = refl; others = refl }
+
 -- ---- functions with bodies
 
 local_kind : (locals : ModuleLocals) (k : FunctionKind) → is_local k ≡ false → IsSome (body_of_kind (kind_of locals k)) → ⊥
@@ -169,6 +180,29 @@ module _ {V : Type 0} {O : V → Type 0} (G : (v : V) → Ghosts (O v)) where
 
 -- ---- from bytes
 
+module _ (c : Config) (bytes : List ℕ) (choices : List Choice) (text : List ℕ) where
+  -- what is answered where no module is written
+  abbrev Refused : Error → Type 0
+  Refused e = AnswersEdited (KeepsChosen choices) (RefusesText choices text) c bytes (Err e)
+
+  -- bytes that aren't parsed
+  pub bytes_lack : (e : Error) → RefusesBytes c bytes e → Refused e
+  bytes_lack (error.Memory m) h = tt
+  bytes_lack (error.InvalidWasm k) h = h
+  bytes_lack _ h = absurd h
+
+  pub why_refused : (e : Error) → Refused e → AnswersWhy c bytes choices text (Err e)
+  why_refused (error.Memory m) h = tt
+  why_refused (error.InvalidWasm k) h = h
+  why_refused error.TooLarge h = inl h
+  why_refused _ h = h
+
+  pub callers_refused : (e : Error) → Refused e → AnswersCallers c bytes choices text (Err e)
+  callers_refused (error.Memory m) h = tt
+  callers_refused (error.InvalidWasm k) h = h
+  callers_refused error.TooLarge h = inl h
+  callers_refused _ h = h
+
 module _ {V : Type 0} {O : V → Type 0} (G : (v : V) → Ghosts (O v)) (choices : List Choice) (text : List ℕ) (g : Flags) (plain : g.preserve_code_transform ≡ false) (bytes : List ℕ)
     (read : Module (SectionEntry V O)) (parsed : IsParsed (config_of g) bytes (view G read)) where
   abbrev c : Config
@@ -184,13 +218,6 @@ module _ {V : Type 0} {O : V → Type 0} (G : (v : V) → Ghosts (O v)) (choices
   abbrev Lacks : Error → Type 0
   Lacks e = AnswersEdited Edits Refuses c bytes (Err e)
 
-  -- that is an answer, whatever is told
-  pub text_refused : (X : Type 0) (Told : X → Type 0) (Large : Type 0) (e : Error) → Lacks e → AnswersText {X = X} c bytes choices text Told Large (Err e)
-  text_refused X Told Large (error.Memory m) h = tt
-  text_refused X Told Large (error.InvalidWasm k) h = h
-  text_refused X Told Large error.TooLarge h = inl h
-  text_refused X Told Large _ h = h
-
   valid : (k : ErrorKind) → Refuses (contents_of read) (error.InvalidWasm k) → ⊥
   valid k (inl h) = h
   valid k (inr h) = h.2
@@ -198,12 +225,6 @@ module _ {V : Type 0} {O : V → Type 0} (G : (v : V) → Ghosts (O v)) (choices
   small : Refuses (contents_of read) error.TooLarge → ⊥
   small (inl h) = h
   small (inr h) = h.2
-
-  -- bytes that aren't parsed
-  pub bytes_lack : (e : Error) → RefusesBytes c bytes e → Lacks e
-  bytes_lack (error.Memory m) h = tt
-  bytes_lack (error.InvalidWasm k) h = h
-  bytes_lack _ h = absurd h
 
   -- a choice fits no export
   pub choice_lacks : (e : Error) → RefusesChosen choices (contents_of read) e → Lacks e
@@ -224,6 +245,11 @@ module _ {V : Type 0} {O : V → Type 0} (G : (v : V) → Ghosts (O v)) (choices
     pub own : edited.customs ≡ read.customs
     own = ap (λ (m : Module (SectionEntry V O)). m.customs) kept.others
 
+    -- the search for a chain, or that of gc, refuses
+    pub search_stops : (raws : List RawCustomSection) → sections read.customs ≡ raw_sections raws → settings read ≡ g → (e : Error)
+        → RefusesSearch (ReachesUnsound (view G edited)) (OneMayRefuse (meanings G edited)) e → Lacks e
+    search_stops raws are configured e h = search_lacks G Edits Refuses g plain bytes read parsed edited edits own whole raws are (ap settings kept.others ∙ configured) e h
+
     module _ (raws : List RawCustomSection) (are : sections read.customs ≡ raw_sections raws) (stays : Module (SectionEntry V O)) (ran : Collects G edited stays) where
       raw_still : sections stays.customs ≡ raw_sections raws
       raw_still = ap sections (ran.others.customs ∙ own) ∙ are
@@ -243,6 +269,35 @@ module _ {V : Type 0} {O : V → Type 0} (G : (v : V) → Ghosts (O v)) (choices
       callers_lack (error.Memory m) h = tt
       callers_lack error.DeadItem h = absurd (left_sound G edited stays ran h)
       callers_lack _ h = absurd h
+
+      module _ (configured : settings read ≡ g) (back : Module (SectionEntry V O)) (again : HoldsSame stays back) (left : Module (SectionEntry V O)) where
+        set_so : settings edited ≡ g
+        set_so = ap settings kept.others ∙ configured
+
+        collected : Collected (view G edited) (view G back)
+        collected = subst (λ (v : Abstract). Collected (view G edited) v) (sym (same_view G stays back again)) ran.collected
+
+        same_customs : back.customs ≡ edited.customs
+        same_customs = ap (λ (m : Module (SectionEntry V O)). m.customs) again.others ∙ ran.others.customs
+
+        set_back : settings back ≡ settings edited
+        set_back = ap settings again.others ∙ ran.others.settings
+
+        module _ (answer : Result (Vec ℕ × CodeTransform) Error) (emits : EmitsTransform G back left true answer) where
+          stay : left.customs ≡ back.customs
+          stay = (emits.emits).raw (all_raw back.customs raws (ap sections (same_customs ∙ own) ∙ are))
+
+        -- emission refuses
+        pub way_lacks : (e : Error) → EmitsTransform G back left true (Err e) → Lacks e
+        way_lacks e h =
+            emission_lacks G Edits Refuses g plain bytes read parsed edited edits own whole raws are set_so back collected same_customs left (stay (Err e) h) (settings back) set_back e
+            (h.emits).left (h.emits).well_made
+
+        -- the whole way
+        abbrev pub way_measured : (output : Vec ℕ) (transform : CodeTransform) → EmitsTransform G back left true (Ok (output, transform)) → IsMeasured Edits c bytes (view G left) (transform_of transform)
+        way_measured output transform h =
+            measured G Edits Refuses g plain bytes read parsed edited edits own whole raws are set_so back collected same_customs left (stay (Ok (output, transform)) h)
+            (h.emits).left (settings back) (set_back ∙ set_so) output transform (h.emits).well_made (h.transform (inr refl))
 
     module _ (u : Abstract) (transform : Transform) (m : IsMeasured Edits c bytes u transform) (held : m.comes.module_edited ≡ contents_of edited) (same : m.comes.customs ≡ (view G read).customs)
         (x : Item) (means : MeansItem (functions edited.funcs) (exports edited.exports) text x) where

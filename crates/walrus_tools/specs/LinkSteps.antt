@@ -1,12 +1,17 @@
 -- The steps to what is told of items: names that are lent, and exports by what they export.
-use Rattle.std.specs.Prelude.{◌≡◌, ◌++◌, ◌<◌, ◌&&◌, ℕ, Bool, List, [], ◌∷◌, Option, Some, None, AllPairs, filter, map, nat_eq, if◌then◌else◌}
+use Rattle.std.specs.Prelude.{◌≡◌, ◌++◌, ◌-◌, ◌<◌, ◌&&◌, ℕ, Bool, List, [], ◌∷◌, Option, Some, None, AllPairs, filter, length, map, nat_eq, slice_index_or, if◌then◌else◌}
 use Rattle.std.specs.Borrow.{Bor}
 use Rattle.std.specs.Global.{Vec}
 use Rattle.std.specs.HashMap.{get}
-use Rattle.walrus_base.specs.Operators.{Item}
+use Rattle.std.specs.declared.ops.Range.{Range}
+use Rattle.walrus_base.specs.Operators.{Item, function_item}
+use Rattle.walrus_base.specs.declared.id.Id.{Id}
+use Rattle.walrus_base.specs.declared.keys.FunctionKey.{FunctionKey}
 use Rattle.walrus_items.specs.Exports.{ExportValue}
 use Rattle.walrus_items.specs.Items.{is_item, space_number}
 use Rattle.walrus_items.specs.Kinds.{exported}
+use Rattle.walrus_items.specs.Transform.{range_of}
+use Rattle.walrus_tools.specs.Links.{body_size}
 use Rattle.walrus_tools.specs.declared.export_groups.ExportGroups.{ExportGroups}
 
 -- ---- what is lent
@@ -25,6 +30,12 @@ texts names = map (λ n. n.now) names
 -- functions stand by rising id
 abbrev pub AreRising : List (ℕ × (ℕ × ℕ)) → Type 0
 AreRising bodies = AllPairs (λ (a : ℕ × (ℕ × ℕ)) (b : ℕ × (ℕ × ℕ)). a.0 < b.0) bodies
+
+-- the body of function f stands at this place, or nowhere
+abbrev pub FindsBody : List (Id FunctionKey × Range ℕ) → (f : ℕ) → Option ℕ → Type 0
+FindsBody all f None = body_size (map range_of all) (function_item f) ≡ None
+FindsBody all f (Some at) =
+    (at < length all) × ((d : Id FunctionKey × Range ℕ) → body_size (map range_of all) (function_item f) ≡ Some ((range_of (slice_index_or all at d)).1.1 - (range_of (slice_index_or all at d)).1.0))
 
 -- ---- exports by what they export
 

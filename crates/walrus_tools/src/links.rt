@@ -2,6 +2,7 @@
 
 ghost use Rattle.std.specs.Option.{option_to_list};
 ghost use Rattle.std.specs.Prelude.{◌≡◌, IfOk, map, option_map, string_bytes};
+ghost use Rattle.walrus_base.specs.Id.{place};
 ghost use Rattle.walrus_code.specs.Code.{item_of};
 ghost use Rattle.walrus_base.specs.Arena.{items};
 ghost use Rattle.walrus_contents.specs.Named.{items_in};
@@ -9,7 +10,7 @@ ghost use Rattle.walrus_contents.specs.View.{parts_view};
 ghost use Rattle.walrus_items.specs.Exports.{exports};
 ghost use Rattle.walrus_items.specs.Seen.{text_of};
 ghost use Rattle.walrus_items.specs.Transform.{range_of};
-ghost use Rattle.walrus_tools.specs.LinkSteps.{AreRising, GroupsExports, lent_name, texts};
+ghost use Rattle.walrus_tools.specs.LinkSteps.{AreRising, FindsBody, GroupsExports, lent_name, texts};
 ghost use Rattle.walrus_tools.specs.Links.{body_size, link_of, link_seen};
 
 use crate::export_groups::{ExportGroups, groups_of, names_of};
@@ -54,6 +55,18 @@ fn all_owned(alloc: Global, names: &[&str]) -> result::Result<Vec<String>, Alloc
     Ok(all)
 }
 
+// The place of the body of the function of this id, if it is one of these.
+fn place_of(bodies: &[(FunctionId, Range<usize>)], id: FunctionId) -> Option<usize>
+    requires { AreRising (map range_of bodies.now) }
+    ensures { FindsBody bodies.now (place id) result }
+{
+    let index = id.index();
+    match bodies.binary_search_by_key(&index, |body| body.0.index()) {
+        Ok(at) => Some(at),
+        Err(_) => None,
+    }
+}
+
 // How many bytes the body of the function has that the item is, if it is one of these.
 fn body_size(bodies: &[(FunctionId, Range<usize>)], item: ItemId) -> Option<usize>
     requires { AreRising (map range_of bodies.now) }
@@ -62,9 +75,7 @@ fn body_size(bodies: &[(FunctionId, Range<usize>)], item: ItemId) -> Option<usiz
     let ItemId::Function(id) = item else {
         return None;
     };
-    let Ok(at) = bodies.binary_search_by_key(&id.index(), |body| body.0.index()) else {
-        return None;
-    };
+    let at = place_of(bodies, id)?;
     let range = &bodies[at].1;
     Some(range.end.saturating_sub(range.start))
 }

@@ -6,9 +6,9 @@ use std::{error, fmt};
 /// Why a call has no answer. Nothing is left of a call that was refused.
 ///
 /// ```
-/// use mulkavesh::{gc, Beginning, Error, Fault, Flags};
+/// use mulkavesh::{gc, Beginning, Error, Fault, Flags, Roots};
 ///
-/// let error = gc(b"no module", Flags::default()).unwrap_err();
+/// let error = gc(b"no module", Flags::default(), Roots::default()).unwrap_err();
 /// assert_eq!(error, Error::Invalid(Fault::Header(Beginning::Other)));
 /// let text = "the input WebAssembly is invalid: the bytes don't begin as a WebAssembly module";
 /// assert_eq!(error.to_string(), text);

@@ -1,19 +1,122 @@
-use Rattle.std.proofs.Common.{ap, refl, ◌∙◌, subst, sym, inl, inr}
+use Rattle.std.proofs.Common.{ap, refl, ◌∙◌, subst, sym}
 use Rattle.std.proofs.lemmas.Result.{err_from_is_err_and}
 use Rattle.std.specs.Prelude.{Err, Ok, map, option_map}
+use Rattle.walrus_base.specs.declared.keys.FunctionKey.{FunctionKey}
+use Rattle.walrus_base.specs.declared.marks.Marks.{Marks}
 use Rattle.walrus_code.specs.Code.{item_of}
-use Rattle.walrus_model.specs.Abstract.{Abstract}
-use Rattle.walrus_model.specs.Pipeline.{Collected}
 use Rattle.walrus_contents.specs.Named.{items_in}
 use Rattle.walrus_items.specs.Transform.{range_of, transform_of}
-use Rattle.walrus_module.specs.Customs.{sections}
 use Rattle.walrus_module.specs.Flags.{Flags, config_of, flags}
-use Rattle.walrus_module.specs.Settings.{settings}
-use Rattle.walrus_module.specs.View.{view}
-use Rattle.walrus_module.proofs.RawStays.{all_raw}
 use Rattle.walrus_tools.specs.Choice.{choices_seen}
-use Rattle.walrus_tools.specs.ReasonAnswers.{AnswersWhy, IsReasoned}
-use Rattle.walrus_tools.specs.ReasonBytes.{reason_seen}
-use Rattle.walrus_tools.specs.declared.reasons.Reason.{Reason}
-use Rattle.walrus_tools.proofs.WhyEnds.{alone_so, bytes_lack, choice_lacks, goers_lack, goers_stay, text_lacks, text_refused, way_lacks, way_measured, why_told}
+use Rattle.walrus_tools.specs.ReasonAnswers.{AnswersWhy}
+use Rattle.walrus_tools.specs.AloneSteps.{alone_in}
+use Rattle.walrus_tools.specs.Links.{links_in}
+use Rattle.walrus_tools.proofs.WhyEnds.{alone_so, bytes_lack, choice_lacks, goers_lack, goers_stay, search_stops, text_lacks, way_lacks, way_measured, why_refused, why_told}
 use Rattle.walrus_tools.proofs.tool.why.why.Goals as goal
+
+pub returns-in_err-module : goal.returns-in_err-module
+returns-in_err-module c =
+    let choices = choices_seen c.args.choices.now in
+    let p = err_from_is_err_and c.from_residual-in_err-module.result c.from_residual-in_err-module.ensures.1 in
+    let same = c.of_choices-config.ensures.value in
+    let f = flags c.of_choices-config.result in
+    rw (p.1, p.2) (subst (λ (f : Flags). AnswersWhy (config_of f) c.args.bytes.now choices c.args.text.now (Err c.in_err-module.field-0.0)) same
+    (why_refused (config_of f) c.args.bytes.now choices c.args.text.now _ (bytes_lack (config_of f) c.args.bytes.now choices c.args.text.now _ c.in_err-module.ensures)))
+
+pub returns-in_err-keep_chosen : goal.returns-in_err-keep_chosen
+returns-in_err-keep_chosen c =
+    let choices = choices_seen c.args.choices.now in
+    let p = err_from_is_err_and c.from_residual-in_err-keep_chosen.result c.from_residual-in_err-keep_chosen.ensures.1 in
+    let same = c.of_choices-config.ensures.value in
+    let f = flags c.of_choices-config.result in
+    let read = c.in_ok-module in
+    rw (p.1, p.2) (subst (λ (f : Flags). AnswersWhy (config_of f) c.args.bytes.now choices c.args.text.now (Err c.in_err-keep_chosen.field-0.0)) same
+    (why_refused (config_of f) c.args.bytes.now choices c.args.text.now _ (choice_lacks _ choices c.args.text.now f (ap (λ (f : Flags). f.preserve_code_transform) same) c.args.bytes.now read.module read.ensures.found _ c.in_err-keep_chosen.ensures)))
+
+pub returns-in_err-item : goal.returns-in_err-item
+returns-in_err-item c =
+    let choices = choices_seen c.args.choices.now in
+    let p = err_from_is_err_and c.from_residual-in_err-item.result c.from_residual-in_err-item.ensures.1 in
+    let same = c.of_choices-config.ensures.value in
+    let f = flags c.of_choices-config.result in
+    let read = c.in_ok-module in
+    let edited = c.keep_chosen.new.module in
+    let kept = c.in_ok-keep_chosen.ensures in
+    rw (p.1, p.2) (subst (λ (f : Flags). AnswersWhy (config_of f) c.args.bytes.now choices c.args.text.now (Err c.in_err-item.field-0.0)) same
+    (why_refused (config_of f) c.args.bytes.now choices c.args.text.now _ (text_lacks _ choices c.args.text.now f (ap (λ (f : Flags). f.preserve_code_transform) same) c.args.bytes.now read.module read.ensures.found edited kept _ c.in_err-item.ensures)))
+
+pub returns-in_err-chain : goal.returns-in_err-chain
+returns-in_err-chain c =
+    let choices = choices_seen c.args.choices.now in
+    let p = err_from_is_err_and c.from_residual-in_err-chain.result c.from_residual-in_err-chain.ensures.1 in
+    let same = c.of_choices-config.ensures.value in
+    let f = flags c.of_choices-config.result in
+    let read = c.in_ok-module in
+    let edited = c.keep_chosen.new.module in
+    let kept = c.in_ok-keep_chosen.ensures in
+    rw (p.1, p.2) (subst (λ (f : Flags). AnswersWhy (config_of f) c.args.bytes.now choices c.args.text.now (Err c.in_err-chain.field-0.0)) same
+    (why_refused (config_of f) c.args.bytes.now choices c.args.text.now _ (search_stops _ choices c.args.text.now f (ap (λ (f : Flags). f.preserve_code_transform) same) c.args.bytes.now read.module read.ensures.found edited kept read.ensures.kept.raws read.ensures.kept.are read.ensures.configured _ c.in_err-chain.ensures)))
+
+pub returns-in_err-run : goal.returns-in_err-run
+returns-in_err-run c =
+    let choices = choices_seen c.args.choices.now in
+    let p = err_from_is_err_and c.from_residual-in_err-run.result c.from_residual-in_err-run.ensures.1 in
+    let same = c.of_choices-config.ensures.value in
+    let f = flags c.of_choices-config.result in
+    let read = c.in_ok-module in
+    let edited = c.keep_chosen.new.module in
+    let kept = c.in_ok-keep_chosen.ensures in
+    rw (p.1, p.2) (subst (λ (f : Flags). AnswersWhy (config_of f) c.args.bytes.now choices c.args.text.now (Err c.in_err-run.field-0.0)) same
+    (why_refused (config_of f) c.args.bytes.now choices c.args.text.now _ (search_stops _ choices c.args.text.now f (ap (λ (f : Flags). f.preserve_code_transform) same) c.args.bytes.now read.module read.ensures.found edited kept read.ensures.kept.raws read.ensures.kept.are read.ensures.configured _ c.in_err-run.ensures.refused)))
+
+pub returns-in_err-marks : goal.returns-in_err-marks
+returns-in_err-marks c =
+    let choices = choices_seen c.args.choices.now in
+    let p = err_from_is_err_and c.from_residual-in_err-marks.result c.from_residual-in_err-marks.ensures.1 in
+    let same = c.of_choices-config.ensures.value in
+    let f = flags c.of_choices-config.result in
+    let read = c.in_ok-module in
+    let edited = c.keep_chosen.new.module in
+    let kept = c.in_ok-keep_chosen.ensures in
+    let stays = c.run.new.module in
+    let ran = c.in_ok-run.ensures in
+    rw (p.1, p.2) (subst (λ (f : Flags). AnswersWhy (config_of f) c.args.bytes.now choices c.args.text.now (Err c.in_err-marks.field-0.0)) same
+    (why_refused (config_of f) c.args.bytes.now choices c.args.text.now _ (goers_lack _ choices c.args.text.now f (ap (λ (f : Flags). f.preserve_code_transform) same) c.args.bytes.now read.module read.ensures.found edited kept read.ensures.kept.raws read.ensures.kept.are stays ran (item_of c.in_ok-item.item) _ c.in_err-marks.ensures)))
+
+pub returns-in_err-output : goal.returns-in_err-output
+returns-in_err-output c =
+    let choices = choices_seen c.args.choices.now in
+    let p = err_from_is_err_and c.from_residual-in_err-output.result c.from_residual-in_err-output.ensures.1 in
+    let same = c.of_choices-config.ensures.value in
+    let f = flags c.of_choices-config.result in
+    let read = c.in_ok-module in
+    let edited = c.keep_chosen.new.module in
+    let kept = c.in_ok-keep_chosen.ensures in
+    let stays = c.run.new.module in
+    let ran = c.in_ok-run.ensures in
+    let back = c.goers_with.new.module in
+    let again = goers_stay _ (item_of c.in_ok-item.item) stays back c.in_ok-marks.marks c.in_ok-marks.ensures in
+    let left = c.emit_wasm_with_transform.new.self in
+    rw (p.1, p.2) (subst (λ (f : Flags). AnswersWhy (config_of f) c.args.bytes.now choices c.args.text.now (Err c.in_err-output.field-0.0)) same
+    (why_refused (config_of f) c.args.bytes.now choices c.args.text.now _ (way_lacks _ choices c.args.text.now f (ap (λ (f : Flags). f.preserve_code_transform) same) c.args.bytes.now read.module read.ensures.found edited kept read.ensures.kept.raws read.ensures.kept.are stays ran read.ensures.configured back again left _ c.in_err-output.ensures)))
+
+pub returns : goal.returns
+returns c =
+    let choices = choices_seen c.args.choices.now in
+    let same = c.of_choices-config.ensures.value in
+    let f = flags c.of_choices-config.result in
+    let read = c.in_ok-module in
+    let edited = c.keep_chosen.new.module in
+    let kept = c.in_ok-keep_chosen.ensures in
+    let stays = c.run.new.module in
+    let ran = c.in_ok-run.ensures in
+    let back = c.goers_with.new.module in
+    let again = goers_stay _ (item_of c.in_ok-item.item) stays back c.in_ok-marks.marks c.in_ok-marks.ensures in
+    let left = c.emit_wasm_with_transform.new.self in
+    let x = item_of c.in_ok-item.item in
+    let transform = transform_of c.in_ok-output.transform in
+    let m = way_measured _ choices c.args.text.now f (ap (λ (f : Flags). f.preserve_code_transform) same) c.args.bytes.now read.module read.ensures.found edited kept read.ensures.kept.raws read.ensures.kept.are stays ran read.ensures.configured back again left c.in_ok-output.output c.in_ok-output.transform c.in_ok-output.ensures in
+    subst (λ (f : Flags). AnswersWhy (config_of f) c.args.bytes.now choices c.args.text.now (Ok c.Reason)) same
+    (why_told _ choices c.args.text.now f (ap (λ (f : Flags). f.preserve_code_transform) same) c.args.bytes.now read.module read.ensures.found edited kept _ transform m refl refl x c.in_ok-item.ensures (option_map items_in c.in_ok-chain.chain) c.in_ok-chain.ensures
+    (links_in c.in_ok-links.links) c.in_ok-links.ensures c.root_of_chain.result c.root_of_chain.ensures
+    _ (alone_so _ edited stays ran back x transform c.in_ok-marks.marks c.in_ok-marks.ensures))

@@ -1,0 +1,99 @@
+-- A search for the body of a function among bodies that stand by rising id.
+use Rattle.std.proofs.Common.{◌≡◌, ℕ, zero, suc, ◌-◌, ◌<◌, ◌≤◌, Bool, true, false, cond, List, [], ◌∷◌, length, map, get_or, Option, Some, None, Result, Ok, Err, find, option_map, refl, sym, ap, ◌∙◌, arith}
+use Rattle.std.specs.Prelude.{AllPairs, nat_eq}
+use Rattle.std.specs.List.Sorted.{IsBinarySearchResult, IsNonDecreasingBy, IsSearchInRange}
+use Rattle.std.specs.Ordering.{nat_cmp, ordering_index}
+use Rattle.std.specs.declared.ops.Range.{Range}
+use Rattle.std.proofs.lemmas.Bool.{eqb-false, eq-eqb}
+use Rattle.std.proofs.lemmas.Bool.Decides.{nat_tests}
+use Rattle.std.proofs.lemmas.Cmp.{ranked}
+use Rattle.std.proofs.lemmas.List.Sorted.{IsNonDecreasingBy-from_default}
+use Rattle.walrus_base.specs.Id.{place}
+use Rattle.walrus_base.specs.Operators.{function_item}
+use Rattle.walrus_base.specs.declared.id.Id.{Id}
+use Rattle.walrus_base.specs.declared.keys.FunctionKey.{FunctionKey}
+use Rattle.walrus_items.specs.Items.{is_item}
+use Rattle.walrus_items.specs.Transform.{range_of}
+use Rattle.walrus_tools.specs.LinkSteps.{AreRising, FindsBody}
+use Rattle.walrus_tools.specs.Links.{body_size}
+
+abbrev Body : Type 0
+Body = Id FunctionKey × Range ℕ
+
+-- ---- lists
+
+get_map : {X Y : Type 0} (f : X → Y) (xs : List X) (i : ℕ) (d : X) → get_or (map f xs) i (f d) ≡ f (get_or xs i d)
+get_map f [] i d = refl
+get_map f (x ∷ xs) zero d = refl
+get_map f (x ∷ xs) (suc i) d = get_map f xs i d
+
+-- the first that passes
+find_at : {Y : Type 0} (p : Y → Bool) (xs : List Y) (i : ℕ) (d : Y) → i < length xs → p (get_or xs i d) ≡ true → ((j : ℕ) → j < i → p (get_or xs j d) ≡ false) → find p xs ≡ Some (get_or xs i d)
+find_at p [] i d lt yes no = absurd (omega (arith, lt))
+find_at p (x ∷ xs) zero d lt yes no = ap (λ (b : Bool). cond b (Some x) (find p xs)) yes
+find_at p (x ∷ xs) (suc i) d lt yes no =
+    let l : suc i < length (x ∷ xs) = lt in
+    ap (λ (b : Bool). cond b (Some x) (find p xs)) (no zero (omega arith)) ∙ find_at p xs i d (omega (arith, l)) yes (λ j below. no (suc j) (omega (arith, below)))
+
+-- none passes
+find_none : {Y : Type 0} (p : Y → Bool) (xs : List Y) (d : Y) → ((j : ℕ) → j < length xs → p (get_or xs j d) ≡ false) → find p xs ≡ None
+find_none p [] d no = refl
+find_none p (x ∷ xs) d no =
+    ap (λ (b : Bool). cond b (Some x) (find p xs)) (no zero (omega arith)) ∙ find_none p xs d (λ j below. no (suc j) (let l : suc (length xs) ≡ length (x ∷ xs) = refl in omega (arith, below, l)))
+
+length_map : {X Y : Type 0} (f : X → Y) (xs : List X) → length (map f xs) ≡ length xs
+length_map f [] = refl
+length_map f (x ∷ xs) = ap suc (length_map f xs)
+
+-- ---- bodies
+
+-- where a search found something
+abbrev pub result_place : Result ℕ ℕ → Option ℕ
+result_place (Ok at) = Some at
+result_place (Err at) = None
+
+abbrev key : Body → ℕ
+key b = place b.0
+
+module _ (all : List Body) (rise : AreRising (map range_of all)) (f : ℕ) where
+  abbrev test : ℕ × (ℕ × ℕ) → Bool
+  test r = is_item (function_item r.0) (function_item f)
+
+  keys_rise : (d : Body) (i j : ℕ) → i < j → j < length all → key (get_or all i d) < key (get_or all j d)
+  keys_rise d i j lt below =
+      let at : (k : ℕ) → (get_or (map range_of all) k (range_of d)).0 ≡ key (get_or all k d) = λ k. ap (λ (r : ℕ × (ℕ × ℕ)). r.0) (get_map range_of all k d) in
+      let low : (get_or (map range_of all) i (range_of d)).0 < (get_or (map range_of all) j (range_of d)).0 = rise i j (range_of d) lt (omega (arith, below, length_map range_of all)) in
+      omega (arith, low, at i, at j)
+
+  comparisons_rise : (d : Body) → IsNonDecreasingBy (λ (b : Body). ordering_index (nat_cmp (key b) f)) all
+  comparisons_rise d = IsNonDecreasingBy-from_default (λ (b : Body). ordering_index (nat_cmp (key b) f)) all d (λ i j le in_range.
+      let rises : key (get_or all i d) ≤ key (get_or all j d) = grind (arith, keys_rise d i j, λ (same : i ≡ j). ap (λ (k : ℕ). key (get_or all k d)) same) in
+      grind (arith, nat_tests))
+
+  -- a body of another function doesn't pass
+  apart : (d : Body) (k : ℕ) → (key (get_or all k d) ≡ f → ⊥) → test (get_or (map range_of all) k (range_of d)) ≡ false
+  apart d k differs = ap test (get_map range_of all k d) ∙ eqb-false (key (get_or all k d)) f differs
+
+  same : (d : Body) (k : ℕ) → key (get_or all k d) ≡ f → test (get_or (map range_of all) k (range_of d)) ≡ true
+  same d k is = ap test (get_map range_of all k d) ∙ eq-eqb (key (get_or all k d)) f is
+
+  found : (d : Body) (at : ℕ) → at < length all → key (get_or all at d) ≡ f → body_size (map range_of all) (function_item f) ≡ Some ((range_of (get_or all at d)).1.1 - (range_of (get_or all at d)).1.0)
+  found d at below is =
+      ap (option_map (λ (r : ℕ × (ℕ × ℕ)). r.1.1 - r.1.0))
+      (find_at test (map range_of all) at (range_of d) (omega (arith, below, length_map range_of all)) (same d at is)
+      (λ j lt. apart d j (λ s. let low : key (get_or all j d) < key (get_or all at d) = keys_rise d j at lt below in omega (arith, low, s, is)))
+      ∙ ap (λ (r : ℕ × (ℕ × ℕ)). Some r) (get_map range_of all at d))
+
+  lost : (d : Body) (at : ℕ) → ((j : ℕ) → j < at → key (get_or all j d) < f) → ((j : ℕ) → at ≤ j → j < length all → f < key (get_or all j d)) → body_size (map range_of all) (function_item f) ≡ None
+  lost d at low high =
+      ap (option_map (λ (r : ℕ × (ℕ × ℕ)). r.1.1 - r.1.0))
+      (find_none test (map range_of all) (range_of d)
+      (λ j below. let here : j < length all = omega (arith, below, length_map range_of all) in apart d j (λ s. grind (arith, low j, high j, here, s))))
+
+  pub searched : (r : Result ℕ ℕ) → IsSearchInRange r (length all) → IsBinarySearchResult (λ (b : Body). nat_cmp (key b) f) all r → FindsBody all f (result_place r)
+  searched (Ok at) in_range equal = (in_range, λ d. found d at in_range (ranked _ f _ (sym (equal d))))
+  searched (Err at) in_range parted = by all refl where
+    by : (xs : List Body) → all ≡ xs → body_size (map range_of all) (function_item f) ≡ None
+    by [] is = ap (λ (ys : List Body). body_size (map range_of ys) (function_item f)) is
+    by (d ∷ xs) is =
+        lost d at (λ j lt. ranked _ f _ (sym ((parted (comparisons_rise d)).0 j d (omega arith) lt))) (λ j le lt. ranked _ f _ (sym ((parted (comparisons_rise d)).1 j d le lt)))
