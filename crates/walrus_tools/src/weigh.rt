@@ -81,7 +81,7 @@ fn weigh_parts(all: &ModuleFunctions, parts: &[Part<'_>]) -> (usize, usize)
 {
     let mut bodies = 0;
     let mut debug = 0;
-    'parts: for part in parts {
+    'each: for part in parts {
         bodies += body_gone(all, *part);
         debug += debug_size(*part);
     }
