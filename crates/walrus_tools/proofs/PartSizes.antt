@@ -1,7 +1,8 @@
 -- The bodies, and the sections, of a module have no more bytes than the module.
-use Rattle.std.proofs.Common.{◌≡◌, ◌≤◌, ◌+◌, ℕ, suc, Bool, true, false, cond, not, List, [], ◌∷◌, ◌++◌, length, filter, map, sum_by, refl, sym, ap, ◌∙◌, subst, arith, length-append}
+use Rattle.std.proofs.Common.{◌≡◌, ◌≤◌, ◌+◌, ◌<◌, ℕ, suc, Bool, true, false, cond, not, List, [], ◌∷◌, ◌++◌, length, filter, get_or, map, take, sum_by, refl, sym, ap, ◌∙◌, subst, arith, length-append}
 use Rattle.std.specs.Prelude.{Option, Some, None, if◌then◌else◌}
-use Rattle.std.proofs.lemmas.List.Sums.{sum_by-append, sum_by-cons}
+use Rattle.std.proofs.lemmas.List.Sums.{sum_by-append, sum_by-cons, sum_by_more, sum_by_more_le}
+use Rattle.std.proofs.lemmas.List.{take_all}
 use Rattle.wasm_wire.specs.ModuleSpelling.{is_debug_name}
 use Rattle.wasm_entries.specs.Record.{Segment}
 use Rattle.wasm_frames.specs.Frames.{AreBodies, Code, DataSegments, IsContent, Section}
@@ -40,6 +41,18 @@ module _ (passes : Part → Bool) where
   -- those in memory have as many
   pub sizes_are : (parts : List RawPart) → sizes passes parts ≡ bytes_of passes (map part_record parts)
   sizes_are parts = in_memory parts ∙ sym (bytes_by (map part_record parts))
+
+  -- with the next one they have as many more
+  pub sizes_more : (parts : List RawPart) (i : ℕ) (d : RawPart) → i < length parts → (old size : ℕ) → old ≡ sizes passes (take i parts) → size ≡ size_if passes (part_record (get_or parts i d)) → old + size ≡ sizes passes (take (i + 1) parts)
+  sizes_more parts i d below old size were is = omega (arith, sum_by_more (λ (q : RawPart). size_if passes (part_record q)) parts i d below, were, is)
+
+  -- which is no more than all have
+  pub sizes_within : (parts : List RawPart) (i : ℕ) (d : RawPart) → i < length parts → (old size : ℕ) → old ≡ sizes passes (take i parts) → size ≡ size_if passes (part_record (get_or parts i d)) → old + size ≤ sizes passes parts
+  sizes_within parts i d below old size were is = omega (arith, sum_by_more_le (λ (q : RawPart). size_if passes (part_record q)) parts i d below, were, is)
+
+  -- behind the last these are all
+  pub sizes_all : (parts : List RawPart) (i : ℕ) → length parts ≤ i → (old : ℕ) → old ≡ sizes passes (take i parts) → old ≡ sizes passes parts
+  sizes_all parts i past old were = were ∙ ap (sizes passes) (take_all i parts past)
 
   -- ---- parts that don't pass
 

@@ -47,7 +47,7 @@ module _ {V : Type 0} {O : V → Type 0} (G : (v : V) → Ghosts (O v)) (m kept 
     functions_left : (f : ℕ) → (is_left (functions kept.funcs) f ≡ true) ↔ Kept (view G m) (Functions, f)
     functions_left f = (
       λ there. from_slot (item_at (functions kept.funcs) f) refl there,
-      λ k. subst (λ (o : Option FunctionValue). IsSome o) (sym ((c.items.functions).kept f k)) (was_some (function m.locals) (functions m.funcs) f (kept_live G m kept c (Functions, f) k)),
+      λ k. subst (λ (o : Option FunctionValue). IsSome o) (sym ((c.items.functions).kept f k)) (was_some (function m.locals) (item_at (functions m.funcs) f) (kept_live G m kept c (Functions, f) k)),
     )
       where
         from_slot : (o : Option FunctionValue) → item_at (functions kept.funcs) f ≡ o → IsSome o → Kept (view G m) (Functions, f)

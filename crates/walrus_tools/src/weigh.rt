@@ -81,7 +81,7 @@ fn weigh_parts(all: &ModuleFunctions, parts: &[Part<'_>]) -> (usize, usize)
 {
     let mut bodies = 0;
     let mut debug = 0;
-    'parts: for part in parts {
+    'each: for part in parts {
         bodies += body_gone(all, *part);
         debug += debug_size(*part);
     }
@@ -99,7 +99,7 @@ fn weigh_input(alloc: Global, bytes: &[u8], all: &ModuleFunctions) -> Result<(us
 // ---- the whole way
 
 /// The bytes of the module without what nothing reaches, and what is told of it: these bytes were read as so many items, and edited to the module.
-pub(crate) fn weighed(
+pub(crate) fn finished_weighed(
     alloc: Global,
     bytes: &[u8],
     before: Kinds,

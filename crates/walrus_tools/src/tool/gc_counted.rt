@@ -9,7 +9,7 @@ use crate::choice::Choice;
 use crate::keep::keep_chosen;
 use crate::kinds::kinds_of;
 use crate::wanted::Wanted;
-use crate::weigh::{Smaller, weighed};
+use crate::weigh::{Smaller, finished_weighed};
 use std::alloc::Global;
 use walrus::{ModuleConfig, Result};
 
@@ -33,5 +33,5 @@ pub fn gc_counted(
     let mut module = config.parse(alloc, bytes)?;
     let before = kinds_of(&module);
     keep_chosen(alloc, &mut module, choices)?;
-    weighed(alloc, bytes, before, module)
+    finished_weighed(alloc, bytes, before, module)
 }

@@ -1,8 +1,8 @@
 //! What is told of a module that becomes smaller, as lines for people.
 
-ghost use Rattle.std.specs.Prelude.{◌≡◌, ◌++◌, IfOk, OnOk, string_bytes};
+ghost use Rattle.std.specs.Prelude.{◌≡◌, ◌++◌, IfOk, OnOk, codes, string_bytes};
 ghost use Rattle.walrus_theorem.specs.Report.{line};
-ghost use Rattle.walrus_tools.specs.WeighText.{bytes_text, kind_text, kinds_text, longer_text, number_text, rest_of, rest_text, sizes_text, weighed_text};
+ghost use Rattle.walrus_tools.specs.WeighText.{bytes_text, kind_line, kinds_text, longer_line, number_line, rest_line, rest_of, sizes_line, weighed_text};
 
 use crate::kinds::Kinds;
 use crate::weigh::Weighed;
@@ -33,7 +33,7 @@ fn add_kind(
     after: usize,
 ) -> result::Result<(), AllocError>
     ensures { OnOk result (string_bytes text.new ≡ string_bytes text.old
-        ++ kind_text word.now before after) }
+        ++ kind_line word.now before after) }
 {
     let kind = kind_of(alloc, word, after, before.saturating_sub(after))?;
     text.push_str(kind.as_str())
@@ -62,24 +62,57 @@ fn add_kinds(
 
 // The line of what was read and written.
 #[tactic(auto, using(crate::proofs::WeighLines::sizes_nested))]
-fn sizes_of(alloc: Global, read: usize, written: usize) -> result::Result<String, AllocError>
-    ensures { IfOk result (λ text. string_bytes text ≡ sizes_text read written) }
+fn sizes_of(
+    alloc: Global,
+    word: &str,
+    read: usize,
+    written: usize,
+) -> result::Result<String, AllocError>
+    ensures { IfOk result (λ text. string_bytes text ≡ sizes_line word.now read written) }
 {
-    format!(in alloc; "bytes read {read} written {written}\n")
+    format!(in alloc; "{word} read {read} written {written}\n")
+}
+
+// Puts it behind the text.
+fn add_sizes(
+    alloc: Global,
+    text: &mut String,
+    read: usize,
+    written: usize,
+) -> result::Result<(), AllocError>
+    ensures { OnOk result (string_bytes text.new ≡ string_bytes text.old
+        ++ sizes_line (codes "bytes") read written) }
+{
+    let sizes = sizes_of(alloc, "bytes", read, written)?;
+    text.push_str(sizes.as_str())
 }
 
 // A line that ends in a number.
 #[tactic(auto, using(crate::proofs::WeighLines::number_nested))]
 fn number_of(alloc: Global, word: &str, number: usize) -> result::Result<String, AllocError>
-    ensures { IfOk result (λ text. string_bytes text ≡ number_text word.now number) }
+    ensures { IfOk result (λ text. string_bytes text ≡ number_line word.now number) }
 {
     format!(in alloc; "bytes of {word} {number}\n")
+}
+
+// Puts such a line behind the text.
+fn add_number(
+    alloc: Global,
+    text: &mut String,
+    word: &str,
+    number: usize,
+) -> result::Result<(), AllocError>
+    ensures { OnOk result (string_bytes text.new ≡ string_bytes text.old
+        ++ number_line word.now number) }
+{
+    let line = number_of(alloc, word, number)?;
+    text.push_str(line.as_str())
 }
 
 // The line of what is neither: so many bytes became so many others.
 #[tactic(auto, using(crate::proofs::WeighLines::rest_nested))]
 fn rest_line(alloc: Global, rest: usize, written: usize) -> result::Result<String, AllocError>
-    ensures { IfOk result (λ text. string_bytes text ≡ rest_text rest written) }
+    ensures { IfOk result (λ text. string_bytes text ≡ rest_line rest written) }
 {
     if rest < written {
         let more = written - rest;
@@ -89,9 +122,22 @@ fn rest_line(alloc: Global, rest: usize, written: usize) -> result::Result<Strin
     format!(in alloc; "bytes of the rest {less} less\n")
 }
 
+// Puts it behind the text.
+fn add_rest(
+    alloc: Global,
+    text: &mut String,
+    rest: usize,
+    written: usize,
+) -> result::Result<(), AllocError>
+    ensures { OnOk result (string_bytes text.new ≡ string_bytes text.old ++ rest_line rest written) }
+{
+    let line = rest_line(alloc, rest, written)?;
+    text.push_str(line.as_str())
+}
+
 // Why there is more than there was, where it is so.
 fn longer(read: usize, written: usize) -> &'static str
-    ensures { result.now ≡ longer_text read written }
+    ensures { result.now ≡ longer_line read written }
 {
     if read < written {
         return "functions stand by falling size, so indices may take more bytes\n";
@@ -103,14 +149,10 @@ fn longer(read: usize, written: usize) -> &'static str
 fn add_bytes(alloc: Global, text: &mut String, told: Weighed) -> result::Result<(), AllocError>
     ensures { OnOk result (string_bytes text.new ≡ string_bytes text.old ++ bytes_text told) }
 {
-    let sizes = sizes_of(alloc, told.read, told.written)?;
-    text.push_str(sizes.as_str())?;
-    let bodies = number_of(alloc, "dropped functions", told.bodies)?;
-    text.push_str(bodies.as_str())?;
-    let debug = number_of(alloc, "debug information", told.debug)?;
-    text.push_str(debug.as_str())?;
-    let rest = rest_line(alloc, rest_of(told), told.written)?;
-    text.push_str(rest.as_str())?;
+    add_sizes(alloc, text, told.read, told.written)?;
+    add_number(alloc, text, "dropped functions", told.bodies)?;
+    add_number(alloc, text, "debug information", told.debug)?;
+    add_rest(alloc, text, rest_of(told), told.written)?;
     text.push_str(longer(told.read, told.written))?;
     Ok(())
 }

@@ -9,7 +9,7 @@ use crate::function_meaning::Meant;
 use crate::kinds::kinds_of;
 use crate::trap_bodies::trap_meant;
 use crate::wanted::Wanted;
-use crate::weigh::{Smaller, weighed};
+use crate::weigh::{Smaller, finished_weighed};
 use std::alloc::Global;
 use walrus::{ModuleConfig, Result};
 
@@ -33,5 +33,5 @@ pub fn snip_counted(
     let mut module = config.parse(alloc, bytes)?;
     let before = kinds_of(&module);
     trap_meant(alloc, &mut module, functions)?;
-    weighed(alloc, bytes, before, module)
+    finished_weighed(alloc, bytes, before, module)
 }

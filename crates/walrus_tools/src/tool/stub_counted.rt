@@ -9,7 +9,7 @@ use crate::choice::Choice;
 use crate::kinds::kinds_of;
 use crate::tool::stub_matching::stub_chosen;
 use crate::wanted::Wanted;
-use crate::weigh::{Smaller, weighed};
+use crate::weigh::{Smaller, finished_weighed};
 use std::alloc::Global;
 use walrus::{ModuleConfig, Result};
 
@@ -35,5 +35,5 @@ pub fn stub_counted(
     let mut module = config.parse(alloc, bytes)?;
     let before = kinds_of(&module);
     stub_chosen(alloc, &mut module, modules, names)?;
-    weighed(alloc, bytes, before, module)
+    finished_weighed(alloc, bytes, before, module)
 }

@@ -22,8 +22,8 @@ returns-in_err-keep_chosen c =
     (refused_weighed (KeepsChosen choices) (RefusesChosen choices) (config_of f) c.args.bytes.now _
     (edit_refused _ (KeepsChosen choices) (RefusesChosen choices) (config_of f) c.args.bytes.now read.module read.ensures.found (λ k h. h) (λ h. h) _ c.in_err-keep_chosen.ensures)))
 
-pub weighed-requires : goal.weighed-requires
-weighed-requires c =
+pub finished_weighed-requires : goal.finished_weighed-requires
+finished_weighed-requires c =
     let choices = choices_seen c.args.choices.now in
     let read = c.in_ok-module in
     let f = flags c.of_choices-config.result in
@@ -40,6 +40,6 @@ returns c =
     let f = flags c.of_choices-config.result in
     let whole = parsed_whole _ (KeepsChosen choices) (RefusesChosen choices) (config_of f) c.args.bytes.now read.module read.ensures.found in
     let done = c.in_ok-keep_chosen.ensures in
-    subst (λ (g : Flags). AnswersWeighed (KeepsChosen choices) (RefusesChosen choices) (config_of g) c.args.bytes.now c.weighed.result) c.of_choices-config.ensures.value
+    subst (λ (g : Flags). AnswersWeighed (KeepsChosen choices) (RefusesChosen choices) (config_of g) c.args.bytes.now c.finished_weighed.result) c.of_choices-config.ensures.value
     (edit_weighs _ (KeepsChosen choices) (RefusesChosen choices) (config_of f) c.args.bytes.now read.module read.ensures.found c.kinds_of-before.result c.kinds_of-before.ensures
-    _ (chosen_held choices read.module _ done) (ap (λ m. m.customs) done.others) (chosen_whole choices read.module _ done (config_of f) whole) f (ap settings done.others ∙ read.ensures.configured) refl c.weighed.result c.weighed.ensures)
+    _ (chosen_held choices read.module _ done) (ap (λ m. m.customs) done.others) (chosen_whole choices read.module _ done (config_of f) whole) f (ap settings done.others ∙ read.ensures.configured) refl c.finished_weighed.result c.finished_weighed.ensures)

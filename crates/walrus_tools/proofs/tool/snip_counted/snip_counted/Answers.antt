@@ -23,8 +23,8 @@ returns-in_err-trap_meant c =
     (edit_refused _ (SnipsMeant all) (RefusesMeant all) (config_of f) c.args.bytes.now read.module read.ensures.found (λ k h. h) (λ h. h) _
     (c.in_err-trap_meant.ensures (config_of f) (parsed_whole _ (SnipsMeant all) (RefusesMeant all) (config_of f) c.args.bytes.now read.module read.ensures.found)))))
 
-pub weighed-requires : goal.weighed-requires
-weighed-requires c =
+pub finished_weighed-requires : goal.finished_weighed-requires
+finished_weighed-requires c =
     let all = texts c.args.functions.now in
     let read = c.in_ok-module in
     let f = flags c.of_choices-config.result in
@@ -41,6 +41,6 @@ returns c =
     let f = flags c.of_choices-config.result in
     let whole = parsed_whole _ (SnipsMeant all) (RefusesMeant all) (config_of f) c.args.bytes.now read.module read.ensures.found in
     let done = c.in_ok-trap_meant.ensures (config_of f) whole in
-    subst (λ (g : Flags). AnswersWeighed (SnipsMeant all) (RefusesMeant all) (config_of g) c.args.bytes.now c.weighed.result) c.of_choices-config.ensures.value
+    subst (λ (g : Flags). AnswersWeighed (SnipsMeant all) (RefusesMeant all) (config_of g) c.args.bytes.now c.finished_weighed.result) c.of_choices-config.ensures.value
     (edit_weighs _ (SnipsMeant all) (RefusesMeant all) (config_of f) c.args.bytes.now read.module read.ensures.found c.kinds_of-before.result c.kinds_of-before.ensures
-    _ (snips_meant all read.module _ done.0) (ap (λ m. m.customs) (done.0).others) (done.1) f (ap settings (done.0).others ∙ read.ensures.configured) refl c.weighed.result c.weighed.ensures)
+    _ (snips_meant all read.module _ done.0) (ap (λ m. m.customs) (done.0).others) (done.1) f (ap settings (done.0).others ∙ read.ensures.configured) refl c.finished_weighed.result c.finished_weighed.ensures)

@@ -24,8 +24,8 @@ returns-in_err-stub_chosen c =
     (edit_refused _ (StubsMatching ms ns) (RefusesMatching ms ns) (config_of f) c.args.bytes.now read.module read.ensures.found (λ k h. h) (λ h. h) _
     (c.in_err-stub_chosen.ensures (config_of f) (parsed_whole _ (StubsMatching ms ns) (RefusesMatching ms ns) (config_of f) c.args.bytes.now read.module read.ensures.found)))))
 
-pub weighed-requires : goal.weighed-requires
-weighed-requires c =
+pub finished_weighed-requires : goal.finished_weighed-requires
+finished_weighed-requires c =
     let ms = choices_seen c.args.modules.now in
     let ns = choices_seen c.args.names.now in
     let read = c.in_ok-module in
@@ -44,6 +44,6 @@ returns c =
     let f = flags c.of_choices-config.result in
     let whole = parsed_whole _ (StubsMatching ms ns) (RefusesMatching ms ns) (config_of f) c.args.bytes.now read.module read.ensures.found in
     let done = c.in_ok-stub_chosen.ensures (config_of f) whole in
-    subst (λ (g : Flags). AnswersWeighed (StubsMatching ms ns) (RefusesMatching ms ns) (config_of g) c.args.bytes.now c.weighed.result) c.of_choices-config.ensures.value
+    subst (λ (g : Flags). AnswersWeighed (StubsMatching ms ns) (RefusesMatching ms ns) (config_of g) c.args.bytes.now c.finished_weighed.result) c.of_choices-config.ensures.value
     (edit_weighs _ (StubsMatching ms ns) (RefusesMatching ms ns) (config_of f) c.args.bytes.now read.module read.ensures.found c.kinds_of-before.result c.kinds_of-before.ensures
-    _ (matching_held ms ns read.module _ done.0) (ap (λ m. m.customs) (done.0).stubs.others) (done.1) f (ap settings (done.0).stubs.others ∙ read.ensures.configured) refl c.weighed.result c.weighed.ensures)
+    _ (matching_held ms ns read.module _ done.0) (ap (λ m. m.customs) (done.0).stubs.others) (done.1) f (ap settings (done.0).stubs.others ∙ read.ensures.configured) refl c.finished_weighed.result c.finished_weighed.ensures)

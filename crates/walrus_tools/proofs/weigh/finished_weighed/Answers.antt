@@ -5,7 +5,7 @@ use Rattle.walrus_module.specs.Flags.{Flags}
 use Rattle.walrus_module.specs.Settings.{settings}
 use Rattle.walrus_tools.proofs.FinishLemmas.{finished, none_dead, search_refused, sections_stay}
 use Rattle.walrus_tools.proofs.WeighEnds.{no_input, not_finished, told}
-use Rattle.walrus_tools.proofs.weigh.weighed.Goals as goal
+use Rattle.walrus_tools.proofs.weigh.finished_weighed.Goals as goal
 
 pub returns-in_err-run : goal.returns-in_err-run
 returns-in_err-run g c =
