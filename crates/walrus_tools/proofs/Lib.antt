@@ -30,6 +30,7 @@ mod ImportMatches
 mod KeptWhole
 mod KindLemmas
 mod LineLemmas
+mod LinkLemmas
 mod ListedBytes
 mod ListedEnds
 mod ListedReached
@@ -61,6 +62,7 @@ mod Places
 pub use Rattle.walrus.proofs.DeviceLemmas
 mod ReadBodies
 mod ReasonEnds
+mod ReasonSpelled
 pub mod Records
 mod RenameSteps
 mod RootLemmas
