@@ -5,13 +5,16 @@ use Rattle.std.specs.Borrow.{Bor}
 use Rattle.std.specs.Global.{Vec}
 use Rattle.std.specs.HashMap.{HashMap, UpdatesBy, WritesThrough, get}
 use Rattle.std.proofs.lemmas.Bool.{and_parts as both}
-use Rattle.std.proofs.lemmas.List.{append-nil, map-append}
+use Rattle.std.proofs.lemmas.List.{append-nil, map-append, map_more}
 use Rattle.std.proofs.lemmas.List.Elements.{filter-append}
 use Rattle.walrus_base.specs.Operators.{Item}
+use Rattle.walrus_model.specs.Abstract.{Export, Name}
+use Rattle.walrus_contents.specs.View.{export_of}
 use Rattle.walrus_items.specs.Exports.{ExportValue}
 use Rattle.walrus_items.specs.Items.{is_item}
 use Rattle.walrus_items.specs.Kinds.{exported}
 use Rattle.walrus_tools.specs.LinkSteps.{GroupsExports, key_of, names_at, names_of, same_key, texts, texts_of}
+use Rattle.walrus_tools.specs.Links.{LinkTold}
 use Rattle.walrus_tools.specs.declared.export_groups.ExportGroups.{ExportGroups}
 
 -- ---- one name more
@@ -57,3 +60,41 @@ pub next_grouped : (all : List ExportValue) (e : ExportValue) (old new : ExportG
     → ((other : ℕ × ℕ) → names_at new other ≡ names_at old other ++ name_if (same_key (key_of (exported e.item)) other) e.name) → GroupsExports (all ++ e ∷ []) new
 next_grouped all e old new grouped adds x =
     adds (key_of x) ∙ ap (λ (ns : List (List ℕ)). ns ++ name_if (is_item (exported e.item) x) e.name) (grouped x) ∙ sym (names_more all e x)
+
+-- ---- lists
+
+-- behind what is told of those before stands what is told of the next
+pub told_more : {W X Y : Type 0} (f : W → Y) (seen : X → Y) (all : List W) (i : ℕ) (w : W) → i < length all → w ≡ get_or all i w → (old new : List X) (x : X) → new ≡ old ++ x ∷ []
+    → map seen old ≡ map f (take i all) → seen x ≡ f w → map seen new ≡ map f (take (i + 1) all)
+told_more f seen all i w lt at old new x is were same =
+    ap (map seen) is ∙ map-append seen old (x ∷ []) ∙ ap₂ (λ ys y. ys ++ y ∷ []) were (same ∙ ap f at) ∙ sym (map_more f all i w lt)
+
+-- the same of items by their ids
+pub item_told_more : {W Z X Y : Type 0} (h : W → Z) (f : Z → Y) (seen : X → Y) (all : List W) (i : ℕ) (w : W) → i < length all → w ≡ get_or all i w → (old new : List X) (x : X) → new ≡ old ++ x ∷ []
+    → map seen old ≡ map f (map h (take i all)) → seen x ≡ f (h w) → map seen new ≡ map f (map h (take (i + 1) all))
+item_told_more h f seen all i w lt at old new x is were same =
+    ap (map seen) is ∙ map-append seen old (x ∷ []) ∙ ap₂ (λ ys y. ys ++ y ∷ []) were (same ∙ ap (λ v. f (h v)) at)
+    ∙ sym (map-append f (map h (take i all)) (h (get_or all i w) ∷ [])) ∙ sym (ap (map f) (map_more h all i w lt))
+
+-- ---- one link
+
+-- the names under which a module exports an item
+pub exported_so : (all : List ExportValue) (x : Item) → names_of all x ≡ map (λ (e : Export). e.name) (filter (λ (e : Export). is_item e.item x) (map export_of all))
+exported_so [] x = refl
+exported_so (e ∷ all) x = step (is_item (exported e.item) x) (exported_so all x) where
+  abbrev own : List ExportValue
+  own = filter (λ (d : ExportValue). is_item (exported d.item) x) all
+
+  abbrev other : List Export
+  other = filter (λ (d : Export). is_item d.item x) (map export_of all)
+
+  step : (b : Bool) → map (λ (d : ExportValue). d.name) own ≡ map (λ (d : Export). d.name) other
+      → map (λ (d : ExportValue). d.name) (cond b (e ∷ own) own) ≡ map (λ (d : Export). d.name) (cond b (export_of e ∷ other) other)
+  step true same = ap (λ (ns : List (List ℕ)). e.name ∷ ns) same
+  step false same = same
+
+abbrev told : Item → List Name → List Name → Option ℕ → LinkTold
+told x name exports size = record { item = x; name = name; exports = exports; size = size }
+
+pub link_same : (x : Item) (n m e f : List Name) (s t : Option ℕ) → n ≡ m → e ≡ f → s ≡ t → told x n e s ≡ told x m f t
+link_same x n m e f s t a b c = ap (λ (y : List Name). told x y e s) a ∙ ap (λ (y : List Name). told x m y s) b ∙ ap (λ (y : Option ℕ). told x m f y) c
