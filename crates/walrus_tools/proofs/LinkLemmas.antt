@@ -81,17 +81,11 @@ item_told_more h f seen all i w lt at old new x is were same =
 -- the names under which a module exports an item
 pub exported_so : (all : List ExportValue) (x : Item) → names_of all x ≡ map (λ (e : Export). e.name) (filter (λ (e : Export). is_item e.item x) (map export_of all))
 exported_so [] x = refl
-exported_so (e ∷ all) x = step (is_item (exported e.item) x) (exported_so all x) where
-  abbrev own : List ExportValue
-  own = filter (λ (d : ExportValue). is_item (exported d.item) x) all
-
-  abbrev other : List Export
-  other = filter (λ (d : Export). is_item d.item x) (map export_of all)
-
-  step : (b : Bool) → map (λ (d : ExportValue). d.name) own ≡ map (λ (d : Export). d.name) other
+exported_so (e ∷ all) x = step (is_item (exported e.item) x) (filter (λ (d : ExportValue). is_item (exported d.item) x) all) (filter (λ (d : Export). is_item d.item x) (map export_of all)) (exported_so all x) where
+  step : (b : Bool) (own : List ExportValue) (other : List Export) → map (λ (d : ExportValue). d.name) own ≡ map (λ (d : Export). d.name) other
       → map (λ (d : ExportValue). d.name) (cond b (e ∷ own) own) ≡ map (λ (d : Export). d.name) (cond b (export_of e ∷ other) other)
-  step true same = ap (λ (ns : List (List ℕ)). e.name ∷ ns) same
-  step false same = same
+  step true own other same = ap (λ (ns : List (List ℕ)). e.name ∷ ns) same
+  step false own other same = same
 
 abbrev told : Item → List Name → List Name → Option ℕ → LinkTold
 told x name exports size = record { item = x; name = name; exports = exports; size = size }
