@@ -14,6 +14,8 @@ mod chosen_samples;
 #[cfg(test)]
 mod list_samples;
 #[cfg(test)]
+mod reason_samples;
+#[cfg(test)]
 mod samples;
 #[cfg(test)]
 mod section_samples;

@@ -4,9 +4,8 @@ use std::alloc::Global;
 use std::test::Fail;
 use test_support::{bytes_of, demand, demand_bytes, is_name, is_text};
 use walrus_tools::{
-    Chain, Result, Wanted, chain_lines, count_calls, fault, find, gc, item_index, item_word,
-    keep_listed, moves, rename_export, shrink, snip_export, stub_module, why, why_called,
-    why_with_sizes, with_export, with_metadata, with_places,
+    Result, Wanted, count_calls, fault, gc, keep_listed, moves, rename_export, shrink, snip_export,
+    stub_module, why_with_sizes, with_export, with_metadata, with_places,
 };
 
 // Fails where a caller refused, or answered with other bytes than these.
@@ -332,7 +331,7 @@ fn a_type_is_added(rt: HostRuntime) -> std::result::Result<(), Fail> {
     )
 }
 
-// ---- why_with_sizes, why, why_called
+// ---- why_with_sizes
 
 // Fails where the answer isn't this text.
 fn demand_text(answer: Result<String>, expected: &str) -> std::result::Result<(), Fail> {
@@ -354,49 +353,6 @@ const ALONE: &str = "function 0 isn't reached\nfunction 1: 2 bytes\n";
 fn no_function_calls_it(rt: HostRuntime) -> std::result::Result<(), Fail> {
     let bytes = bytes_of(rt.alloc(), TWO)?;
     demand_text(why_with_sizes(rt.alloc(), &bytes, 0), ALONE)
-}
-
-// The lines of a chain.
-fn told(alloc: Global, chain: Result<Chain>) -> Result<String> {
-    Ok(chain_lines(alloc, &chain?)?)
-}
-
-#[test]
-fn a_chain_stands_alone(rt: HostRuntime) -> std::result::Result<(), Fail> {
-    let alloc = rt.alloc();
-    let bytes = bytes_of(alloc, TWO)?;
-    demand_text(told(alloc, why(alloc, &bytes, 1)), "function 1\n")?;
-    demand_text(
-        told(alloc, why(alloc, &bytes, 0)),
-        "function 0 isn't reached\n",
-    )
-}
-
-#[test]
-fn a_chain_leads_from_a_root(rt: HostRuntime) -> std::result::Result<(), Fail> {
-    let alloc = rt.alloc();
-    let bytes = bytes_of(alloc, CALLS)?;
-    demand_text(
-        told(alloc, why(alloc, &bytes, 1)),
-        "function 0\nfunction 1\n",
-    )
-}
-
-#[test]
-fn a_chain_stands_under_a_name(rt: HostRuntime) -> std::result::Result<(), Fail> {
-    let alloc = rt.alloc();
-    let bytes = bytes_of(alloc, TWO)?;
-    let chain = why_called(alloc, &bytes, "f")?;
-    demand(is_text(item_word(chain.item), "function"), "a function")?;
-    demand(item_index(chain.item) == 1, "its index")
-}
-
-// ---- find
-
-#[test]
-fn a_function_is_found_by_its_export(rt: HostRuntime) -> std::result::Result<(), Fail> {
-    let bytes = bytes_of(rt.alloc(), TWO)?;
-    demand(find(rt.alloc(), &bytes, "f")? == 1, "the function")
 }
 
 // ---- diagnose

@@ -31,6 +31,7 @@ mod ImportMatches
 mod KeptWhole
 mod KindLemmas
 mod LineLemmas
+mod LinkLemmas
 mod ListedBytes
 mod ListedEnds
 mod ListedReached
@@ -63,6 +64,7 @@ mod Places
 pub use Rattle.walrus.proofs.DeviceLemmas
 mod ReadBodies
 mod ReasonEnds
+mod ReasonSpelled
 pub mod Records
 mod RenameSteps
 mod RootLemmas

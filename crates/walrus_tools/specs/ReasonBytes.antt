@@ -58,7 +58,7 @@ chain_links None = []
 chain_links (Some links) = links
 
 abbrev pub reason_bytes : ReasonTold → List ℕ
-reason_bytes r = item_bytes r.item ++ root_number r.root ∷ alone_bytes r.alone ++ flat_map link_bytes (chain_links r.links)
+reason_bytes r = item_bytes r.item ++ (root_number r.root ∷ (alone_bytes r.alone ++ flat_map link_bytes (chain_links r.links)))
 
 -- ---- what is too long for them
 
@@ -67,13 +67,13 @@ abbrev pub IsLongSize : Option ℕ → Type 0
 IsLongSize None = ⊥
 IsLongSize (Some n) = no_name ≤ n
 
--- the length of one of these texts does
-abbrev pub HasLongText : List Name → Type 0
-HasLongText texts = (text : Name) × Contains texts text × (no_name ≤ length text)
+-- the length of a text does
+abbrev pub IsLongText : Name → Type 0
+IsLongText text = no_name ≤ length text
 
 -- an index, a size, a name, the count of export names or one of these is too long
 abbrev pub IsLongLink : LinkTold → Type 0
-IsLongLink l = (2 ^ 32 ≤ l.item.1) ⊎ (IsLongSize l.size ⊎ (IsLongName l.name ⊎ ((2 ^ 32 ≤ length l.exports) ⊎ HasLongText l.exports)))
+IsLongLink l = (2 ^ 32 ≤ l.item.1) ⊎ (IsLongSize l.size ⊎ (IsLongName l.name ⊎ ((2 ^ 32 ≤ length l.exports) ⊎ HasLong IsLongText l.exports)))
 
 -- one of the two numbers has more than 32 bits
 abbrev pub IsLongAlone : Option Alone → Type 0

@@ -34,6 +34,22 @@ pub(crate) trait Told {
         ensures refused { IfErr result (RefusesIf (IsLong (seen self.now))) };
 }
 
+/// Puts all of these behind the bytes, one behind another.
+///
+/// # Errors
+///
+/// `TooLarge` exactly where one of them has a number or a name that is too long, and `Memory`.
+pub(crate) fn add_all<T: Told>(to: &mut Vec<u8>, all: &[T]) -> Result<()>
+    ensures value { OnOk result (to.new.items ≡ to.old.items ++ flat_map T.spell (map T.seen all.now)) }
+    ensures fits { OnOk result (NoneLong T.IsLong (map T.seen all.now)) }
+    ensures refused { IfErr result (RefusesIf (HasLong T.IsLong (map T.seen all.now))) }
+{
+    'added: for item in all {
+        item.add_to(to)?;
+    }
+    Ok(())
+}
+
 /// The bytes of all of these, one behind another.
 ///
 /// # Errors

@@ -2,12 +2,13 @@
 
 ghost use Rattle.std.specs.Prelude.{◌≡◌, ◌++◌, IfErr, IfOk, OnOk, flat_map, map, string_bytes};
 ghost use Rattle.walrus_code.specs.Code.{item_of};
+ghost use Rattle.walrus_model.specs.Abstract.{Name};
 ghost use Rattle.walrus_tools.specs.Choice.{choices_seen};
 ghost use Rattle.walrus_tools.specs.ExportList.{text_bytes};
 ghost use Rattle.walrus_tools.specs.Links.{LinkTold, link_seen, links_in};
 ghost use Rattle.walrus_tools.specs.Numbers.{RefusesIf};
 ghost use Rattle.walrus_tools.specs.ReasonAnswers.{AnswersCallerList, AnswersReasonList};
-ghost use Rattle.walrus_tools.specs.ReasonBytes.{HasLongText, IsLongAlone, IsLongLink, IsLongReason, IsLongSize, alone_bytes, chain_links, item_bytes, link_bytes, reason_bytes, reason_seen, root_number, size_bytes};
+ghost use Rattle.walrus_tools.specs.ReasonBytes.{IsLongAlone, IsLongLink, IsLongReason, IsLongSize, IsLongText, alone_bytes, chain_links, item_bytes, link_bytes, reason_bytes, reason_seen, root_number, size_bytes};
 ghost use Rattle.walrus_tools.specs.Spelled.{HasLong};
 ghost use Rattle.walrus_tools.specs.Wanted.{config_wanted};
 
@@ -19,7 +20,7 @@ use crate::links::Link;
 use crate::numbers::{NO_NAME, add_number, add_text, narrow};
 use crate::reasons::Reason;
 use crate::roots::Root;
-use crate::spelled::{Told, spelled};
+use crate::spelled::{Told, add_all, spelled};
 use crate::tool::callers::callers;
 use crate::tool::list::add_name;
 use crate::tool::why::why;
@@ -56,17 +57,18 @@ fn add_size(to: &mut Vec<u8>, size: Option<usize>) -> Result<()>
     Ok(add_number(to, narrow)?)
 }
 
-// Puts texts behind the bytes, each behind its length.
-fn add_texts(to: &mut Vec<u8>, texts: &[String]) -> Result<()>
-    ensures value { OnOk result (to.new.items ≡ to.old.items
-        ++ flat_map text_bytes (map string_bytes texts.now)) }
-    ensures fits { OnOk result (HasLongText (map string_bytes texts.now) → ⊥) }
-    ensures refused { IfErr result (RefusesIf (HasLongText (map string_bytes texts.now))) }
-{
-    'texts: for text in texts {
-        add_text(to, text.as_str())?;
+impl Told for String {
+    ghost Seen = { Name };
+
+    ghost seen = { string_bytes };
+
+    ghost spell = { text_bytes };
+
+    ghost IsLong = { IsLongText };
+
+    fn add_to(&self, to: &mut Vec<u8>) -> Result<()> {
+        add_text(to, self.as_str())
     }
-    Ok(())
 }
 
 impl Told for Link {
@@ -84,7 +86,7 @@ impl Told for Link {
         add_name(to, &self.name)?;
         let count = narrow(self.exports.len())?;
         add_number(to, count)?;
-        add_texts(to, &self.exports)
+        add_all(to, &self.exports)
     }
 }
 
@@ -118,20 +120,7 @@ fn add_alone(to: &mut Vec<u8>, alone: Option<Alone>) -> Result<()>
     Ok(add_number(to, bytes)?)
 }
 
-// Puts links behind the bytes.
-fn add_links(to: &mut Vec<u8>, links: &[Link]) -> Result<()>
-    ensures value { OnOk result (to.new.items ≡ to.old.items
-        ++ flat_map link_bytes (map link_seen links.now)) }
-    ensures fits { OnOk result (HasLong IsLongLink (map link_seen links.now) → ⊥) }
-    ensures refused { IfErr result (RefusesIf (HasLong IsLongLink (map link_seen links.now))) }
-{
-    'links: for link in links {
-        link.add_to(to)?;
-    }
-    Ok(())
-}
-
-// The same of a chain, if there is one.
+// Puts the links of a chain behind the bytes, if there is one.
 fn add_chain(to: &mut Vec<u8>, links: &Option<Vec<Link>>) -> Result<()>
     ensures value { OnOk result (to.new.items ≡ to.old.items
         ++ flat_map link_bytes (chain_links (links_in links.now))) }
@@ -139,7 +128,7 @@ fn add_chain(to: &mut Vec<u8>, links: &Option<Vec<Link>>) -> Result<()>
     ensures refused { IfErr result (RefusesIf (HasLong IsLongLink (chain_links (links_in links.now)))) }
 {
     match links {
-        Some(links) => add_links(to, links),
+        Some(links) => add_all(to, links),
         None => Ok(()),
     }
 }

@@ -1,0 +1,12 @@
+use Rattle.std.proofs.Common.{◌∙◌}
+use Rattle.walrus_base.specs.Arena.{items}
+use Rattle.walrus_code.specs.Code.{item_of}
+use Rattle.walrus_items.specs.Exports.{exports}
+use Rattle.walrus_tools.proofs.LinkLemmas.{exported_so, link_same}
+use Rattle.walrus_tools.proofs.links.link_of.Goals as goal
+
+pub returns : goal.returns
+returns c =
+    let x = item_of c.args.item in
+    link_same x _ _ _ _ _ _ (c.in_ok-owned.ensures ∙ c.name_in.ensures)
+    (c.in_ok-all_owned.ensures ∙ c.names_of.ensures ∙ c.args.requires.grouped x ∙ exported_so (items (exports c.args.parts.exports.now)) x) c.body_size.ensures
