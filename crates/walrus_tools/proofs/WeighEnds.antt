@@ -130,7 +130,7 @@ module _ {V : Type 0} {O : V → Type 0} (G : (v : V) → Ghosts (O v)) (Edits :
     pub edit_weighs : (result : Result Smaller Error) → WeighsReady G bytes before edited result → AnswersWeighed Edits Refuses c bytes result
     edit_weighs (Ok s) h = smaller s.output.items s.told h
     edit_weighs (Err (error.Memory m)) h = tt
-    edit_weighs (Err (error.InvalidWasm k)) h = λ accepts. h accepts.1.0.sections accepts.1.0.framed
+    edit_weighs (Err (error.InvalidWasm k)) h = λ accepts. h accepts.1.sections accepts.1.framed
     edit_weighs (Err error.TooLarge) h = record {
       module_left = h.module_left;
       left = to h.module_left h.left;

@@ -46,9 +46,9 @@ kinds_behind b a old t u v w x y z first second third fourth fifth sixth seventh
     (next_line old k (kind_line (codes "tables") b.tables a.tables) t u first second) third) fourth) fifth) sixth) seventh
 
 -- the lines of bytes, one behind another
-pub bytes_behind : (told : Weighed) (old t u v w x last : List ℕ) → t ≡ old ++ sizes_line (codes "bytes") told.read told.written → u ≡ t ++ number_line (codes "dropped functions") told.bodies
-    → v ≡ u ++ number_line (codes "debug information") told.debug → w ≡ v ++ rest_line (rest_of told) told.written → last ≡ longer_line told.read told.written → x ≡ w ++ last → x ≡ old ++ bytes_text told
-bytes_behind told old t u v w x last first second third fourth is fifth =
+pub bytes_behind : (told : Weighed) (rest : ℕ) (old t u v w x last : List ℕ) → t ≡ old ++ sizes_line (codes "bytes") told.read told.written → u ≡ t ++ number_line (codes "dropped functions") told.bodies
+    → v ≡ u ++ number_line (codes "debug information") told.debug → rest ≡ rest_of told → w ≡ v ++ rest_line rest told.written → last ≡ longer_line told.read told.written → x ≡ w ++ last → x ≡ old ++ bytes_text told
+bytes_behind told rest old t u v w x last first second third left fourth is fifth =
     let k : List ℕ = sizes_line (codes "bytes") told.read told.written in
     let l : List ℕ = k ++ number_line (codes "dropped functions") told.bodies in
     let m : List ℕ = l ++ number_line (codes "debug information") told.debug in
@@ -56,4 +56,4 @@ bytes_behind told old t u v w x last first second third fourth is fifth =
     next_line old n (longer_line told.read told.written) w x
     (next_line old m (rest_line (rest_of told) told.written) v w
     (next_line old l (number_line (codes "debug information") told.debug) u v
-    (next_line old k (number_line (codes "dropped functions") told.bodies) t u first second) third) fourth) (fifth ∙ ap (λ (l : List ℕ). w ++ l) is)
+    (next_line old k (number_line (codes "dropped functions") told.bodies) t u first second) third) (fourth ∙ ap (λ (n : ℕ). v ++ rest_line n told.written) left)) (fifth ∙ ap (λ (l : List ℕ). w ++ l) is)

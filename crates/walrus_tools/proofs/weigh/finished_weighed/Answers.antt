@@ -9,7 +9,7 @@ use Rattle.walrus_tools.proofs.weigh.finished_weighed.Goals as goal
 
 pub returns-in_err-run : goal.returns-in_err-run
 returns-in_err-run g c =
-    let p = err_from_is_err_and c.from_residual-in_err-run.result c.from_residual-in_err-run.ensures.1 in
+    let p = err_from_is_err_and c.from_residual.result c.from_residual.ensures.1 in
     rw (p.1, p.2) (not_finished _ c.args.module c.args.module c.args.bytes.now c.args.before _ (search_refused _ c.args.module c.requires _ c.in_err-run.ensures.refused))
 
 pub returns-in_err-bodies : goal.returns-in_err-bodies
@@ -41,4 +41,4 @@ returns g c =
     let written = finished _ c.args.module c.requires kept left ran.collected ran.others.customs
     (sections_stay _ _ _ kept.customs left.customs (Ok c.in_ok-output.output) (settings kept).preserve_code_transform (ap (λ (f : Flags). f.preserve_code_transform) ran.others.settings ∙ c.requires.still) wrote.customs)
     (settings kept) ran.others.settings (Ok c.in_ok-output.output) wrote.left wrote.well_made in
-    told _ c.args.module kept ran c.args.bytes.now c.in_ok-output.output.items c.args.before _ _ _ _ _ written c.kinds_of-after.ensures c.in_ok-bodies.ensures refl refl
+    told _ c.args.module kept ran c.args.bytes.now c.in_ok-output.output.items c.args.before _ _ _ _ _ written c.kinds_of-after.ensures c.in_ok-bodies.ensures refl c.len.ensures

@@ -9,7 +9,7 @@ pub overflow_add-bodies : goal.overflow_add-bodies
 overflow_add-bodies c =
     omega (
       arith,
-      sizes_within (is_dropped (is_left (functions c.args.all.now))) c.args.parts.now c.each.part-index _ c.each-test.true c.each.bodies c.body_gone.result c.each.invariant.0 c.body_gone.ensures,
+      sizes_within (is_dropped (is_left (functions c.args.all.now))) c.args.parts.now c.each.part-index _ c.each-test.true c.each.bodies c.body_gone-bodies.result c.each.invariant.0 c.body_gone-bodies.ensures,
       c.requires.bodies,
     )
 
@@ -17,14 +17,14 @@ pub overflow_add-debug : goal.overflow_add-debug
 overflow_add-debug c =
     omega (
       arith,
-      sizes_within is_debug c.args.parts.now c.each.part-index _ c.each-test.true c.each.debug c.debug_size.result c.each.invariant.1 c.debug_size.ensures,
+      sizes_within is_debug c.args.parts.now c.each.part-index _ c.each-test.true c.each.debug c.debug_size-debug.result c.each.invariant.1 c.debug_size-debug.ensures,
       c.requires.debug,
     )
 
 pub each-preserved : goal.each-preserved
 each-preserved c = (
-  sizes_more (is_dropped (is_left (functions c.args.all.now))) c.args.parts.now c.each.part-index _ c.each-test.true c.each.bodies c.body_gone.result c.each.invariant.0 c.body_gone.ensures,
-  sizes_more is_debug c.args.parts.now c.each.part-index _ c.each-test.true c.each.debug c.debug_size.result c.each.invariant.1 c.debug_size.ensures,
+  sizes_more (is_dropped (is_left (functions c.args.all.now))) c.args.parts.now c.each.part-index _ c.each-test.true c.each.bodies c.body_gone-bodies.result c.each.invariant.0 c.body_gone-bodies.ensures,
+  sizes_more is_debug c.args.parts.now c.each.part-index _ c.each-test.true c.each.debug c.debug_size-debug.result c.each.invariant.1 c.debug_size-debug.ensures,
 )
 
 pub returns-clause-bodies : goal.returns-clause-bodies
