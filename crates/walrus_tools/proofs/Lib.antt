@@ -1,10 +1,12 @@
 mod AloneEnds
 mod Among
 pub mod AnswerLemmas
+mod BodiesFit
 mod BodiesRise
 mod CallBody
 mod CallSound
 mod CallersEnds
+mod CallersTurn
 mod ChoiceLemmas
 mod ChoiceLists
 mod Choosers
@@ -22,6 +24,7 @@ mod FinishLemmas
 mod FoundEnds
 mod Fronts
 mod FunctionsThere
+mod GoersTurn
 mod HookEnds
 mod HookSteps
 mod ImportMatches
@@ -70,6 +73,7 @@ mod StripLemmas
 mod StubCall
 mod StubStep
 mod StubTurn
+mod TradeLemmas
 mod TrapBody
 mod TrapReached
 mod TrapSound
