@@ -1,11 +1,13 @@
 mod AloneEnds
 mod Among
 pub mod AnswerLemmas
+mod BodiesFit
 mod BodiesRise
 mod BodySearch
 mod CallBody
 mod CallSound
 mod CallersEnds
+mod CallersTurn
 mod ChoiceLemmas
 mod ChoiceLists
 mod Choosers
@@ -25,6 +27,7 @@ mod FoundEnds
 mod Fronts
 mod FunctionsThere
 mod GoingLists
+mod GoersTurn
 mod HookEnds
 mod HookSteps
 mod ImportMatches
@@ -82,6 +85,7 @@ mod StubCall
 mod StubStep
 mod StubTurn
 mod ThoseLemmas
+mod TradeLemmas
 mod TrapBody
 mod TrapReached
 mod TrapSound
