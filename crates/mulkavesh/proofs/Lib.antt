@@ -8,7 +8,9 @@ mod Itself
 mod JsonLists
 mod Lines
 mod OrderLemmas
+mod Numbers
 mod Pieces
+mod PutLemmas
 mod Refusals
 mod RowLists
 mod SectionLines
