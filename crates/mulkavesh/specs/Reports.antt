@@ -19,11 +19,15 @@ kinds_json before after =
     ++ kind_json (codes ",\"elements") before.elements after.elements
     ++ kind_json (codes ",\"data") before.data_ after.data_
 
+-- a number behind what begins so
+abbrev pub number_json : (begin : List ℕ) → (number : ℕ) → List ℕ
+number_json begin number = begin ++ decimal number
+
 -- the member of bytes: those read and written, and in the input those of bodies of dropped functions and of debug information
 abbrev pub bytes_json : Weighed → List ℕ
 bytes_json w =
-    codes ",\"bytes\":{\"read\":" ++ decimal w.read ++ codes ",\"written\":" ++ decimal w.written ++ codes ",\"dropped\":" ++ decimal w.bodies ++ codes ",\"debug\":"
-    ++ decimal w.debug ++ codes "}"
+    number_json (codes ",\"bytes\":{\"read\":") w.read ++ number_json (codes ",\"written\":") w.written ++ number_json (codes ",\"dropped\":") w.bodies
+    ++ number_json (codes ",\"debug\":") w.debug ++ codes "}"
 
 -- an object of them
 abbrev pub weighed_json : Weighed → List ℕ

@@ -34,7 +34,8 @@ fn add_sizes(alloc: Global, to: &mut Vec<u8>, read: usize, written: usize) -> Re
     add_grouped(alloc, to, read as u64)?;
     to.extend_from_slice(b" bytes become ")?;
     add_grouped(alloc, to, written as u64)?;
-    to.extend_from_slice(b"; dropped: ")
+    to.extend_from_slice(b"; dropped: ")?;
+    Ok(())
 }
 
 // Puts behind the text by how many bytes all else becomes more or less.

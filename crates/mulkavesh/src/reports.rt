@@ -1,7 +1,7 @@
 //! The report on a module, for people and for programs.
 
 ghost use Rattle.std.specs.Prelude.{◌≡◌, ◌++◌, IfOk, OnOk};
-ghost use Rattle.mulkavesh.specs.Reports.{bytes_json, kind_json, kinds_json, weighed_json, weighed_told};
+ghost use Rattle.mulkavesh.specs.Reports.{bytes_json, kind_json, kinds_json, number_json, weighed_json, weighed_told};
 
 use crate::numbers::add_decimal;
 use std::alloc::{AllocError, Global};
@@ -60,17 +60,21 @@ fn add_kind(
     Ok(to.push(b'}')?)
 }
 
+// Puts a number behind the text, and in front of it what begins so.
+fn add_number(alloc: Global, to: &mut Vec<u8>, begin: &str, number: usize) -> Result<(), AllocError>
+    ensures { OnOk result (to.new.items ≡ to.old.items ++ number_json begin.now number) }
+{
+    to.extend_from_slice(begin.as_bytes())?;
+    add_decimal(alloc, to, number as u64)
+}
+
 // Puts the member of bytes behind the text.
 fn add_bytes(alloc: Global, to: &mut Vec<u8>, told: Weighed) -> Result<(), AllocError>
     ensures { OnOk result (to.new.items ≡ to.old.items ++ bytes_json told) }
 {
-    to.extend_from_slice(b",\"bytes\":{\"read\":")?;
-    add_decimal(alloc, to, told.read as u64)?;
-    to.extend_from_slice(b",\"written\":")?;
-    add_decimal(alloc, to, told.written as u64)?;
-    to.extend_from_slice(b",\"dropped\":")?;
-    add_decimal(alloc, to, told.bodies as u64)?;
-    to.extend_from_slice(b",\"debug\":")?;
-    add_decimal(alloc, to, told.debug as u64)?;
+    add_number(alloc, to, ",\"bytes\":{\"read\":", told.read)?;
+    add_number(alloc, to, ",\"written\":", told.written)?;
+    add_number(alloc, to, ",\"dropped\":", told.bodies)?;
+    add_number(alloc, to, ",\"debug\":", told.debug)?;
     Ok(to.push(b'}')?)
 }

@@ -88,7 +88,8 @@ fn add_total(alloc: Global, to: &mut Vec<u8>, total: u64, count: usize) -> Resul
     add_decimal(alloc, to, total)?;
     to.extend_from_slice(b" 100.0% of ")?;
     add_decimal(alloc, to, count as u64)?;
-    to.extend_from_slice(b" functions\n")
+    to.extend_from_slice(b" functions\n")?;
+    Ok(())
 }
 
 // For people so many lines, and one of all; for programs so many objects.

@@ -5,5 +5,5 @@ use Rattle.mulkavesh.proofs.shares.order_by_size.Goals as goal
 pub returns : goal.returns
 returns c = record {
   moved = c.sort_unstable_by_key.ensures.permutation;
-  sorted = c.sort_unstable_by_key.ensures.sorted (λ f. (record { field-0 = f.size }, f.index)) (answers_always _ _ _ (λ f a r g h. search rules));
+  sorted = c.sort_unstable_by_key.ensures.sorted (λ f. (record { 0 = f.size }, f.index)) (answers_always _ _ _ (λ f a r g h. search rules));
 }
