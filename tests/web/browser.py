@@ -25,7 +25,7 @@ sys.dont_write_bytecode = True
 sys.path.insert(0, str(pathlib.Path(__file__).resolve().parent))
 from chromium import Chromium, Page, Refused
 
-SECONDS_IN_ALL = 240
+SECONDS_IN_ALL = 300
 # A page that answers: so long at most from one tick to the next, while a module of 20 MB is at work.
 LONGEST_GAP = 1.0
 FIRST_ANSWER = 2.0
@@ -214,7 +214,12 @@ def gone_with(reason):
 def why_is_right(test, what, path, index, roots=None):
     """The chain, what would go with the function, and what refers to it, beside the library."""
     roots = roots or {}
-    shown, reason = chain_shown(test), test.library("why", path, index, roots)
+    reason = test.library("why", path, index, roots)
+    if reason["root"] is None:
+        test.page.wait("document.querySelector('#why .chain') === null && document.querySelector('#callers p') === null")
+        test.same(f"{what}: why it goes", test.text("#why-told"), f"It doesn’t: nothing that stays leads to function {index}.")
+        return
+    shown = chain_shown(test)
     test.same(f"{what}: the chain", shown, as_chain(reason))
     test.same(f"{what}: what would go with it", test.text("#why-told > p:last-child"), gone_with(reason))
     callers = test.library("callers", path, index, roots)
@@ -291,17 +296,20 @@ def ticks_shown(test):
     return test.page.value("[...document.querySelectorAll('#ticks li')].map((it) => [it.innerText.replace(/\\s+/g, ' ').trim(), it.querySelector('input').checked])")
 
 
-def left_is_right(test, what, path, names, all_names):
-    """The sizes, the counts and the download are those of the exports of these names."""
+def left_is_right(test, what, path, names, all_names, *, told=True, focus=None):
+    """The sizes, the counts and the download are those of the exports of these names; where it is told, how many bytes fewer; and the focus is on this tick."""
     roots = {"keep": escaped(names)} if names else {"drop": "*"}
     wanted, whole = (test.library_bytes(path, it) for it in (roots, {}))
     test.page.wait(f"document.querySelector('#left strong')?.textContent === '{len(wanted):,} bytes' && {AT_REST}")
     ticked = f"{len(names):,} of {len(all_names):,} exports {'is' if len(names) == 1 else 'are'} ticked: {len(wanted):,} bytes are left"
-    fewer = "" if len(names) == len(all_names) else f", {len(whole) - len(wanted):,} bytes fewer than with all"
+    fewer = "" if len(names) == len(all_names) or not told else f", {len(whole) - len(wanted):,} bytes fewer than with all"
     test.same(f"{what}: what is left", test.text("#left"), f"{ticked}{fewer}.")
     stays = "" if len(names) == len(all_names) else f" {len(names):,} of {len(all_names):,} exports stay{'s' if len(names) == 1 else ''}."
     test.holds(f"{what}: the sizes: {test.text('#status')}", f"come out as {len(wanted):,}." in test.text("#status") and test.text("#status").endswith(stays))
-    test.same(f"{what}: the download", downloaded(test)[1], wanted)
+    if focus is None:
+        test.same(f"{what}: the download", downloaded(test)[1], wanted)
+    else:
+        test.same(f"{what}: the focus", test.page.value("document.activeElement.dataset.at"), str(focus))
     report = test.library("report", path, roots)
     test.same(f"{what}: the counts", kinds_shown(test), "".join(f"{it} kept {report[it]['kept']} dropped {report[it]['dropped']}\n" for it in report if it != "bytes"))
 
@@ -318,8 +326,7 @@ def ticks_of_exports(test, name):
     page.click("#map button")
     why_is_right(test, f"{name}, all exports", path, largest["index"])
     page.click("#ticks li:nth-child(2) input")
-    left_is_right(test, f"{name}, all exports but one", path, [names[0], *names[2:]], names)
-    test.same(f"{name}: the focus after a tick", page.value("document.activeElement.dataset.at"), "1")
+    left_is_right(test, f"{name}, all exports but one", path, [names[0], *names[2:]], names, focus=1)
     why_is_right(test, f"{name}, all exports but one", path, largest["index"], {"drop": escaped([names[1]])})
     page.click("#tick-none")
     left_is_right(test, f"{name}, no exports", path, [], names)
@@ -362,7 +369,7 @@ def many_exports(test):
     page.click("#tick-all")
     left_is_right(test, "exports.wasm, what is found alone", path, names[:10], names)
     page.click("#names")
-    left_is_right(test, "exports.wasm, the choice of exports outlives another choice", path, names[:10], names)
+    left_is_right(test, "exports.wasm, the choice of exports outlives another choice", path, names[:10], names, told=False)
 
 
 def ticks_by_keys(test, name):
@@ -378,12 +385,12 @@ def ticks_by_keys(test, name):
     page.key("End", number=35)
     test.same(f"{name}: the last tick", page.value("document.activeElement.dataset.at"), str(len(names) - 1))
     page.key(" ", "Space", number=32, text=" ")
-    left_is_right(test, f"{name}, by keys", path, names[:-1], names)
+    left_is_right(test, f"{name}, by keys", path, names[:-1], names, focus=len(names) - 1)
     page.key("Home", number=36)
     page.key("ArrowRight", number=39)
     test.same(f"{name}: an arrow among ticks", page.value("document.activeElement.dataset.at"), "1")
     page.key(" ", "Space", number=32, text=" ")
-    left_is_right(test, f"{name}, two by keys", path, [names[0], *names[2:-1]], names)
+    left_is_right(test, f"{name}, two by keys", path, [names[0], *names[2:-1]], names, focus=1)
     page.key("Tab", number=9)
     test.holds(f"{name}: from the ticks to the boxes", page.value("document.activeElement.matches('#map button')"))
 
@@ -431,15 +438,15 @@ def functions_and_chains(test, name):
 
 
 def follows(test, name, path):
-    """A function of the chain, or of those that refer to it, is asked about by a click on it."""
-    there = test.page.value("[...document.querySelectorAll('#why-more button')].map((it) => it.dataset.index)")
-    for at in {0, len(there) - 1}:
-        test.page.click(f"#why-more button[data-index='{there[at]}']")
-        test.page.wait(f"[...document.querySelectorAll('.chain li:last-child .item')].some((it) => it.textContent === 'function {there[at]}')")
-        why_is_right(test, f"{name}, function {there[at]} by a click in a chain", path, int(there[at]))
-        test.same(f"{name}: the focus after a click in a chain", test.page.value("document.activeElement.id"), "why")
-        if not test.page.value(f"document.querySelector(\"#why-more button[data-index='{there[0]}']\") !== null"):
-            break
+    """A function of the chain, and then one of those that refer to it, is asked about by a click on it."""
+    for which in ("#why .chain button", "#callers button"):
+        index = test.page.value(f"document.querySelector('{which}')?.dataset.index")
+        if index is None:
+            continue
+        test.page.click(which)
+        test.page.wait(f"document.querySelector('.chain li:last-child .item')?.textContent === 'function {index}'")
+        why_is_right(test, f"{name}, function {index} by a click on it in a list of links", path, int(index))
+        test.same(f"{name}: the focus after a click on a link", test.page.value("document.activeElement.id"), "why")
 
 
 def more_rows(test, name):
@@ -468,10 +475,10 @@ def keys_alone(test, name):
     why_is_right(test, f"{name}, by keys", path, int(second or 0))
     test.same(f"{name}: the focus by keys", page.value("document.activeElement.id"), "why")
     page.key("Tab", number=9)
-    begins = page.value("document.activeElement.matches('#why-more button') && document.activeElement.textContent")
+    there, at = "[...document.querySelectorAll('#why-more button')]", "[...document.querySelectorAll('#why-more button')].indexOf(document.activeElement)"
+    test.same(f"{name}: Tab to a chain", page.value(at), 0)
     page.key("End", number=35)
-    ends = page.value("document.activeElement.matches('#why-more button') && document.activeElement.textContent")
-    test.holds(f"{name}: keys in a chain, {begins} and {ends}", begins and ends and begins != ends)
+    test.same(f"{name}: a key to the end of the links", page.value(at), page.value(f"{there}.length - 1"))
     page.key("Escape", number=27)
     test.same(f"{name}: back by Escape", page.value("document.activeElement.dataset.index"), second)
     for _ in range(3):
@@ -673,7 +680,7 @@ def with_most(test, limit):
 
 
 def picture(test, name):
-    """The picture of README.md: the functions that stay, and why the second one does."""
+    """The picture of README.md: the functions that stay, why the second one does, and what would go with it."""
     page = test.page
     page.size(1040, 900)
     page.call("Emulation.setScrollbarsHidden", hidden=True)
@@ -681,8 +688,9 @@ def picture(test, name):
     page.click("#map button:nth-child(2)")
     chain_shown(test)
     page.call("Input.dispatchMouseEvent", type="mouseMoved", x=1, y=1)
-    clip = page.value("""(() => { const [all, last] = ['functions', 'caption'].map((it) => document.getElementById(it).getBoundingClientRect());
-        return { x: all.x + scrollX, y: all.y + scrollY, width: all.width, height: last.bottom + 12 - all.y, scale: 1 }; })()""")
+    clip = page.value("""(() => { for (const it of [document.getElementById('back').parentElement, document.getElementById('listed')]) it.hidden = true;
+        const all = document.getElementById('functions').getBoundingClientRect();
+        return { x: all.x + scrollX, y: all.y + scrollY, width: all.width, height: all.height, scale: 1 }; })()""")
     data = page.call("Page.captureScreenshot", format="png", captureBeyondViewport=True, clip=clip)["data"]
     (pathlib.Path(test.screens) / "page.png").write_bytes(base64.b64decode(data))
 
