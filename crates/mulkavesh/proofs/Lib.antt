@@ -7,6 +7,7 @@ mod Help
 mod Itself
 mod JsonLists
 mod Lines
+mod LinkLemmas
 mod OrderLemmas
 mod Numbers
 mod Pieces

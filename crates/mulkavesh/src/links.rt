@@ -50,11 +50,12 @@ fn add_all_quoted(to: &mut Vec<u8>, names: &[String]) -> Result<(), AllocError>
 fn add_exports(to: &mut Vec<u8>, names: &[String]) -> Result<(), AllocError>
     ensures { OnOk result (to.new.items ≡ to.old.items ++ exports_text (map string_bytes names.now)) }
 {
-    let [_, ..] = names else {
+    if names.is_empty() {
         return Ok(());
-    };
+    }
     to.extend_from_slice(b", exported as ")?;
-    add_all_quoted(to, names)
+    add_all_quoted(to, names)?;
+    Ok(())
 }
 
 /// Puts behind the text what an item is, its name, how many bytes its body has, and the names under which it is exported.
