@@ -1,5 +1,6 @@
 -- One function traps, what is used then is told, and its body is put back: what goes with it, and that all else is as it was.
-use Rattle.std.proofs.Common.{◌≡◌, ◌≢◌, ◌==◌, ℕ, Bool, true, false, not, ◌&&◌, ◌||◌, List, [], ◌∷◌, zero, suc, Option, Some, None, option_map, slice_set, refl, sym, ap, ◌∙◌, subst, inl, inr, ⊎_elim, fun_ext}
+use mathlib.Core.Path.{fun_ext}
+use Rattle.std.proofs.Common.{◌≡◌, ◌≢◌, ◌==◌, ℕ, Bool, true, false, not, ◌&&◌, ◌||◌, List, [], ◌∷◌, zero, suc, Option, Some, None, option_map, slice_set, refl, sym, ap, ◌∙◌, subst, inl, inr, ⊎_elim}
 use Rattle.std.specs.Prelude.{◌⊎◌, ◌<◌, ◌≤◌, ◌↔◌, IsSome, is_some}
 use Rattle.std.proofs.lemmas.Bool.{cases_lt, eqb-true, eq-eqb}
 use Rattle.std.proofs.lemmas.List.{get_or_past, set-get_or}
@@ -122,10 +123,10 @@ module _ (c : Contents) (funcs : ModuleFunctions) (same : functions funcs ≡ fu
 
 module _ {S : Type 0} (a c : Module S) (h : HoldsSame a c) where
   pub same_held : held_view c ≡ held_view a
-  pub same_held = ap held_view h.others ∙ contents_same (contents_of a) c.funcs h.same
+  same_held = ap held_view h.others ∙ contents_same (contents_of a) c.funcs h.same
 
   pub same_locations : locations_of c ≡ locations_of a
-  same_locations = ap (λ (fs : List (Option FunctionValue)) (number : ℕ). locations_in (local_in fs number)) h.same
+  same_locations = (let seen : List (Option FunctionValue) → ℕ → List ℕ = λ fs number. locations_in (local_in fs number) in ap seen h.same)
 
 module _ {V : Type 0} {O : V → Type 0} (G : (v : V) → Ghosts (O v)) where
   pub same_view : (a c : Module (SectionEntry V O)) → HoldsSame a c → view G c ≡ view G a

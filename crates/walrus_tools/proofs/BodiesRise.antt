@@ -10,7 +10,7 @@ use Rattle.walrus_tools.specs.Moves.{StandsIn}
 use Rattle.walrus_tools.proofs.PlacedOps.{begins_within}
 
 -- the bodies stand one behind another from p on, and end by q
-abbrev Within : ℕ → ℕ → List wire.Body → Type 0
+abbrev pub Within : ℕ → ℕ → List wire.Body → Type 0
 Within p q [] = p ≤ q
 Within p q (b ∷ bs) = (p ≤ b.start) × Within (b.start + length b.bytes) q bs
 
@@ -74,7 +74,7 @@ sections_within (s ∷ ss) place bytes m h (front, (back, (parts, is, rest))) =
     let end : place + length front + length back ≡ place + length bytes = omega (arith, long) in
     subst (λ (n : ℕ). Within 0 n (gathered_onto (with_section m s) ss).bodies) end (sections_within ss (place + length front) back (with_section m s) (section_within place front m h s is) rest)
 
-framed_within : (bytes : List ℕ) (m : wire.Module) (f : Frames bytes m) → Within 0 (8 + length f.rest) m.bodies
+pub framed_within : (bytes : List ℕ) (m : wire.Module) (f : Frames bytes m) → Within 0 (8 + length f.rest) m.bodies
 framed_within bytes m f =
     subst (λ (n : wire.Module). Within 0 (8 + length f.rest) n.bodies) (sym f.holds) (sections_within f.parts 8 f.rest wire.no_sections (omega arith) f.framed)
 

@@ -56,7 +56,7 @@ module _ {V : Type 0} {O : V → Type 0} (G : (v : V) → Ghosts (O v)) where
     kept_sound x k = is_sound (view G edited) (view G left) collects.collected collects.sound x k
 
     pub left_sound : HasUnsound (held_view left) → ⊥
-    left_sound (x, (live, unsound)) =
+    left_sound (x, live, unsound) =
         let s = kept_sound x (left_is_kept (view G edited) (view G left) collects.collected x live) in
         unsound (record { live = s.live; initialised = s.initialised; locals = s.locals })
 

@@ -1,11 +1,13 @@
 mod AloneEnds
 mod Among
 pub mod AnswerLemmas
+mod BodiesFit
 mod BodiesRise
 mod BodySearch
 mod CallBody
 mod CallSound
 mod CallersEnds
+mod CallersTurn
 mod ChoiceLemmas
 mod ChoiceLists
 mod Choosers
@@ -24,6 +26,7 @@ mod FinishLemmas
 mod FoundEnds
 mod Fronts
 mod FunctionsThere
+mod GoersTurn
 mod HookEnds
 mod HookSteps
 mod ImportMatches
@@ -79,7 +82,11 @@ mod StripLemmas
 mod StubCall
 mod StubStep
 mod StubTurn
+<<<<<<< HEAD
 mod ThoseLemmas
+=======
+mod TradeLemmas
+>>>>>>> adea580a3ba346d3b42dc4663fc08cf4a78a05d5
 mod TrapBody
 mod TrapReached
 mod TrapSound

@@ -89,7 +89,7 @@ fn mark_goer(goes: bool, at: FunctionId, marks: &mut Marks<FunctionKey>)
     }
 }
 
-/// The functions that go with the one of this id: of those that are there itself, and each that isn't used where it traps.
+/// Marks of the functions that go with the one of this id: of those that are there itself, and each that isn't used where it traps.
 pub(crate) fn goers(
     alloc: Global,
     all: &ModuleFunctions,
@@ -99,9 +99,12 @@ pub(crate) fn goers(
     ensures { IfOk result (MarksGoers (functions all.now) (has_id used.now) (place id)) }
 {
     let mut marks = Marks::new(alloc, all.next_id().index())?;
-    'places: for place in 0..marks.places() {
-        let at = FunctionId::at(place);
-        mark_goer(goes(all, used, id, at), at, &mut marks);
+    'places: for at in 0..all.next_id().index() {
+        mark_goer(
+            goes(all, used, id, FunctionId::at(at)),
+            FunctionId::at(at),
+            &mut marks,
+        );
     }
     Ok(marks)
 }

@@ -1,6 +1,7 @@
 //! Who refers to an item.
 
-ghost use Rattle.std.specs.Prelude.{◌≡◌, ◌↔◌, Contains, IsTrue, MatchResult, map};
+ghost use Rattle.std.specs.Prelude.{◌≡◌, ◌↔◌, Contains, IsTrue, MatchResult};
+ghost use Rattle.std.specs.List.{list_any};
 ghost use Rattle.walrus_base.specs.Id.{place};
 ghost use Rattle.walrus_base.specs.Operators.{Types};
 ghost use Rattle.walrus_code.specs.Code.{item_of};
@@ -84,23 +85,26 @@ fn is_same(one: ItemId, other: ItemId) -> bool
 
 // Whether the item is one of these.
 fn is_among(items: &[ItemId], item: ItemId) -> bool
-    ensures { IsTrue result ↔ Contains (map item_of items.now) (item_of item) }
+    ensures { result ≡ list_any (λ other. is_item (item_of other) (item_of item)) items.now }
 {
     items.iter().any(|other| is_same(*other, item))
 }
 
-// Whether a type is of the same group as another, if both are there.
+// Whether a type is a member of the group of a live one.
 fn is_in_group(parts: Parts<'_>, ty: TypeId, other: TypeId) -> bool
+    requires { IsLive (parts_view parts) (Types, place ty) }
     ensures { IsTrue result ↔ Contains (group_names (parts_view parts.entry) (Types, place ty)) (Types, place other) }
 {
     parts.types.groups_are_whole();
-    parts.types.contains(ty)
-        && parts.types.contains(other)
-        && parts.types.last_in_group(ty) == parts.types.last_in_group(other)
+    if !parts.types.contains(other) {
+        return false;
+    }
+    parts.types.last_in_group(ty) == parts.types.last_in_group(other)
 }
 
-// Whether an item is a member of the group of the other. Only types have groups.
+// Whether an item is a member of the group of a live one. Only types have groups.
 fn groups_with(parts: Parts<'_>, item: ItemId, other: ItemId) -> bool
+    requires { IsLive (parts_view parts) (item_of item) }
     ensures { IsTrue result ↔ Contains (group_names (parts_view parts.entry) (item_of item)) (item_of other) }
 {
     match (item, other) {
