@@ -82,11 +82,8 @@ mod StripLemmas
 mod StubCall
 mod StubStep
 mod StubTurn
-<<<<<<< HEAD
 mod ThoseLemmas
-=======
 mod TradeLemmas
->>>>>>> adea580a3ba346d3b42dc4663fc08cf4a78a05d5
 mod TrapBody
 mod TrapReached
 mod TrapSound
