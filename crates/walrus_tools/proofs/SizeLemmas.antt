@@ -1,18 +1,13 @@
 -- The list of the functions that stay: what is so of each is so of all.
-use Rattle.std.proofs.Common.{◌≡◌, ℕ, ◌+◌, ◌<◌, List, [], ◌∷◌, ◌++◌, flat_map, length, map, get_or, take, sym, ap, ◌∙◌, subst}
-use Rattle.std.specs.Prelude.{Contains}
+use Rattle.std.proofs.Common.{◌≡◌, ℕ, ◌+◌, ◌<◌, List, [], ◌∷◌, ◌++◌, length, map, get_or, take, sym, ap, ◌∙◌}
 use Rattle.std.proofs.lemmas.List.{map-append, map_more}
 use Rattle.std.specs.declared.ops.Range.{Range}
 use Rattle.walrus_base.specs.declared.id.Id.{Id}
 use Rattle.walrus_base.specs.declared.keys.FunctionKey.{FunctionKey}
 use Rattle.walrus_model.specs.Abstract.{Name}
 use Rattle.walrus_items.specs.Transform.{range_of}
-use Rattle.walrus_items.specs.declared.error.Error.{Error}
-use Rattle.walrus_contents.proofs.NamedLemmas.{among, row_more}
-use Rattle.walrus_tools.specs.FunctionList.{HasLong, IsLong, ListedFunction, NoneLong, RefusesIf, listed_bytes, listed_of, listed_seen}
+use Rattle.walrus_tools.specs.FunctionList.{ListedFunction, listed_of, listed_seen}
 use Rattle.walrus_tools.specs.declared.tool.list.Listed.{Listed}
-use Rattle.walrus_tools.proofs.Among.{because}
-use Rattle.walrus_tools.proofs.LineLemmas.{line_more}
 
 -- behind the functions before stands the next one
 pub listed_more : (names : ℕ → List Name) (bodies : List (Id FunctionKey × Range ℕ)) (i : ℕ) (d : Id FunctionKey × Range ℕ) → i < length bodies → (old new : List Listed) (f : Listed) → new ≡ old ++ f ∷ []

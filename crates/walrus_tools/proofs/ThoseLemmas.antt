@@ -29,7 +29,7 @@ module _ (stays : ℕ → Bool) (Stays : ℕ → Type 0) (tells : (f : ℕ) → 
   }
   one_part f parts false is g = record {
     gone = f ∷ g.gone;
-    are = inl ((λ kept. untrue (sym is ∙ (tells f.index).1 kept)), (g.gone, refl, g.are));
+    are = inl (g.gone, (λ kept. untrue (sym is ∙ (tells f.index).1 kept)), refl, g.are);
     listed = ap (λ (b : Bool). (if b then [] else listed_part names f ∷ []) ++ flat_map (dropped_of stays names) parts) is ∙ ap (λ (fs : List ListedFunction). listed_part names f ∷ fs) g.listed;
   }
 
@@ -59,7 +59,7 @@ module _ {T : Type 0} (P : T → Type 0) where
   those_from k (Some x ∷ old) (Some y ∷ new) long each =
       let here = (each zero).0 y refl in
       let same : y ≡ x = some_inj y x (sym here.1) in
-      inl (subst P same here.0, (items_from (k + 1) new, ap (λ (z : T). z ∷ items_from (k + 1) new) same, those_from (k + 1) old new (omega (arith, long)) (λ i. each (suc i))))
+      inl (items_from (k + 1) new, subst P same here.0, ap (λ (z : T). z ∷ items_from (k + 1) new) same, those_from (k + 1) old new (omega (arith, long)) (λ i. each (suc i)))
 
   pub those_left : (old new : List (Option T)) → length new ≡ length old → ((i : ℕ) → IsLeft (item_at old i) (item_at new i)) → AreThose P (items old) (items new)
   those_left old new long each = those_from 0 old new long each

@@ -57,7 +57,8 @@ fn all_dropped(
     parts: &[Part<'_>],
 ) -> result::Result<Vec<Listed>, AllocError>
     ensures { IfOk result (λ list. map listed_seen list.items
-        ≡ flat_map (dropped_of (has_id stay.now) (names_in (functions all.now))) (map part_record parts.now)) }
+        ≡ flat_map (dropped_of (has_id stay.now) (names_in (functions all.now)))
+        (map part_record parts.now)) }
 {
     let mut list = Vec::new(alloc);
     'parts: for part in parts {

@@ -21,12 +21,12 @@ use std::result;
 use walrus::passes::gc;
 use walrus::{FunctionId, ModuleConfig, ModuleFunctions, Result};
 
-/// A function with a body that stays.
+/// A function with a body that stays, or that goes.
 #[derive(Drop)]
 pub struct Listed {
     /// Its index in the bytes that were read.
     pub index: usize,
-    /// How many bytes its body has in the module that is left.
+    /// How many bytes its body has: of one that stays in the module that is left, of one that goes in the bytes that were read.
     pub size: usize,
     /// Its name, if it has one.
     pub name: Option<String>,
