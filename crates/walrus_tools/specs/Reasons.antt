@@ -1,7 +1,6 @@
 -- Why a function of a module stays, and what each function costs that does, as a text ("Structure > Modules > Indices", "Binary Format > Code
 -- Section").
 use Rattle.std.specs.Prelude.{ℕ, ◌-◌, List, ◌++◌, Option, Some, None, IsSome, Result, Ok, Err, String, codes, decimal, flat_map, option_map, string_bytes, ◌≡◌}
-use Rattle.std.specs.Global.{Vec}
 use Rattle.std.specs.declared.alloc.Global.{Global}
 use Rattle.walrus_base.specs.Arena.{item_at}
 use Rattle.walrus_base.specs.Id.{place}
@@ -10,18 +9,16 @@ use Rattle.walrus_base.specs.declared.keys.FunctionKey.{FunctionKey}
 use Rattle.walrus_base.specs.Operators.{Space, Types, Functions, Tables, Memories, Tags, Globals, Elements, DataSegments, Item, function_item}
 use Rattle.walrus_code.specs.Code.{item_of}
 use Rattle.walrus_code.specs.Transform.{Transform}
-use Rattle.walrus_model.specs.Abstract.{Abstract, Custom}
+use Rattle.walrus_model.specs.Abstract.{Abstract}
 use Rattle.walrus_model.specs.Config.{Config}
 use Rattle.walrus_items.specs.declared.error.Error.{Error}
 use Rattle.walrus_items.specs.declared.error.Error.TheVariants.{NotFound}
 use Rattle.walrus_items.specs.Functions.{FunctionValue, functions}
 use Rattle.walrus_contents.specs.Named.{items_in}
 use Rattle.walrus_contents.specs.declared.parts.Contents.{Contents}
-use Rattle.walrus_module.specs.Parsed.{IsParsed}
 use Rattle.walrus.specs.Why.{Explains}
-use Rattle.walrus_tools.specs.Edits.{AnswersEdited, RefusesEdit, with_customs}
-use Rattle.walrus_tools.specs.Ends.{Answers, IfNotFound}
-use Rattle.walrus_tools.specs.FunctionNames.{LacksCalled, meant}
+use Rattle.walrus_tools.specs.Edits.{AnswersEdited, with_customs}
+use Rattle.walrus_tools.specs.Ends.{IfNotFound}
 use Rattle.walrus_tools.specs.Measures.{IsMeasured, IsSame}
 use Rattle.walrus_tools.specs.declared.lines.Chain.{Chain}
 

@@ -88,7 +88,8 @@ pub(crate) fn groups_of<'a>(
 pub(crate) fn names_of<'a, 'b>(groups: &'b ExportGroups<'a>, item: ItemId) -> &'b [&'a str]
     ensures { texts result.now ≡ names_at groups.now (key_of (item_of item)) }
 {
-    match groups.names.get(&key_of(item)) {
+    let key = key_of(item);
+    match groups.names.get(&key) {
         Some(names) => names.as_slice(),
         None => &[],
     }

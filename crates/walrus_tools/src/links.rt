@@ -11,7 +11,7 @@ ghost use Rattle.walrus_items.specs.Exports.{exports};
 ghost use Rattle.walrus_items.specs.Seen.{text_of};
 ghost use Rattle.walrus_items.specs.Transform.{range_of};
 ghost use Rattle.walrus_tools.specs.LinkSteps.{AreRising, FindsBody, GroupsExports, lent_name, texts};
-ghost use Rattle.walrus_tools.specs.Links.{body_size, link_of, link_seen};
+ghost use Rattle.walrus_tools.specs.Links.{body_size, link_of, link_seen, links_in};
 
 use crate::export_groups::{ExportGroups, groups_of, names_of};
 use crate::item_names::name_in;
@@ -36,7 +36,7 @@ pub struct Link {
 
 // A text of one's own.
 fn owned(alloc: Global, name: Option<&str>) -> result::Result<Option<String>, AllocError>
-    ensures { IfOk result (λ text. option_to_list (text_of text) ≡ lent_name name) }
+    ensures { IfOk result (λ text. option_to_list (text_of text) ≡ lent_name name.entry) }
 {
     match name {
         Some(name) => Ok(Some(String::from_str(alloc, name)?)),

@@ -1,13 +1,16 @@
 //! What makes an item a root of a module.
 
-ghost use Rattle.std.specs.Prelude.{◌≡◌, is_some};
+ghost use Rattle.std.specs.Prelude.{◌≡◌, is_some, option_map};
+ghost use Rattle.walrus_base.specs.Arena.{item_at};
 ghost use Rattle.walrus_base.specs.Id.{place};
-ghost use Rattle.walrus_base.specs.Operators.{DataSegments, Elements};
 ghost use Rattle.walrus_code.specs.Code.{item_of};
-ghost use Rattle.walrus_contents.specs.View.{contents_view, parts_view};
+ghost use Rattle.walrus_contents.specs.Named.{items_in};
+ghost use Rattle.walrus_contents.specs.View.{parts_view};
+ghost use Rattle.walrus_items.specs.Data.{data_segments};
+ghost use Rattle.walrus_items.specs.Elements.{elements};
 ghost use Rattle.walrus_items.specs.Exports.{exports, exports_item};
 ghost use Rattle.walrus_items.specs.Searches.{first};
-ghost use Rattle.walrus_tools.specs.RootSteps.{FindsRoot, NamesExport, by_data, by_element, by_start};
+ghost use Rattle.walrus_tools.specs.RootSteps.{FindsChainRoot, FindsRoot, NamesExport, by_data, by_element, by_start};
 
 use walrus::{
     DataId, DataKind, ElementId, ElementKind, ExportItem, FunctionId, ItemId, ModuleData,
