@@ -1,9 +1,8 @@
 -- The bodies, and the sections, of a module have no more bytes than the module.
-use Rattle.std.proofs.Common.{◌≡◌, ◌≤◌, ◌+◌, ◌<◌, ℕ, suc, Bool, true, false, cond, not, List, [], ◌∷◌, ◌++◌, length, filter, get_or, map, take, sum_by, refl, sym, ap, ◌∙◌, subst, arith, length-append}
-use Rattle.std.specs.Prelude.{Option, Some, None, if◌then◌else◌}
+use Rattle.std.proofs.Common.{◌≡◌, ◌≤◌, ◌+◌, ◌<◌, ℕ, suc, Bool, true, false, cond, not, List, [], ◌∷◌, length, filter, get_or, map, take, sum_by, refl, sym, ap, ◌∙◌, arith, length-append}
+use Rattle.std.specs.Prelude.{if◌then◌else◌}
 use Rattle.std.proofs.lemmas.List.Sums.{sum_by-append, sum_by-cons, sum_by_more, sum_by_more_le}
 use Rattle.std.proofs.lemmas.List.{take_all}
-use Rattle.wasm_wire.specs.ModuleSpelling.{is_debug_name}
 use Rattle.wasm_entries.specs.Record.{Segment}
 use Rattle.wasm_frames.specs.Frames.{AreBodies, Code, DataSegments, IsContent, Section}
 use Rattle.wasm_frames.specs.Record.{Body}

@@ -23,11 +23,11 @@ use Rattle.walrus_module.specs.Settings.{settings}
 use Rattle.walrus_module.specs.View.{contents_of, view}
 use Rattle.walrus_module.specs.declared.entry.SectionEntry.{SectionEntry}
 use Rattle.walrus_module.specs.declared.module.Module.{Module}
-use Rattle.walrus.specs.Collected.{Collects, KeepsOnly}
+use Rattle.walrus.specs.Collected.{Collects}
 use Rattle.walrus_tools.specs.Choice.{Choice}
 use Rattle.walrus_tools.specs.ChosenModule.{KeepsChosen, RefusesChosen}
 use Rattle.walrus_tools.specs.Edits.{AnswersEdited, EditsTo, IsWhole, RefusesEdit, with_customs}
-use Rattle.walrus_tools.specs.Ends.{Answers, Finishes, LeavesLarge, LeavesWritten, LeftOf}
+use Rattle.walrus_tools.specs.Ends.{Finishes, LeavesLarge, LeavesWritten, LeftOf}
 use Rattle.walrus_tools.specs.Kinds.{CountsKinds, kinds_in}
 use Rattle.walrus_tools.specs.Weigh.{AnswersReport, AnswersWeighed, IsSmaller, IsWeighed}
 use Rattle.walrus_tools.specs.WeighSteps.{HasNoParts, IsInput, IsWeighedIn, WeighsReady, is_left}

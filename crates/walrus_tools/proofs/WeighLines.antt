@@ -1,5 +1,5 @@
 -- The lines of what is told of a module that becomes smaller, in which all stands in front of the rest.
-use Rattle.std.proofs.Common.{◌≡◌, ℕ, ◌-◌, List, [], ◌++◌, codes, decimal, append_assoc, sym, ap, ◌∙◌}
+use Rattle.std.proofs.Common.{◌≡◌, ℕ, List, ◌++◌, codes, decimal, append_assoc, sym, ap, ◌∙◌}
 use Rattle.walrus_tools.specs.WeighText.{bytes_text, kind_line, kinds_text, longer_line, number_line, rest_line, rest_of, sizes_line}
 use Rattle.walrus_tools.specs.declared.kinds.Kinds.{Kinds}
 use Rattle.walrus_tools.specs.declared.weigh.Weighed.{Weighed}

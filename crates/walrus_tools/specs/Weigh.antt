@@ -47,8 +47,9 @@ bytes_of passes parts = sum_by part_size (filter passes parts)
 
 -- ---- what is told
 
--- Of these bytes `parsed` was parsed and edited to `edited`, of which gc left what is kept, and that was written as `output`: how many items there were,
--- how many are left, how many bytes were read and written, and how many the bodies of functions have that aren't kept, and debug information.
+-- Of these bytes `parsed` was parsed and edited to `edited`, of which gc left what is kept, and that was written as `output`. Told is how many items
+-- there were, how many are left, how many bytes were read and written, and how many the bodies of functions have that aren't kept, and debug
+-- information.
 pub record IsWeighed (bytes output : List ℕ) (parsed edited : Abstract) (told : Weighed) : Type 0 where
   pub before : CountsKinds (IsLive parsed) told.before
   pub after : CountsKinds (Kept edited) told.after
@@ -63,18 +64,30 @@ pub record IsWeighed (bytes output : List ℕ) (parsed edited : Abstract) (told 
 
 -- ---- from bytes to bytes
 
--- the output is what the edit and gc leave, and this is told of it
-pub record IsSmaller (Edits : Contents → Contents → Type 0) (c : Config) (bytes output : List ℕ) (told : Weighed) : Type 0 where
-  pub leaves : LeavesWritten (EditsTo Edits c bytes) c output
-  pub weighed : IsWeighed bytes output (with_customs leaves.left.customs leaves.left.module_parsed) (with_customs leaves.left.customs leaves.left.module_edited) told
+module _ {Edits : Contents → Contents → Type 0} {c : Config} {bytes : List ℕ} {u : Abstract} where
+  -- what was parsed of the bytes, and what that was edited to
+  abbrev pub as_parsed : EditsTo Edits c bytes u → Abstract
+  as_parsed to = with_customs to.customs to.module_parsed
 
--- the edited module, written, and what is told of it; or a refusal with its cause
-abbrev pub AnswersWeighed : (Edits : Contents → Contents → Type 0) → (Refuses : Contents → Error → Type 0) → Config → (bytes : List ℕ) → Result Smaller Error → Type 0
-AnswersWeighed Edits Refuses c bytes result =
-    Answers c bytes (λ (s : Smaller). IsSmaller Edits c bytes s.output.items s.told) (LeavesLarge (EditsTo Edits c bytes) c) (RefusesEdit Refuses c bytes) result
+  abbrev pub as_edited : EditsTo Edits c bytes u → Abstract
+  as_edited to = with_customs to.customs to.module_edited
 
--- what is told of the module of its chosen exports, or a refusal with its cause
+module _ (Edits : Contents → Contents → Type 0) where
+  -- the output is what the edit and gc leave, and this is told of it
+  pub record IsSmaller (c : Config) (bytes output : List ℕ) (told : Weighed) : Type 0 where
+    pub leaves : LeavesWritten (EditsTo Edits c bytes) c output
+    pub weighed : IsWeighed bytes output (as_parsed leaves.left) (as_edited leaves.left) told
+
+  -- what is made of the bytes is as Done says; or a refusal with its cause
+  abbrev pub AnswersAs : {X : Type 0} → (Refuses : Contents → Error → Type 0) → Config → List ℕ → (Done : X → Type 0) → Result X Error → Type 0
+  AnswersAs Refuses c bytes Done = Answers c bytes Done (LeavesLarge (EditsTo Edits c bytes) c) (RefusesEdit Refuses c bytes)
+
+  -- the edited module, written, and what is told of it
+  abbrev pub AnswersWeighed : (Refuses : Contents → Error → Type 0) → Config → (bytes : List ℕ) → Result Smaller Error → Type 0
+  AnswersWeighed Refuses c bytes result = AnswersAs Refuses c bytes (λ (s : Smaller). IsSmaller c bytes s.output.items s.told) result
+
+-- what is told of the module of its chosen exports
 abbrev pub AnswersReport : Config → (bytes : List ℕ) → List Choice → Result Weighed Error → Type 0
 AnswersReport c bytes choices result =
-    Answers c bytes (λ (told : Weighed). (output : List ℕ) × IsSmaller (KeepsChosen choices) c bytes output told) (LeavesLarge (EditsTo (KeepsChosen choices) c bytes) c)
-    (RefusesEdit (RefusesChosen choices) c bytes) result
+    AnswersAs (KeepsChosen choices) (RefusesChosen choices) c bytes
+    (λ (told : Weighed). (output : List ℕ) × IsSmaller (KeepsChosen choices) c bytes output told) result

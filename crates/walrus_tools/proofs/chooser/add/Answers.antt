@@ -1,4 +1,4 @@
-use Rattle.std.proofs.Common.{◌≡◌, ◌∙◌, false, sym, rules}
+use Rattle.std.proofs.Common.{◌≡◌, ◌∙◌, sym, rules}
 use Rattle.walrus_tools.proofs.Choosers.{plain_more, starred_more}
 use Rattle.walrus_tools.proofs.chooser.add.Goals as goal
 

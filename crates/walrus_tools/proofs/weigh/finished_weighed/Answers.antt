@@ -41,4 +41,4 @@ returns g c =
     let written = finished _ c.args.module c.requires kept left ran.collected ran.others.customs
     (sections_stay _ _ _ kept.customs left.customs (Ok c.in_ok-output.output) (settings kept).preserve_code_transform (ap (λ (f : Flags). f.preserve_code_transform) ran.others.settings ∙ c.requires.still) wrote.customs)
     (settings kept) ran.others.settings (Ok c.in_ok-output.output) wrote.left wrote.well_made in
-    told _ c.args.module kept ran c.args.bytes.now c.in_ok-output.output.items c.args.before _ _ _ _ _ written c.kinds_of-after.ensures c.in_ok-bodies.ensures refl c.len.ensures
+    told _ c.args.module kept ran c.args.bytes.now c.in_ok-output.output.items c.args.before _ _ _ _ _ written c.kinds_of-after.ensures c.in_ok-bodies.ensures refl (c.len.ensures ∙ c.in_ok-output.output.ok.0)
