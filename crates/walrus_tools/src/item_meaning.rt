@@ -15,7 +15,7 @@ use walrus::{Error, ExportItem, ItemId, ModuleExports, ModuleFunctions, Result};
 fn exported_as(all: &ModuleExports, name: &str) -> Option<ExportItem>
     ensures { option_map exported result ≡ option_map (λ e. exported e.1.item) (named name.now (exports all.now)) }
 {
-    for export in all.iter() {
+    'exports: for (_, export) in all.iter_entries() {
         if export.name.as_str() == name {
             return Some(export.item);
         }
