@@ -80,10 +80,11 @@ module _ (goes : ℕ → Bool) where
   sum_mapped g f (x ∷ xs) = sum_by-cons g (f x) (map f xs) ∙ ap (λ (n : ℕ). g (f x) + n) (sum_mapped g f xs) ∙ sym (sum_by-cons (λ x. g (f x)) x xs)
 
   -- so there is room for the next one behind those before
-  pub sum_fits : {A : Type 0} (seen : A → ℕ × (ℕ × ℕ)) (bodies : List A) (i : ℕ) (d : A) → i < length bodies → sum_by (size_if goes) (map seen (take i bodies)) + size_if goes (seen (get_or bodies i d)) ≤ bytes_of (map seen bodies)
-  sum_fits seen bodies i d lt =
+  pub sum_fits : {A : Type 0} (seen : A → ℕ × (ℕ × ℕ)) (bodies : List A) (i : ℕ) (d : A) → i < length bodies → (n : ℕ) → n ≡ size_if goes (seen (get_or bodies i d))
+      → sum_by (size_if goes) (map seen (take i bodies)) + n ≤ bytes_of (map seen bodies)
+  sum_fits seen bodies i d lt n is =
       let here = sum_mapped (size_if goes) seen (take i bodies) in
       let all = sum_mapped (size_if goes) seen bodies in
       let more = sum_by_more_le (λ b. size_if goes (seen b)) bodies i d lt in
       let most = sizes_fit (map seen bodies) in
-      omega (arith, here, all, more, most)
+      omega (arith, here, all, more, most, is)

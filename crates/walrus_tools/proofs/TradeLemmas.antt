@@ -37,7 +37,7 @@ module _ {S : Type 0} (old : Module S) (p : ℕ) (was : Function) where
       },
       ap has_body there ∙ no_body was.kind refl none,
     )
-    traded (Some body) (had, trap, is, traps) = record {
+    traded (Some body) (had, (trap, is, traps)) = record {
       function = function_value was;
       was = there;
       had = had;

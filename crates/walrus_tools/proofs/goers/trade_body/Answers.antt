@@ -9,7 +9,5 @@ pub returns : goal.returns
 returns c =
     let kind : LocalFunction → FunctionKind = λ f. Local f in (
       c.in-Local.is ∙ ap kind (sym c.replace.ensures.value),
-      c.in_ok-trap.trap,
-      ap kind c.replace.ensures.after,
-      subst (λ (f : LocalFunction). IsTrapOf f c.in_ok-trap.trap) (sym c.replace.ensures.value) c.in_ok-trap.ensures,
+      (c.in_ok-trap.trap, ap kind c.replace.ensures.after, subst (λ (f : LocalFunction). IsTrapOf f c.in_ok-trap.trap) (sym c.replace.ensures.value) c.in_ok-trap.ensures),
     )
