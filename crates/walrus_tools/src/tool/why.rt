@@ -31,7 +31,8 @@ fn goers_with(
     module: &mut Module,
     item: ItemId,
 ) -> Result<Option<Marks<FunctionKey>>>
-    ensures { TellsGoers ⟦<dyn CustomSection as CustomSection>⟧ (item_of item) «module».old «module».new result }
+    ensures { TellsGoers ⟦<dyn CustomSection as CustomSection>⟧ (item_of item)
+        «module».old «module».new result }
 {
     let ItemId::Function(id) = item else {
         return Ok(None);
