@@ -93,7 +93,8 @@ fn is_among(items: &[ItemId], item: ItemId) -> bool
 // Whether a type is a member of the group of a live one.
 fn is_in_group(parts: Parts<'_>, ty: TypeId, other: TypeId) -> bool
     requires { IsLive (parts_view parts) (Types, place ty) }
-    ensures { IsTrue result ↔ Contains (group_names (parts_view parts.entry) (Types, place ty)) (Types, place other) }
+    ensures { IsTrue result
+        ↔ Contains (group_names (parts_view parts.entry) (Types, place ty)) (Types, place other) }
 {
     parts.types.groups_are_whole();
     if !parts.types.contains(other) {
@@ -144,7 +145,8 @@ fn add_if_caller(
     callers: &mut Vec<ItemId>,
 ) -> Result<()>
     ensures { MatchResult result
-        (λ _. AddsIfCaller (parts_view parts.entry) (item_of item) (item_of other) (items_in callers.old) (items_in callers.new))
+        (λ _. AddsIfCaller (parts_view parts.entry) (item_of item) (item_of other)
+        (items_in callers.old) (items_in callers.new))
         (IsRefusal (HasUnsound (parts_view parts.entry))) }
 {
     if !is_live(parts, item) {
