@@ -97,19 +97,19 @@ module _ (c : Contents) (i : ℕ) where
   pub function_root : (IsExported (contents_view c) (function_item i) → ⊥) → FindsRoot (contents_view c) (function_item i) (by_start c.start i)
   function_root out = by c.start refl where
     by : (o : Option (Id FunctionKey)) → c.start ≡ o → FindsRoot (contents_view c) (function_item i) (by_start o i)
-    by None is = no_root c (function_item i) out (λ h. none_isnt (ap (option_map place) (sym is) ∙ h.1.0)) (λ h. h) (λ h. h)
+    by None is = no_root c (function_item i) out (λ h. none_isnt (ap (option_map place) (sym is) ∙ h.1)) (λ h. h) (λ h. h)
     by (Some id) is = at (nat_eq (place id) i) refl where
       at : (b : Bool) → nat_eq (place id) i ≡ b → FindsRoot (contents_view c) (function_item i) (if b then Some roots.Start else None)
       at true same = (out, (place id, ap (option_map place) is, ap function_item (sym (eqb-true (place id) i same))))
       at false apart = no_root c (function_item i) out
-          (λ h. differ (function_item (place id)) (function_item i) apart (ap function_item (some_is (ap (option_map place) (sym is) ∙ h.1.0)) ∙ sym h.1.1)) (λ h. h) (λ h. h)
+          (λ h. differ (function_item (place id)) (function_item i) apart (ap function_item (some_is (ap (option_map place) (sym is) ∙ h.1)) ∙ sym h.2)) (λ h. h) (λ h. h)
 
   -- the segment at the place
   pub element_root : (IsExported (contents_view c) (Elements, i) → ⊥) → FindsRoot (contents_view c) (Elements, i) (by_element (item_at (elements c.elements) i))
   element_root out = by (item_at (elements c.elements) i) refl where
     by : (o : Option ElementValue) → item_at (elements c.elements) i ≡ o → FindsRoot (contents_view c) (Elements, i) (by_element o)
     by None none = no_root c (Elements, i) out (no_start Elements refl)
-        (λ h. none_isnt (ap (option_map element_of) (sym none) ∙ h.1.0)) (λ h. none_isnt (ap (option_map element_of) (sym none) ∙ h.1.0))
+        (λ h. none_isnt (ap (option_map element_of) (sym none) ∙ h.1)) (λ h. none_isnt (ap (option_map element_of) (sym none) ∙ h.1))
     by (Some e) there = kind e.kind refl where
       is : option_map element_of (item_at (elements c.elements) i) ≡ Some (element_of e)
       is = ap (option_map element_of) there
@@ -122,8 +122,8 @@ module _ (c : Contents) (i : ℕ) where
       kind (element_kinds.Active table offset) k = (element_of e, is, subst IsActiveKind (ap element_kind_of (sym k)) tt)
       kind element_kinds.Declared k = (element_of e, is, ap element_kind_of k)
       kind element_kinds.Passive k = no_root c (Elements, i) out (no_start Elements refl)
-          (λ h. subst IsActiveKind (sym (ap element_kind_of (sym k) ∙ same_kind h.0 h.1.0)) h.1.1)
-          (λ h. passive_isnt (ap element_kind_of (sym k) ∙ same_kind h.0 h.1.0 ∙ h.1.1))
+          (λ h. subst IsActiveKind (sym (ap element_kind_of (sym k) ∙ same_kind h.0 h.1)) h.2)
+          (λ h. passive_isnt (ap element_kind_of (sym k) ∙ same_kind h.0 h.1 ∙ h.2))
         where
           passive_isnt : PassiveElements ≡ DeclaredElements → ⊥
           passive_isnt e = cc
@@ -131,7 +131,7 @@ module _ (c : Contents) (i : ℕ) where
   pub data_root : (IsExported (contents_view c) (DataSegments, i) → ⊥) → FindsRoot (contents_view c) (DataSegments, i) (by_data (item_at (data_segments c.data_) i))
   data_root out = by (item_at (data_segments c.data_) i) refl where
     by : (o : Option DataValue) → item_at (data_segments c.data_) i ≡ o → FindsRoot (contents_view c) (DataSegments, i) (by_data o)
-    by None none = no_root c (DataSegments, i) out (no_start DataSegments refl) (λ h. none_isnt (ap (option_map data_of) (sym none) ∙ h.1.0)) (λ h. h)
+    by None none = no_root c (DataSegments, i) out (no_start DataSegments refl) (λ h. none_isnt (ap (option_map data_of) (sym none) ∙ h.1)) (λ h. h)
     by (Some d) there = kind d.kind refl where
       is : option_map data_of (item_at (data_segments c.data_) i) ≡ Some (data_of d)
       is = ap (option_map data_of) there
@@ -139,7 +139,7 @@ module _ (c : Contents) (i : ℕ) where
       kind : (k : HeldDataKind) → d.kind ≡ k → FindsRoot (contents_view c) (DataSegments, i) (by_data_kind k)
       kind (data_kinds.Active memory offset) k = (data_of d, is, subst IsRootData (ap data_kind_of (sym k)) tt)
       kind data_kinds.Passive k = no_root c (DataSegments, i) out (no_start DataSegments refl)
-          (λ h. subst IsRootData (sym (ap data_kind_of (sym k) ∙ ap (λ (x : DataSegment). x.kind) (some_is (sym is ∙ h.1.0)))) h.1.1) (λ h. h)
+          (λ h. subst IsRootData (sym (ap data_kind_of (sym k) ∙ ap (λ (x : DataSegment). x.kind) (some_is (sym is ∙ h.1)))) h.2) (λ h. h)
 
 -- ---- of a chain
 
