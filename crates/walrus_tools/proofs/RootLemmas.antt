@@ -5,7 +5,12 @@ use Rattle.walrus_base.specs.Arena.{entries, item_at, items}
 use Rattle.walrus_base.specs.Id.{place}
 use Rattle.walrus_base.specs.Operators.{Space, Types, Functions, Tables, Memories, Tags, Globals, Elements, DataSegments, Item, function_item}
 use Rattle.walrus_base.specs.declared.id.Id.{Id}
+use Rattle.walrus_base.specs.declared.keys.DataKey.{DataKey}
+use Rattle.walrus_base.specs.declared.keys.ElementKey.{ElementKey}
 use Rattle.walrus_base.specs.declared.keys.FunctionKey.{FunctionKey}
+use Rattle.walrus_code.specs.Code.{item_of}
+use Rattle.walrus_code.specs.declared.items.ItemId.{ItemId}
+use Rattle.walrus_code.specs.declared.items.ItemId.TheVariants as items_of_kinds
 use Rattle.walrus_base.proofs.Lists.{Contains-map, Contains-none}
 use Rattle.walrus_base.proofs.SearchFound.{found-item, found-passes}
 use Rattle.walrus_base.proofs.Standing.{some_inj}
@@ -154,3 +159,24 @@ root_by m x none lacks (element_segment i e at root is) = by e.kind refl root wh
   by DeclaredElements k h = lacks roots.Declared (subst (IsDeclared m) (sym is) (e, at, k))
   by (ActiveElements table offset) k h = lacks roots.Active (subst (IsActive m) (sym is) (e, at, subst IsActiveKind (sym k) tt))
 root_by m x none lacks (asked_for at) = Contains-none x (subst (λ (xs : List Item). Contains xs x) none at)
+
+-- ---- items that can be exported alone
+
+module _ (c : Contents) where
+  abbrev seen : Abstract
+  seen = contents_view c
+
+  plain : (s : Space) (i : ℕ) → (IsExported seen (s, i) → ⊥) → is_item (s, i) (function_item i) ≡ false → (IsActive seen (s, i) → ⊥) → (IsDeclared seen (s, i) → ⊥) → FindsRoot seen (s, i) None
+  plain s i out apart active declared = no_root c (s, i) out (no_start c i s apart) active declared
+
+  -- no other item is a root
+  pub plain_root : (item : ItemId) → (IsExported seen (item_of item) → ⊥) → ((id : Id FunctionKey) → item ≡ items_of_kinds.Function id → ⊥) → ((id : Id ElementKey) → item ≡ items_of_kinds.Element id → ⊥)
+      → ((id : Id DataKey) → item ≡ items_of_kinds.Data id → ⊥) → FindsRoot seen (item_of item) None
+  plain_root (items_of_kinds.«Type» id) out f e d = plain Types (place id) out refl (λ h. h) (λ h. h)
+  plain_root (items_of_kinds.Table id) out f e d = plain Tables (place id) out refl (λ h. h) (λ h. h)
+  plain_root (items_of_kinds.Memory id) out f e d = plain Memories (place id) out refl (λ h. h) (λ h. h)
+  plain_root (items_of_kinds.Tag id) out f e d = plain Tags (place id) out refl (λ h. h) (λ h. h)
+  plain_root (items_of_kinds.Global id) out f e d = plain Globals (place id) out refl (λ h. h) (λ h. h)
+  plain_root (items_of_kinds.Function id) out f e d = absurd (f id refl)
+  plain_root (items_of_kinds.Element id) out f e d = absurd (e id refl)
+  plain_root (items_of_kinds.Data id) out f e d = absurd (d id refl)
