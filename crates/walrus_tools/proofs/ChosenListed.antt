@@ -35,7 +35,7 @@ use Rattle.walrus_tools.specs.Choice.{Choice}
 use Rattle.walrus_tools.specs.ChosenModule.{KeepsChosen, KeepsIn, RefusesChosen, RefusesExports}
 use Rattle.walrus_tools.specs.DroppedList.{AnswersDropped, dropped_of, functions_among}
 use Rattle.walrus_tools.specs.Edited.{Edited, edited_view}
-use Rattle.walrus_tools.specs.Edits.{IsWhole, RefusesEdit}
+use Rattle.walrus_tools.specs.Edits.{IsWhole, RefusesEdit, with_customs}
 use Rattle.walrus_tools.specs.Ends.{Answers}
 use Rattle.walrus_tools.specs.ExportList.{AnswersExports, export_told, exported_seen}
 use Rattle.walrus_tools.specs.FunctionList.{listed_seen, names_in}
@@ -66,7 +66,7 @@ module _ (X : Type 0) (c : Config) (bytes : List ℕ) (Done : X → Type 0) (Lar
   -- bytes whose parts aren't found
   pub unparted : (e : Error) → AnswersParts bytes (Err e) → Answers {X = X} c bytes Done Large Refuses (Err e)
   unparted (error.Memory m) h = tt
-  unparted (error.InvalidWasm kind) none = λ accepts. none accepts.1.0.sections accepts.1.0.framed
+  unparted (error.InvalidWasm kind) none = λ accepts. none accepts.1.sections accepts.1.framed
   unparted _ h = absurd h
 
   -- a search of a module in which nothing is missing and no section may refuse
@@ -78,7 +78,7 @@ module _ (X : Type 0) (c : Config) (bytes : List ℕ) (Done : X → Type 0) (Lar
     unsearched _ h = absurd h
 
 module _ {V : Type 0} {O : V → Type 0} (G : (v : V) → Ghosts (O v)) (choices : List Choice) (c : Config) (bytes : List ℕ) (read : Module (SectionEntry V O)) (parsed : IsParsed c bytes (view G read)) where
-  read_so : IsParsed c bytes _
+  read_so : IsParsed c bytes (with_customs (view G read).customs (contents_of read))
   read_so = subst (λ (v : Abstract). IsParsed c bytes v) (plain_read G (KeepsChosen choices) (RefusesChosen choices) c bytes read parsed) parsed
 
   -- a choice that fits none

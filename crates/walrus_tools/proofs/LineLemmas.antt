@@ -1,5 +1,5 @@
 -- The lines of a report, in which all stands in front of the rest.
-use Rattle.std.proofs.Common.{◌≡◌, ℕ, ◌+◌, List, [], ◌∷◌, ◌++◌, codes, decimal, flat_map, get_or, length, map, take, append_assoc, sym, ap, ◌∙◌, ◌<◌}
+use Rattle.std.proofs.Common.{◌≡◌, ℕ, ◌+◌, List, [], ◌∷◌, ◌++◌, codes, decimal, flat_map, get_or, length, map, take, append_assoc, refl, sym, ap, ◌∙◌, ◌<◌}
 use Rattle.std.proofs.lemmas.Grind.{flat_map-append}
 use Rattle.std.proofs.lemmas.List.{append-nil, map_more}
 use Rattle.walrus_tools.specs.Reasons.{size_text}
@@ -28,3 +28,9 @@ line_more {Y = Y} {Z = Z} line seen xs i d lt text is =
     ap (λ (t : List Z). flat_map line (map seen (take i xs)) ++ t) (is ∙ sym one)
     ∙ sym (flat_map-append line (map seen (take i xs)) (seen (get_or xs i d) ∷ []))
     ∙ sym (ap (λ (ys : List Y). flat_map line ys) more)
+
+-- behind a text that is the lines of those before the line of the next is put
+pub lines_more : {X Y Z : Type 0} (line : Y → List Z) (seen : X → Y) (xs : List X) (i : ℕ) (d : X) → i < length xs → (before after : List Z) → before ≡ flat_map line (map seen (take i xs)) → after ≡ before ++ line (seen (get_or xs i d))
+    → after ≡ flat_map line (map seen (take (i + 1) xs))
+lines_more {Z = Z} line seen xs i d lt before after were next =
+    next ∙ ap (λ (t : List Z). t ++ line (seen (get_or xs i d))) were ∙ line_more line seen xs i d lt (line (seen (get_or xs i d))) refl

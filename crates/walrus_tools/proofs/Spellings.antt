@@ -10,7 +10,7 @@ use Rattle.walrus_tools.specs.Ends.{Answers}
 use Rattle.walrus_tools.specs.Numbers.{RefusesIf}
 use Rattle.walrus_tools.specs.Spelled.{AreLong, AreSpelled, HasLong, NoneLong}
 use Rattle.walrus_tools.proofs.Among.{because}
-use Rattle.walrus_tools.proofs.LineLemmas.{line_more}
+use Rattle.walrus_tools.proofs.LineLemmas.{lines_more}
 
 -- ---- one by one
 
@@ -20,7 +20,7 @@ module _ {X Y : Type 0} (seen : X → Y) (spell : Y → List ℕ) (IsLong : Y �
 
   -- behind the bytes of those before stand those of the next
   pub bytes_more : (before after : List ℕ) → before ≡ flat_map spell (map seen (take i all)) → after ≡ before ++ spell (seen x) → after ≡ flat_map spell (map seen (take (i + 1) all))
-  bytes_more before after were next = next ∙ ap (λ (t : List ℕ). t ++ spell (seen x)) were ∙ line_more spell seen all i x lt (spell (seen x)) (ap spell seen_is)
+  bytes_more before after were next = lines_more spell seen all i x lt before after were (next ∙ ap (λ (y : Y). before ++ spell y) seen_is)
 
   -- the one that is too long is one of all
   pub one_long : (e : Error) → RefusesIf (IsLong (seen x)) e → RefusesIf (HasLong IsLong (map seen all)) e

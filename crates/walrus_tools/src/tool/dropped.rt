@@ -89,7 +89,7 @@ pub fn dropped(
     Ok(all_dropped(alloc, &module.funcs, &used.funcs, &parts)?)
 }
 
-/// The same as bytes, spelled as [`function_list`](crate::function_list) spells functions.
+/// What [`dropped`] tells, as bytes, spelled as [`function_list`](crate::function_list) spells functions.
 ///
 /// # Errors
 ///

@@ -88,8 +88,8 @@ impl Told for Exported {
     }
 }
 
-/// The same as bytes, for callers of other languages: of each export a byte that says what it is (0 a function, 1 a table, 2 a memory, 3 a
-/// global, 4 a tag), its index and the length of its name as two numbers of 32 bits, the lowest byte first; and then its name.
+/// What [`exports`] tells, as bytes for callers of other languages: of each export a byte that says what it is (0 a function, 1 a table, 2 a
+/// memory, 3 a global, 4 a tag), its index and the length of its name as two numbers of 32 bits, the lowest byte first; and then its name.
 ///
 /// # Errors
 ///

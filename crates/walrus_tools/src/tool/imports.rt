@@ -109,9 +109,9 @@ impl Told for Imported {
     }
 }
 
-/// The same as bytes, for callers of other languages: of each import a byte that says what it is (0 a function, 1 a table, 2 a memory, 3 a
-/// global, 4 a tag) and its index, a number of 32 bits, the lowest byte first; then the name of the module and its own, each behind its length,
-/// such a number.
+/// What [`imports`] tells, as bytes for callers of other languages: of each import a byte that says what it is (0 a function, 1 a table, 2 a
+/// memory, 3 a global, 4 a tag) and its index, a number of 32 bits, the lowest byte first; then the name of the module and its own, each
+/// behind its length, such a number.
 ///
 /// # Errors
 ///

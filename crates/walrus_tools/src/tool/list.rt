@@ -142,8 +142,8 @@ impl Told for Listed {
     }
 }
 
-/// The same as bytes, for callers of other languages: of each function its index, how many bytes its body has, and the length of its name,
-/// [`NO_NAME`] for none, as three numbers of 32 bits, the lowest byte first; and then its name.
+/// What [`list`] tells, as bytes for callers of other languages: of each function its index, how many bytes its body has, and the length of
+/// its name, [`NO_NAME`] for none, as three numbers of 32 bits, the lowest byte first; and then its name.
 ///
 /// # Errors
 ///

@@ -1,11 +1,11 @@
-use Rattle.std.proofs.Common.{◌∙◌, ◌++◌, List, ap, flat_map, map, take_all}
+use Rattle.std.proofs.Common.{◌∙◌, List, ap, flat_map, map, take_all}
 use Rattle.walrus_base.specs.IdSet.{has_id}
 use Rattle.walrus_items.specs.Functions.{functions}
 use Rattle.walrus_tools.specs.DroppedList.{dropped_of}
-use Rattle.walrus_tools.specs.FunctionList.{ListedFunction, listed_seen, names_in}
+use Rattle.walrus_tools.specs.FunctionList.{listed_seen, names_in}
 use Rattle.walrus_tools.specs.Parts.{part_record}
 use Rattle.walrus_tools.specs.declared.parts.Part.{Part as RawPart}
-use Rattle.walrus_tools.proofs.LineLemmas.{line_more}
+use Rattle.walrus_tools.proofs.LineLemmas.{lines_more}
 use Rattle.walrus_tools.proofs.tool.dropped.all_dropped.Goals as goal
 
 pub parts-init : goal.parts-init
@@ -13,10 +13,7 @@ parts-init c = ap (map listed_seen) c.new-list.ensures.items
 
 pub parts-preserved : goal.parts-preserved
 parts-preserved c =
-    let tell = dropped_of (has_id c.args.stay.now) (names_in (functions c.args.all.now)) in
-    c.in_ok-add_dropped.ensures
-    ∙ ap (λ (fs : List ListedFunction). fs ++ tell (part_record c.part-item.result)) c.parts.invariant
-    ∙ line_more tell part_record c.args.parts.now c.parts.part-index c.part-item.result c.parts-test.true _ (ap (λ (p : RawPart). tell (part_record p)) c.part-item.is)
+    lines_more (dropped_of (has_id c.args.stay.now) (names_in (functions c.args.all.now))) part_record c.args.parts.now c.parts.part-index _ c.parts-test.true _ _ c.parts.invariant c.in_ok-add_dropped.ensures
 
 pub returns : goal.returns
 returns c =
