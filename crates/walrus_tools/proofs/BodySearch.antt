@@ -9,9 +9,12 @@ use Rattle.std.proofs.lemmas.Bool.Decides.{nat_tests}
 use Rattle.std.proofs.lemmas.Cmp.{ranked}
 use Rattle.std.proofs.lemmas.List.Sorted.{IsNonDecreasingBy-from_default}
 use Rattle.walrus_base.specs.Id.{place}
-use Rattle.walrus_base.specs.Operators.{function_item}
+use Rattle.walrus_base.specs.Operators.{Types, Tables, Memories, Tags, Globals, Elements, DataSegments, Item, function_item}
 use Rattle.walrus_base.specs.declared.id.Id.{Id}
 use Rattle.walrus_base.specs.declared.keys.FunctionKey.{FunctionKey}
+use Rattle.walrus_code.specs.Code.{item_of}
+use Rattle.walrus_code.specs.declared.items.ItemId.{ItemId}
+use Rattle.walrus_code.specs.declared.items.ItemId.TheVariants as items
 use Rattle.walrus_items.specs.Items.{is_item}
 use Rattle.walrus_items.specs.Transform.{range_of}
 use Rattle.walrus_tools.specs.LinkSteps.{AreRising, FindsBody}
@@ -97,3 +100,23 @@ module _ (all : List Body) (rise : AreRising (map range_of all)) (f : ℕ) where
     by [] is = ap (λ (ys : List Body). body_size (map range_of ys) (function_item f)) is
     by (d ∷ xs) is =
         lost d at (λ j lt. ranked _ f _ (sym ((parted (comparisons_rise d)).0 j d (omega arith) lt))) (λ j le lt. ranked _ f _ (sym ((parted (comparisons_rise d)).1 j d le lt)))
+
+-- ---- other items
+
+find_false : {Y : Type 0} (p : Y → Bool) (xs : List Y) → ((y : Y) → p y ≡ false) → find p xs ≡ None
+find_false p [] no = refl
+find_false p (x ∷ xs) no = ap (λ (b : Bool). cond b (Some x) (find p xs)) (no x) ∙ find_false p xs no
+
+other_kind : (all : List Body) (x : Item) → ((f : ℕ) → is_item (function_item f) x ≡ false) → None ≡ body_size (map range_of all) x
+other_kind all x apart = sym (ap (option_map (λ (r : ℕ × (ℕ × ℕ)). r.1.1 - r.1.0)) (find_false (λ (r : ℕ × (ℕ × ℕ)). is_item (function_item r.0) x) (map range_of all) (λ r. apart r.0)))
+
+-- what is no function has no body
+pub lost_kind : (all : List Body) (item : ItemId) → ((id : Id FunctionKey) → item ≡ items.Function id → ⊥) → None ≡ body_size (map range_of all) (item_of item)
+lost_kind all (items.«Type» id) h = other_kind all (Types, place id) (λ f. refl)
+lost_kind all (items.Function id) h = absurd (h id refl)
+lost_kind all (items.Table id) h = other_kind all (Tables, place id) (λ f. refl)
+lost_kind all (items.Memory id) h = other_kind all (Memories, place id) (λ f. refl)
+lost_kind all (items.Tag id) h = other_kind all (Tags, place id) (λ f. refl)
+lost_kind all (items.Global id) h = other_kind all (Globals, place id) (λ f. refl)
+lost_kind all (items.Element id) h = other_kind all (Elements, place id) (λ f. refl)
+lost_kind all (items.Data id) h = other_kind all (DataSegments, place id) (λ f. refl)

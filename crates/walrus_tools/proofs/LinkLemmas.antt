@@ -22,7 +22,7 @@ use Rattle.walrus_tools.specs.declared.export_groups.ExportGroups.{ExportGroups}
 abbrev Texts : Type 0
 Texts = Vec (Bor (List ℕ))
 
-abbrev name_if : Bool → List ℕ → List (List ℕ)
+abbrev pub name_if : Bool → List ℕ → List (List ℕ)
 name_if b name = if b then name ∷ [] else []
 
 one_more : (b : Bool) (old_q old_k new_q : Option Texts) (v : Texts) (name : List ℕ) → new_q ≡ cond b (Some v) old_q → (b ≡ true → old_q ≡ old_k) → texts v.items ≡ texts_of old_k ++ name ∷ []

@@ -1,5 +1,5 @@
 -- Why an item stays, and what refers to it, as bytes: from bytes to bytes.
-use Rattle.std.proofs.Common.{◌≡◌, ℕ, ◌+◌, ◌<◌, List, ◌++◌, ap, get_or, length, map, refl, take, ◌∙◌, inl, inr}
+use Rattle.std.proofs.Common.{◌≡◌, ℕ, ◌+◌, ◌<◌, List, ◌++◌, ap, get_or, length, map, refl, subst, take, ◌∙◌, inl, inr}
 use Rattle.std.specs.Global.{Vec}
 use Rattle.std.proofs.lemmas.List.{append_assoc}
 use Rattle.std.specs.Prelude.{◌⊎◌, Err, IfErr, IfOk, Ok, OnOk, Result, flat_map}
@@ -10,11 +10,12 @@ use Rattle.walrus_tools.specs.Choice.{Choice}
 use Rattle.walrus_tools.specs.ChosenModule.{KeepsChosen}
 use Rattle.walrus_tools.specs.Edits.{EditsTo, RefusesEdit}
 use Rattle.walrus_tools.specs.Ends.{LeavesLarge}
-use Rattle.walrus_tools.specs.Links.{LinkTold, links_seen}
+use Rattle.walrus_tools.specs.Links.{LinkTold, link_seen}
 use Rattle.walrus_tools.specs.Numbers.{RefusesIf}
 use Rattle.walrus_tools.specs.ReasonAnswers.{AnswersCallerList, AnswersCallers, AnswersReasonList, AnswersWhy, AreAsked, IsReasoned, RefusesText}
 use Rattle.walrus_tools.specs.ReasonBytes.{IsLongLink, IsLongReason, ReasonTold, link_bytes, reason_bytes}
 use Rattle.walrus_tools.specs.Spelled.{AreLong, HasLong, NoneLong}
+use Rattle.walrus_tools.specs.declared.links.Link.{Link}
 use Rattle.walrus_tools.proofs.Spellings.{bytes_more, spelled_told}
 
 module _ (c : Config) (bytes : List ℕ) (choices : List Choice) (text : List ℕ) where
@@ -58,3 +59,12 @@ bytes_behind seen spell IsLong all i x lt is front before after were next =
     let own : List ℕ = flat_map spell (map seen (take i all)) in
     next ∙ ap (λ (t : List ℕ). t ++ spell (seen x)) were ∙ append_assoc front own (spell (seen x))
     ∙ ap (λ (t : List ℕ). front ++ t) (bytes_more seen spell IsLong all i x lt is own (own ++ spell (seen x)) refl refl)
+
+-- the links of a chain, as they were lent
+module _ (told old : List Link) (same : told ≡ old) where
+  pub chain_fits : {X : Type 0} (result : Result X Error) → OnOk result (NoneLong IsLongLink (map link_seen told)) → OnOk result (HasLong IsLongLink (map link_seen old) → ⊥)
+  chain_fits (Ok x) none = λ h. subst (λ (ls : List Link). NoneLong IsLongLink (map link_seen ls)) same none h.0 h.1 h.2
+  chain_fits (Err e) none = tt
+
+  pub chain_refused : {X : Type 0} (result : Result X Error) → IfErr result (RefusesIf (HasLong IsLongLink (map link_seen told))) → IfErr result (RefusesIf (HasLong IsLongLink (map link_seen old)))
+  chain_refused result refused = subst (λ (ls : List Link). IfErr result (RefusesIf (HasLong IsLongLink (map link_seen ls)))) same refused

@@ -5,7 +5,12 @@ use Rattle.walrus_base.specs.Arena.{entries, item_at, items}
 use Rattle.walrus_base.specs.Id.{place}
 use Rattle.walrus_base.specs.Operators.{Space, Types, Functions, Tables, Memories, Tags, Globals, Elements, DataSegments, Item, function_item}
 use Rattle.walrus_base.specs.declared.id.Id.{Id}
+use Rattle.walrus_base.specs.declared.keys.DataKey.{DataKey}
+use Rattle.walrus_base.specs.declared.keys.ElementKey.{ElementKey}
 use Rattle.walrus_base.specs.declared.keys.FunctionKey.{FunctionKey}
+use Rattle.walrus_code.specs.Code.{item_of}
+use Rattle.walrus_code.specs.declared.items.ItemId.{ItemId}
+use Rattle.walrus_code.specs.declared.items.ItemId.TheVariants as items_of_kinds
 use Rattle.walrus_base.proofs.Lists.{Contains-map, Contains-none}
 use Rattle.walrus_base.proofs.SearchFound.{found-item, found-passes}
 use Rattle.walrus_base.proofs.Standing.{some_inj}
@@ -97,19 +102,19 @@ module _ (c : Contents) (i : ℕ) where
   pub function_root : (IsExported (contents_view c) (function_item i) → ⊥) → FindsRoot (contents_view c) (function_item i) (by_start c.start i)
   function_root out = by c.start refl where
     by : (o : Option (Id FunctionKey)) → c.start ≡ o → FindsRoot (contents_view c) (function_item i) (by_start o i)
-    by None is = no_root c (function_item i) out (λ h. none_isnt (ap (option_map place) (sym is) ∙ h.1.0)) (λ h. h) (λ h. h)
+    by None is = no_root c (function_item i) out (λ h. none_isnt (ap (option_map place) (sym is) ∙ h.1)) (λ h. h) (λ h. h)
     by (Some id) is = at (nat_eq (place id) i) refl where
       at : (b : Bool) → nat_eq (place id) i ≡ b → FindsRoot (contents_view c) (function_item i) (if b then Some roots.Start else None)
       at true same = (out, (place id, ap (option_map place) is, ap function_item (sym (eqb-true (place id) i same))))
       at false apart = no_root c (function_item i) out
-          (λ h. differ (function_item (place id)) (function_item i) apart (ap function_item (some_is (ap (option_map place) (sym is) ∙ h.1.0)) ∙ sym h.1.1)) (λ h. h) (λ h. h)
+          (λ h. differ (function_item (place id)) (function_item i) apart (ap function_item (some_is (ap (option_map place) (sym is) ∙ h.1)) ∙ sym h.2)) (λ h. h) (λ h. h)
 
   -- the segment at the place
   pub element_root : (IsExported (contents_view c) (Elements, i) → ⊥) → FindsRoot (contents_view c) (Elements, i) (by_element (item_at (elements c.elements) i))
   element_root out = by (item_at (elements c.elements) i) refl where
     by : (o : Option ElementValue) → item_at (elements c.elements) i ≡ o → FindsRoot (contents_view c) (Elements, i) (by_element o)
     by None none = no_root c (Elements, i) out (no_start Elements refl)
-        (λ h. none_isnt (ap (option_map element_of) (sym none) ∙ h.1.0)) (λ h. none_isnt (ap (option_map element_of) (sym none) ∙ h.1.0))
+        (λ h. none_isnt (ap (option_map element_of) (sym none) ∙ h.1)) (λ h. none_isnt (ap (option_map element_of) (sym none) ∙ h.1))
     by (Some e) there = kind e.kind refl where
       is : option_map element_of (item_at (elements c.elements) i) ≡ Some (element_of e)
       is = ap (option_map element_of) there
@@ -122,8 +127,8 @@ module _ (c : Contents) (i : ℕ) where
       kind (element_kinds.Active table offset) k = (element_of e, is, subst IsActiveKind (ap element_kind_of (sym k)) tt)
       kind element_kinds.Declared k = (element_of e, is, ap element_kind_of k)
       kind element_kinds.Passive k = no_root c (Elements, i) out (no_start Elements refl)
-          (λ h. subst IsActiveKind (sym (ap element_kind_of (sym k) ∙ same_kind h.0 h.1.0)) h.1.1)
-          (λ h. passive_isnt (ap element_kind_of (sym k) ∙ same_kind h.0 h.1.0 ∙ h.1.1))
+          (λ h. subst IsActiveKind (sym (ap element_kind_of (sym k) ∙ same_kind h.0 h.1)) h.2)
+          (λ h. passive_isnt (ap element_kind_of (sym k) ∙ same_kind h.0 h.1 ∙ h.2))
         where
           passive_isnt : PassiveElements ≡ DeclaredElements → ⊥
           passive_isnt e = cc
@@ -131,7 +136,7 @@ module _ (c : Contents) (i : ℕ) where
   pub data_root : (IsExported (contents_view c) (DataSegments, i) → ⊥) → FindsRoot (contents_view c) (DataSegments, i) (by_data (item_at (data_segments c.data_) i))
   data_root out = by (item_at (data_segments c.data_) i) refl where
     by : (o : Option DataValue) → item_at (data_segments c.data_) i ≡ o → FindsRoot (contents_view c) (DataSegments, i) (by_data o)
-    by None none = no_root c (DataSegments, i) out (no_start DataSegments refl) (λ h. none_isnt (ap (option_map data_of) (sym none) ∙ h.1.0)) (λ h. h)
+    by None none = no_root c (DataSegments, i) out (no_start DataSegments refl) (λ h. none_isnt (ap (option_map data_of) (sym none) ∙ h.1)) (λ h. h)
     by (Some d) there = kind d.kind refl where
       is : option_map data_of (item_at (data_segments c.data_) i) ≡ Some (data_of d)
       is = ap (option_map data_of) there
@@ -139,7 +144,7 @@ module _ (c : Contents) (i : ℕ) where
       kind : (k : HeldDataKind) → d.kind ≡ k → FindsRoot (contents_view c) (DataSegments, i) (by_data_kind k)
       kind (data_kinds.Active memory offset) k = (data_of d, is, subst IsRootData (ap data_kind_of (sym k)) tt)
       kind data_kinds.Passive k = no_root c (DataSegments, i) out (no_start DataSegments refl)
-          (λ h. subst IsRootData (sym (ap data_kind_of (sym k) ∙ ap (λ (x : DataSegment). x.kind) (some_is (sym is ∙ h.1.0)))) h.1.1) (λ h. h)
+          (λ h. subst IsRootData (sym (ap data_kind_of (sym k) ∙ ap (λ (x : DataSegment). x.kind) (some_is (sym is ∙ h.1)))) h.2) (λ h. h)
 
 -- ---- of a chain
 
@@ -154,3 +159,24 @@ root_by m x none lacks (element_segment i e at root is) = by e.kind refl root wh
   by DeclaredElements k h = lacks roots.Declared (subst (IsDeclared m) (sym is) (e, at, k))
   by (ActiveElements table offset) k h = lacks roots.Active (subst (IsActive m) (sym is) (e, at, subst IsActiveKind (sym k) tt))
 root_by m x none lacks (asked_for at) = Contains-none x (subst (λ (xs : List Item). Contains xs x) none at)
+
+-- ---- items that can be exported alone
+
+module _ (c : Contents) where
+  abbrev seen : Abstract
+  seen = contents_view c
+
+  plain : (s : Space) (i : ℕ) → (IsExported seen (s, i) → ⊥) → is_item (s, i) (function_item i) ≡ false → (IsActive seen (s, i) → ⊥) → (IsDeclared seen (s, i) → ⊥) → FindsRoot seen (s, i) None
+  plain s i out apart active declared = no_root c (s, i) out (no_start c i s apart) active declared
+
+  -- no other item is a root
+  pub plain_root : (item : ItemId) → (IsExported seen (item_of item) → ⊥) → ((id : Id FunctionKey) → item ≡ items_of_kinds.Function id → ⊥) → ((id : Id ElementKey) → item ≡ items_of_kinds.Element id → ⊥)
+      → ((id : Id DataKey) → item ≡ items_of_kinds.Data id → ⊥) → FindsRoot seen (item_of item) None
+  plain_root (items_of_kinds.«Type» id) out f e d = plain Types (place id) out refl (λ h. h) (λ h. h)
+  plain_root (items_of_kinds.Table id) out f e d = plain Tables (place id) out refl (λ h. h) (λ h. h)
+  plain_root (items_of_kinds.Memory id) out f e d = plain Memories (place id) out refl (λ h. h) (λ h. h)
+  plain_root (items_of_kinds.Tag id) out f e d = plain Tags (place id) out refl (λ h. h) (λ h. h)
+  plain_root (items_of_kinds.Global id) out f e d = plain Globals (place id) out refl (λ h. h) (λ h. h)
+  plain_root (items_of_kinds.Function id) out f e d = absurd (f id refl)
+  plain_root (items_of_kinds.Element id) out f e d = absurd (e id refl)
+  plain_root (items_of_kinds.Data id) out f e d = absurd (d id refl)

@@ -1,6 +1,6 @@
 -- Why an item stays that a text means, and what refers to it, of what was parsed, edited, collected and written: what the whole way comes to, and each
 -- refusal.
-use Rattle.std.proofs.Common.{◌≡◌, ℕ, true, false, List, [], ◌∷◌, Option, Some, None, map, refl, sym, ap, ◌∙◌, subst, inl, inr}
+use Rattle.std.proofs.Common.{◌≡◌, ℕ, ◌<◌, ◌≤◌, ◌^◌, Bool, true, false, length, arith, List, [], ◌∷◌, Option, Some, None, map, refl, sym, ap, ◌∙◌, subst, inl, inr}
 use Rattle.std.specs.Global.{Vec}
 use Rattle.std.specs.Prelude.{Contains, IsSome, Result, Ok, Err, option_map, ◌↔◌}
 use Rattle.walrus_base.specs.Arena.{item_at}
@@ -31,7 +31,6 @@ use Rattle.walrus_items.specs.declared.raw_section.RawCustomSection.{RawCustomSe
 use Rattle.walrus_contents.specs.There.{IsRefusal}
 use Rattle.walrus_contents.specs.View.{contents_view, function, kind_of}
 use Rattle.walrus_contents.specs.declared.parts.Contents.{Contents}
-use Rattle.walrus_theorem.proofs.SameItems.{live_back, live_on}
 use Rattle.walrus_module.specs.Asked.{OneMayRefuse}
 use Rattle.walrus_module.specs.Customs.{sections}
 use Rattle.walrus_module.specs.Emission.{EmitsTransform}
@@ -44,11 +43,13 @@ use Rattle.walrus_module.specs.declared.entry.SectionEntry.{SectionEntry}
 use Rattle.walrus_module.specs.declared.module.Module.{Module}
 use Rattle.walrus_module.proofs.KeptRaw.{none_refuses}
 use Rattle.walrus_module.proofs.RawStays.{all_raw}
+use Rattle.walrus_model.specs.Transform.{TrueOf}
+use Rattle.walrus_writing.specs.Transform.{CountStandsAt, IsTransformOf, imported_functions}
 use Rattle.walrus.specs.Collected.{Collects}
 use Rattle.walrus.specs.Marked.{ReachesUnsound}
 use Rattle.walrus.specs.Used.{RefusesSearch}
 use Rattle.walrus.specs.Why.{Explains}
-use Rattle.walrus_tools.specs.Alone.{IsAlone}
+use Rattle.walrus_tools.specs.Alone.{IsAlone, bytes_of}
 use Rattle.walrus_tools.specs.AloneSteps.{HoldsSame, alone_in}
 use Rattle.walrus_tools.specs.Callers.{AreCallers, HasUnsound}
 use Rattle.walrus_tools.specs.Choice.{Choice}
@@ -56,6 +57,7 @@ use Rattle.walrus_tools.specs.ChosenModule.{KeepsChosen, KeepsIn, RefusesChosen}
 use Rattle.walrus_tools.specs.Edits.{AnswersEdited, IsWhole, with_customs}
 use Rattle.walrus_tools.specs.FunctionMeaning.{has_body, is_local}
 use Rattle.walrus_tools.specs.ItemMeaning.{FindsItem, MeansIn, MeansItem}
+use Rattle.walrus_tools.specs.LinkSteps.{AreRising}
 use Rattle.walrus_tools.specs.Links.{IsRootBy, LinkTold, TellsRoot, link_of}
 use Rattle.walrus_tools.specs.Measures.{IsMeasured}
 use Rattle.walrus_tools.specs.ReasonAnswers.{AnswersCallers, AnswersWhy, AreAsked, IsAsked, IsReachedBody, IsReasoned, MeansNothing, RefusesText, TellsAlone}
@@ -66,7 +68,8 @@ use Rattle.walrus_tools.specs.declared.goers.Alone.{Alone}
 use Rattle.walrus_tools.specs.declared.roots.Root.{Root}
 use Rattle.walrus_tools.specs.declared.roots.Root.TheVariants as roots
 use Rattle.walrus_tools.proofs.AloneEnds.{alone_told, back_again, never_dead, same_view}
-use Rattle.walrus_tools.proofs.CallersEnds.{left_sound}
+use Rattle.walrus_tools.proofs.BodiesFit.{bodies_fit}
+use Rattle.walrus_tools.proofs.CallersEnds.{callers_seen, left_sound}
 use Rattle.walrus_tools.proofs.ChosenEnds.{chosen_held, chosen_whole}
 use Rattle.walrus_tools.proofs.EditEnds.{edit_refused, memory_refused, parsed_whole, plain_edited}
 use Rattle.walrus_tools.proofs.MeasuredEnds.{emission_lacks, measured, search_lacks}
@@ -104,39 +107,6 @@ module _ (customs : List Custom) (m : Contents) where
       heads : (a : Item) (rest : List Item) (b : Item) (others : List Item) → a ∷ rest ≡ b ∷ others → a ≡ b
       heads a rest b others h = cc
   root_told x (Some (y ∷ ys)) (Some root) found is = same_root root y is
-
-module _ (v : Abstract) (customs : List Custom) (kept : List Item) where
-  abbrev W : Abstract
-  W = record v { customs = customs; section_roots = kept }
-
-  refers_on : (x y : Item) → Refers v x y → Refers W x y
-  refers_on (Types, i) y h = h
-  refers_on (Functions, i) y h = h
-  refers_on (Tables, i) y h = h
-  refers_on (Memories, i) y h = h
-  refers_on (Tags, i) y h = h
-  refers_on (Globals, i) y h = h
-  refers_on (Elements, i) y h = h
-  refers_on (DataSegments, i) y h = h
-
-  refers_back : (x y : Item) → Refers W x y → Refers v x y
-  refers_back (Types, i) y h = h
-  refers_back (Functions, i) y h = h
-  refers_back (Tables, i) y h = h
-  refers_back (Memories, i) y h = h
-  refers_back (Tags, i) y h = h
-  refers_back (Globals, i) y h = h
-  refers_back (Elements, i) y h = h
-  refers_back (DataSegments, i) y h = h
-
-  pub callers_on : (y : Item) (callers : List Item) → AreCallers v y callers → AreCallers W y callers
-  callers_on y callers h = record {
-    rising = h.rising;
-    are = λ x. (
-      λ at. (live_on v customs kept x ((h.are x).0 at).0, refers_on x y ((h.are x).0 at).1),
-      λ so. (h.are x).1 (live_back v customs kept x so.0, refers_back x y so.1),
-    );
-  }
 
 -- a module holds the same as itself
 pub same_module : {S : Type 0} (m : Module S) → HoldsSame m m
@@ -177,6 +147,25 @@ module _ {V : Type 0} {O : V → Type 0} (G : (v : V) → Ghosts (O v)) where
           },
           alone_told G edited stays g.trapped ran f g.body g.trades g.used g.finds marks g.goers transform.function_ranges,
         )
+
+-- ---- where bodies stand
+
+module _ (c : Config) (keeps : Bool) (locations : ℕ → List ℕ) (v : Abstract) (output : Vec ℕ) (x : Transform) (told : IsTransformOf c keeps locations v output.items x) where
+  -- they are told by rising id
+  pub rising : AreRising x.function_ranges
+  rising = by told.holds where
+    by : TrueOf (imported_functions told.raw) told.offsets CountStandsAt keeps x output.items told.raw told.written.written.renaming v → AreRising x.function_ranges
+    by (inl some) = some.2.rising
+    by (inr none) = subst (λ (y : Transform). AreRising y.function_ranges) (sym none.1) (λ i j d lt below. absurd (omega (arith, below)))
+
+  -- and have so few bytes that they can be counted
+  pub counted : bytes_of x.function_ranges < 2 ^ 64
+  counted =
+      let fit : bytes_of x.function_ranges ≤ length output.items = bodies_fit c keeps locations v output.items x told in
+      let long : output.len ≡ length output.items = output.ok.0 in
+      let room : output.len ≤ output.cap = output.ok.1 in
+      let small : output.cap < 2 ^ 63 = output.small in
+      omega (arith, fit, long, room, small)
 
 -- ---- from bytes
 

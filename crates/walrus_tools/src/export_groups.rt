@@ -1,6 +1,6 @@
 //! The names of exports, by what is exported.
 
-ghost use Rattle.std.specs.Prelude.{◌≡◌, IfOk, OnOk};
+ghost use Rattle.std.specs.Prelude.{◌≡◌, IfOk, OnOk, map, string_bytes};
 ghost use Rattle.walrus_base.specs.Arena.{items};
 ghost use Rattle.walrus_code.specs.Code.{item_of};
 ghost use Rattle.walrus_items.specs.Exports.{exports};
@@ -84,13 +84,28 @@ pub(crate) fn groups_of<'a>(
     Ok(groups)
 }
 
+// Texts of one's own.
+fn all_owned(alloc: Global, names: &[&str]) -> Result<Vec<String>, AllocError>
+    ensures { IfOk result (λ all. map string_bytes all.items ≡ texts names.now) }
+{
+    let mut all = Vec::new(alloc);
+    'names: for name in names {
+        all.push(String::from_str(alloc, name)?)?;
+    }
+    Ok(all)
+}
+
 /// The names under which the item is exported. Takes a look-up.
-pub(crate) fn names_of<'a, 'b>(groups: &'b ExportGroups<'a>, item: ItemId) -> &'b [&'a str]
-    ensures { texts result.now ≡ names_at groups.now (key_of (item_of item)) }
+pub(crate) fn names_of(
+    alloc: Global,
+    groups: &ExportGroups<'_>,
+    item: ItemId,
+) -> Result<Vec<String>, AllocError>
+    ensures { IfOk result (λ all. map string_bytes all.items ≡ names_at groups.now (key_of (item_of item))) }
 {
     let key = key_of(item);
     match groups.names.get(&key) {
-        Some(names) => names.as_slice(),
-        None => &[],
+        Some(names) => all_owned(alloc, names.as_slice()),
+        None => Ok(Vec::new(alloc)),
     }
 }

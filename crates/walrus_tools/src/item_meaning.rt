@@ -13,9 +13,10 @@ use walrus::{Error, ExportItem, ItemId, ModuleExports, ModuleFunctions, Result};
 
 // What the first export of this name brings out.
 fn exported_as(all: &ModuleExports, name: &str) -> Option<ExportItem>
-    ensures { option_map exported result ≡ option_map (λ e. exported e.1.item) (named name.now (exports all.now)) }
+    ensures { option_map exported result
+        ≡ option_map (λ e. exported e.1.item) (named name.now (exports all.now)) }
 {
-    for export in all.iter() {
+    'exports: for (_, export) in all.iter_entries() {
         if export.name.as_str() == name {
             return Some(export.item);
         }

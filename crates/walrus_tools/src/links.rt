@@ -1,7 +1,7 @@
 //! What is told of an item: its names, and what it costs.
 
 ghost use Rattle.std.specs.Option.{option_to_list};
-ghost use Rattle.std.specs.Prelude.{◌≡◌, IfOk, map, option_map, string_bytes};
+ghost use Rattle.std.specs.Prelude.{◌≡◌, IfOk, map, option_map};
 ghost use Rattle.walrus_base.specs.Id.{place};
 ghost use Rattle.walrus_code.specs.Code.{item_of};
 ghost use Rattle.walrus_base.specs.Arena.{items};
@@ -10,7 +10,7 @@ ghost use Rattle.walrus_contents.specs.View.{parts_view};
 ghost use Rattle.walrus_items.specs.Exports.{exports};
 ghost use Rattle.walrus_items.specs.Seen.{text_of};
 ghost use Rattle.walrus_items.specs.Transform.{range_of};
-ghost use Rattle.walrus_tools.specs.LinkSteps.{AreRising, FindsBody, GroupsExports, lent_name, texts};
+ghost use Rattle.walrus_tools.specs.LinkSteps.{AreRising, FindsBody, GroupsExports, lent_name};
 ghost use Rattle.walrus_tools.specs.Links.{body_size, link_of, link_seen, links_in};
 
 use crate::export_groups::{ExportGroups, groups_of, names_of};
@@ -42,17 +42,6 @@ fn owned(alloc: Global, name: Option<&str>) -> result::Result<Option<String>, Al
         Some(name) => Ok(Some(String::from_str(alloc, name)?)),
         None => Ok(None),
     }
-}
-
-// The same of a list.
-fn all_owned(alloc: Global, names: &[&str]) -> result::Result<Vec<String>, AllocError>
-    ensures { IfOk result (λ all. map string_bytes all.items ≡ texts names.now) }
-{
-    let mut all = Vec::new(alloc);
-    'names: for name in names {
-        all.push(String::from_str(alloc, name)?)?;
-    }
-    Ok(all)
 }
 
 // The place of the body of the function of this id, if it is one of these.
@@ -96,7 +85,7 @@ fn link_of(
     Ok(Link {
         item,
         name: owned(alloc, name_in(parts, item))?,
-        exports: all_owned(alloc, names_of(groups, item))?,
+        exports: names_of(alloc, groups, item)?,
         size: body_size(bodies, item),
     })
 }

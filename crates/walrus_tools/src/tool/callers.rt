@@ -38,5 +38,8 @@ pub fn callers(
     let items = callers_of(alloc, &module, item)?;
     let (output, transform) = module.emit_wasm_with_transform(alloc)?;
     drop(output);
-    Ok(links_of(alloc, module.parts(), &transform.function_ranges, &items)?)
+    let bodies = transform.function_ranges.as_slice();
+    let left = module.parts();
+    let found = items.as_slice();
+    Ok(links_of(alloc, left, bodies, found)?)
 }

@@ -31,7 +31,8 @@ fn goers_with(
     module: &mut Module,
     item: ItemId,
 ) -> Result<Option<Marks<FunctionKey>>>
-    ensures { TellsGoers ⟦<dyn CustomSection as CustomSection>⟧ (item_of item) «module».old «module».new result }
+    ensures { TellsGoers ⟦<dyn CustomSection as CustomSection>⟧ (item_of item)
+        «module».old «module».new result }
 {
     let ItemId::Function(id) = item else {
         return Ok(None);
@@ -81,13 +82,16 @@ pub fn why(
     keep_chosen(alloc, &mut module, choices)?;
     let item = item_meant(&module.funcs, &module.exports, text)?;
     let chain = chain_to(alloc, &module, item)?;
-    let root = root_of_chain(module.parts(), &chain);
+    let read = module.parts();
+    let root = root_of_chain(read, &chain);
     gc::run(alloc, &mut module)?;
     let marks = goers_with(alloc, &mut module, item)?;
     let (output, transform) = module.emit_wasm_with_transform(alloc)?;
     drop(output);
-    let links = links_of_chain(alloc, module.parts(), &transform.function_ranges, &chain)?;
-    let alone = alone_if(&marks, &transform.function_ranges);
+    let bodies = transform.function_ranges.as_slice();
+    let left = module.parts();
+    let links = links_of_chain(alloc, left, bodies, &chain)?;
+    let alone = alone_if(&marks, bodies);
     Ok(Reason {
         item,
         links,

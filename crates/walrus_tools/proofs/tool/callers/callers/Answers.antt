@@ -1,16 +1,20 @@
-use Rattle.std.proofs.Common.{ap, refl, ◌∙◌, subst, sym}
+use Rattle.std.proofs.Common.{◌≡◌, ℕ, List, ap, ap₂, refl, ◌∙◌, subst, sym}
 use Rattle.std.proofs.lemmas.Result.{err_from_is_err_and}
 use Rattle.std.specs.Prelude.{Err, Ok, map, option_map}
 use Rattle.walrus_base.specs.declared.keys.FunctionKey.{FunctionKey}
 use Rattle.walrus_base.specs.declared.marks.Marks.{Marks}
 use Rattle.walrus_code.specs.Code.{item_of}
+use Rattle.walrus_model.specs.Abstract.{Abstract}
 use Rattle.walrus_contents.specs.Named.{items_in}
 use Rattle.walrus_items.specs.Transform.{range_of, transform_of}
 use Rattle.walrus_module.specs.Flags.{Flags, config_of, flags}
 use Rattle.walrus_tools.specs.Choice.{choices_seen}
 use Rattle.walrus_tools.specs.ReasonAnswers.{AnswersCallers}
 use Rattle.walrus_module.specs.View.{held_view}
-use Rattle.walrus_tools.proofs.WhyEnds.{bytes_lack, callers_lack, callers_on, callers_refused, callers_told, choice_lacks, same_module, search_stops, text_lacks, way_lacks, way_measured}
+use Rattle.walrus_tools.specs.LinkSteps.{AreRising}
+use Rattle.walrus_tools.specs.Links.{link_of}
+use Rattle.walrus_tools.proofs.CallersEnds.{callers_seen}
+use Rattle.walrus_tools.proofs.WhyEnds.{bytes_lack, callers_lack, callers_refused, callers_told, choice_lacks, rising, same_module, search_stops, text_lacks, way_lacks, way_measured}
 use Rattle.walrus_tools.proofs.tool.callers.callers.Goals as goal
 
 pub returns-in_err-module : goal.returns-in_err-module
@@ -85,6 +89,21 @@ returns-in_err-output c =
     rw (p.1, p.2) (subst (λ (f : Flags). AnswersCallers (config_of f) c.args.bytes.now choices c.args.text.now (Err c.in_err-output.field-0.0)) same
     (callers_refused (config_of f) c.args.bytes.now choices c.args.text.now _ (way_lacks _ choices c.args.text.now f (ap (λ (f : Flags). f.preserve_code_transform) same) c.args.bytes.now read.module read.ensures.found edited kept read.ensures.kept.raws read.ensures.kept.are stays ran read.ensures.configured stays (same_module stays) left _ c.in_err-output.ensures)))
 
+pub links_of-requires : goal.links_of-requires
+links_of-requires c =
+    let choices = choices_seen c.args.choices.now in
+    let same = c.of_choices-config.ensures.value in
+    let f = flags c.of_choices-config.result in
+    let read = c.in_ok-module in
+    let edited = c.keep_chosen.new.module in
+    let kept = c.in_ok-keep_chosen.ensures in
+    let stays = c.run.new.module in
+    let ran = c.in_ok-run.ensures in
+    let left = c.emit_wasm_with_transform.new.self in
+    let m = way_measured _ choices c.args.text.now f (ap (λ (f : Flags). f.preserve_code_transform) same) c.args.bytes.now read.module read.ensures.found edited kept read.ensures.kept.raws read.ensures.kept.are stays ran read.ensures.configured stays (same_module stays) left c.in_ok-output.output c.in_ok-output.transform c.in_ok-output.ensures in
+    subst (λ (rs : List (ℕ × (ℕ × ℕ))). AreRising rs) (sym (ap (map range_of) c.as_slice-bodies.ensures.value))
+    (rising _ _ _ _ c.in_ok-output.output _ m.tells)
+
 pub returns : goal.returns
 returns c =
     let choices = choices_seen c.args.choices.now in
@@ -99,6 +118,10 @@ returns c =
     let x = item_of c.in_ok-item.item in
     let transform = transform_of c.in_ok-output.transform in
     let m = way_measured _ choices c.args.text.now f (ap (λ (f : Flags). f.preserve_code_transform) same) c.args.bytes.now read.module read.ensures.found edited kept read.ensures.kept.raws read.ensures.kept.are stays ran read.ensures.configured stays (same_module stays) left c.in_ok-output.output c.in_ok-output.transform c.in_ok-output.ensures in
+    let bodies : map range_of c.as_slice-bodies.result.now ≡ transform.function_ranges = ap (map range_of) c.as_slice-bodies.ensures.value in
+    let found : map item_of c.as_slice-found.result.now ≡ items_in c.in_ok-items.items = ap (map item_of) c.as_slice-found.ensures.value in
     subst (λ (f : Flags). AnswersCallers (config_of f) c.args.bytes.now choices c.args.text.now (Ok c.in_ok-links_of.field-0)) same
-    (callers_told _ choices c.args.text.now f (ap (λ (f : Flags). f.preserve_code_transform) same) c.args.bytes.now read.module read.ensures.found edited kept _ transform m refl refl x c.in_ok-item.ensures (items_in c.in_ok-items.items) (callers_on (held_view stays) _ _ x (items_in c.in_ok-items.items) c.in_ok-items.ensures)
-    _ c.in_ok-links_of.ensures)
+    (callers_told _ choices c.args.text.now f (ap (λ (f : Flags). f.preserve_code_transform) same) c.args.bytes.now read.module read.ensures.found edited kept _ transform m refl refl x c.in_ok-item.ensures
+    (items_in c.in_ok-items.items) (callers_seen _ stays x (items_in c.in_ok-items.items) c.in_ok-items.ensures)
+    _ (c.in_ok-links_of.ensures ∙ ap₂ (λ (v : Abstract) (rs : List (ℕ × (ℕ × ℕ))). map (link_of v rs) (map item_of c.as_slice-found.result.now)) c.parts-left.ensures bodies
+    ∙ ap (map (link_of (held_view left) transform.function_ranges)) found))
