@@ -7,8 +7,8 @@ mod Help
 mod Itself
 mod JsonLists
 mod Lines
-mod OrderLemmas
 mod Numbers
+mod OrderLemmas
 mod Pieces
 mod PutLemmas
 mod Refusals

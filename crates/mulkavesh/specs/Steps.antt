@@ -66,9 +66,12 @@ with_named o n v = Ok (record o { values = o.values ++ record { naming = n; valu
 abbrev pub by_said : List ℕ → Option Bool
 by_said word = if bytes_eq word (codes "size") then Some true else (if bytes_eq word (codes "index") then Some false else None)
 
-abbrev pub with_by : Said → Value → Option Bool → Result Said Wrong
-with_by o v (Some b) = Ok (record o { listing = record (o.listing) { by_size = b } })
-with_by o v None = Err (BadValue naming.By v)
+abbrev pub set_by : Said → Value → Option Bool → Result Said Wrong
+set_by o v (Some b) = Ok (record o { listing = record (o.listing) { by_size = b } })
+set_by o v None = Err (BadValue naming.By v)
+
+abbrev pub with_by : Said → Value → Result Said Wrong
+with_by o v = set_by o v (by_said (value_bytes v))
 
 -- the number of so many bits that digits say in decimal
 abbrev pub digits_said : (bits : ℕ) → List ℕ → Option ℕ
@@ -79,16 +82,19 @@ digits_said bits digits =
 abbrev pub number_said : List ℕ → Option ℕ
 number_said word = digits_said 32 (without_leading_plus word)
 
-abbrev pub with_count : Said → Value → Option ℕ → Result Said Wrong
-with_count o v (Some n) = Ok (record o { listing = record (o.listing) { count = Some n } })
-with_count o v None = Err (BadValue naming.Count v)
+abbrev pub set_count : Said → Value → Option ℕ → Result Said Wrong
+set_count o v (Some n) = Ok (record o { listing = record (o.listing) { count = Some n } })
+set_count o v None = Err (BadValue naming.Count v)
+
+abbrev pub with_count : Said → Value → Result Said Wrong
+with_count o v = set_count o v (number_said (value_bytes v))
 
 -- the value of an option
 abbrev pub with_value : Said → Naming → Value → Result Said Wrong
 with_value o naming.Short v = with_output o v
 with_value o naming.Long v = with_output o v
-with_value o naming.By v = with_by o v (by_said (value_bytes v))
-with_value o naming.Count v = with_count o v (number_said (value_bytes v))
+with_value o naming.By v = with_by o v
+with_value o naming.Count v = with_count o v
 with_value o n v = with_named o n v
 
 -- as what the subcommand is about, and else as IN
