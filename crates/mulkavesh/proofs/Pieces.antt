@@ -1,5 +1,5 @@
 -- An order that is begun, and what one argument or piece more makes of it.
-use Rattle.std.proofs.Common.{◌≡◌, ◌<◌, ℕ, zero, suc, Bool, true, false, not, ◌&&◌, List, [], ◌∷◌, ◌++◌, length, map, refl, sym, ap, ap₂, ◌∙◌, subst, inl, inr, ◌⊎◌, ⊎_elim, codes, string_bytes, arith}
+use Rattle.std.proofs.Common.{◌≡◌, ◌<◌, ℕ, zero, suc, Bool, true, false, not, ◌&&◌, List, [], ◌∷◌, ◌++◌, map, refl, sym, ap, ap₂, ◌∙◌, subst, inl, inr, ◌⊎◌, ⊎_elim, codes, string_bytes, arith}
 use Rattle.std.specs.Prelude.{◌↔◌, All, Contains, Option, Some, None, Result, Ok, Err, String, bytes_eq, eqb, flat_map, is_some, if◌then◌else◌}
 use Rattle.std.specs.List.{last_or}
 use Rattle.std.specs.declared.alloc.Global.{Global}
@@ -14,10 +14,10 @@ use Rattle.mulkavesh.specs.declared.order.Naming.TheVariants as naming
 use Rattle.mulkavesh.specs.declared.order.Value.{Value}
 use Rattle.mulkavesh.specs.declared.order.Work.{Work}
 use Rattle.mulkavesh.specs.declared.mistakes.Wrong.{Wrong}
-use Rattle.mulkavesh.specs.declared.mistakes.Wrong.TheVariants.{BadValue, SecondInput, SecondOutput}
+use Rattle.mulkavesh.specs.declared.mistakes.Wrong.TheVariants.{SecondInput, SecondOutput}
 use Rattle.mulkavesh.specs.Order.{Said, has_flag, has_naming, has_operand, is_set, value_bytes}
-use Rattle.mulkavesh.specs.Steps.{by_said, number_said, set, set_by, set_count, with_by, with_count, with_named, with_output, with_plain, with_value}
-use Rattle.mulkavesh.specs.Words.{IsBy, IsCount, IsFilled, IsGood, IsPiece, IsPlain, Piece, SaysBy, Valued, Word, by_of, count_of, flag, flag_in, held_value, named_of, one_value, one_word, out_of, plain, plain_in, quiet, valued_in}
+use Rattle.mulkavesh.specs.Steps.{number_said, set, set_by, set_count, with_by, with_count, with_named, with_output, with_plain, with_value}
+use Rattle.mulkavesh.specs.Words.{IsBy, IsCount, IsFilled, IsGood, IsPiece, IsPlain, Piece, SaysBy, Valued, Word, by_of, count_of, flag_in, held_value, named_of, one_value, one_word, out_of, plain, valued_in}
 use Rattle.mulkavesh.proofs.Numbers.{said_index}
 use Rattle.mulkavesh.proofs.Spelling.{decided}
 

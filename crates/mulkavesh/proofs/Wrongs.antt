@@ -1,6 +1,6 @@
 -- What is wrong with arguments, of an order that is begun.
-use Rattle.std.proofs.Common.{◌≡◌, ℕ, Bool, true, false, not, ◌&&◌, List, [], ◌∷◌, ◌++◌, map, length, refl, sym, ap, ap₂, ◌∙◌, subst, inl, inr, ◌⊎◌, codes, string_bytes}
-use Rattle.std.specs.Prelude.{All, Option, Some, None, Result, Ok, Err, String, bytes_eq, flat_map, is_some, if◌then◌else◌}
+use Rattle.std.proofs.Common.{◌≡◌, ℕ, Bool, true, false, not, ◌&&◌, List, [], ◌∷◌, ◌++◌, length, refl, sym, ap, ap₂, ◌∙◌, subst, inl, inr, ◌⊎◌, codes, string_bytes}
+use Rattle.std.specs.Prelude.{Option, Some, None, Result, Ok, Err, String, bytes_eq, flat_map, is_some, if◌then◌else◌}
 use Rattle.std.specs.declared.alloc.Global.{Global}
 use Rattle.std.proofs.lemmas.List.{append-nil, append_assoc}
 use Rattle.std.proofs.lemmas.List.Concat.{flat_map-append}
@@ -14,10 +14,10 @@ use Rattle.mulkavesh.specs.declared.mistakes.Wrong.{Wrong}
 use Rattle.mulkavesh.specs.declared.mistakes.Wrong.TheVariants.{BadValue, SecondOutput, SecondInput}
 use Rattle.mulkavesh.specs.Mistakes.{Stands, WrongAt, room, room_if}
 use Rattle.mulkavesh.specs.Order.{Said, has_operand, value_bytes}
-use Rattle.mulkavesh.specs.Steps.{by_said, number_said, set_by, set_count, with_by, with_count, with_output, with_plain, with_value}
-use Rattle.mulkavesh.specs.Words.{IsFilled, IsGood, IsPiece, Piece, SaysBy, Valued, Word, one_value, one_word, out_of, piece_words, plain_in, valued_in}
+use Rattle.mulkavesh.specs.Steps.{number_said, set_by, set_count, with_by, with_count, with_output, with_plain, with_value}
+use Rattle.mulkavesh.specs.Words.{IsFilled, IsGood, IsPiece, Piece, SaysBy, Word, one_value, one_word, out_of, piece_words, plain_in, valued_in}
 use Rattle.mulkavesh.proofs.Numbers.{parsed}
-use Rattle.mulkavesh.proofs.Pieces.{Suits, Turns, held}
+use Rattle.mulkavesh.proofs.Pieces.{Turns, held}
 use Rattle.mulkavesh.proofs.Spelling.{differs}
 
 -- ---- at the first arguments that are wrong
