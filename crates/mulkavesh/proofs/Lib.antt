@@ -7,7 +7,7 @@ mod Help
 mod Itself
 mod JsonLists
 mod Lines
-mod Numbers
+mod NumberLemmas
 mod OrderLemmas
 mod Pieces
 mod PutLemmas
