@@ -4,16 +4,20 @@
 # The options of a subcommand.
 _mulkavesh_options() {
   case $1 in
-    gc) echo --no-names --no-producers --no-legacy --quiet --help ;;
-    report | list | check) echo --json --no-legacy --no-names --no-producers --help ;;
+    gc) echo --keep --drop --no-names --no-producers --no-legacy --quiet --help ;;
+    report) echo --keep --drop --json --no-legacy --no-names --no-producers --help ;;
+    list) echo --dropped --exports --imports --by -n --keep --drop --json --no-legacy --no-names --no-producers --help ;;
+    check) echo --json --no-legacy --no-names --no-producers --help ;;
     sections) echo --all --json --help ;;
     strip) echo --section --names --producers --debug --all --help ;;
-    why) echo --json --help ;;
-    snip | stub) echo --help ;;
+    snip) echo --function --no-names --no-producers --no-legacy --quiet --help ;;
+    stub) echo --module --import --no-names --no-producers --no-legacy --quiet --help ;;
+    why) echo --callers --keep --drop --json --no-legacy --no-names --no-producers --help ;;
   esac
 }
 
-# What can stand at the cursor: a subcommand first; behind it an option, or a file; behind `--section` a name that many modules have; and behind `help` a subcommand.
+# What can stand at the cursor: a subcommand first; behind it an option, or a file; behind an option what its value can be, where
+# that is known; and behind `help` a subcommand.
 _mulkavesh() {
   local -a names
   names=(gc report list check sections strip snip stub why)
@@ -23,6 +27,10 @@ _mulkavesh() {
     compadd -- $names
   elif [[ $words[CURRENT-1] == --section ]]; then
     compadd -- name producers '.debug*' sourceMappingURL
+  elif [[ $words[CURRENT-1] == --by ]]; then
+    compadd -- size index
+  elif [[ $words[CURRENT-1] == (--keep|--drop|--function|--module|--import|-n) ]]; then
+    return 1
   elif [[ $words[CURRENT-1] != -o && $words[CURRENT-1] != --output && $PREFIX == -* ]]; then
     compadd -- ${=$(_mulkavesh_options $words[2])} -o --output
   else

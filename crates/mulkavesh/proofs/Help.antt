@@ -1,15 +1,15 @@
 -- Whether an argument asks for help.
 use Rattle.std.proofs.Common.{◌≡◌, Bool, true, false, ◌||◌, List, [], ◌∷◌, ◌++◌, append_assoc, refl, sym, ap, ◌∙◌, subst, inl, inr, ◌⊎◌, ⊎_elim, codes}
-use Rattle.std.specs.Prelude.{All, flat_map, bytes_eq, if◌then◌else◌, ⊤}
+use Rattle.std.specs.Prelude.{All, Option, Some, None, flat_map, bytes_eq, is_some, if◌then◌else◌, ⊤}
 use Rattle.std.proofs.lemmas.List.Elements.{All-cons, All-head, All-nil, All-tail}
 use Rattle.mulkavesh.specs.declared.order.Naming.{Naming}
-use Rattle.mulkavesh.specs.declared.order.Naming.TheVariants.{Short, Long, Section}
+use Rattle.mulkavesh.specs.declared.order.Naming.TheVariants as naming
 use Rattle.mulkavesh.specs.declared.words.Seen.{Seen}
 use Rattle.mulkavesh.specs.declared.words.Seen.TheVariants as seen
-use Rattle.mulkavesh.specs.Order.{naming_word}
+use Rattle.mulkavesh.specs.Order.{naming_named, naming_word}
 use Rattle.mulkavesh.specs.Steps.{asks_help, is_help, look_at, looks}
 use Rattle.mulkavesh.specs.Words.{AsksHelp, Front, IsFront, IsHelp, IsUnhelped, Word, front_words, pair, single}
-use Rattle.mulkavesh.proofs.Spelling.{decided, differs, or_cases}
+use Rattle.mulkavesh.proofs.Spelling.{decided, differs, naming_is, no_naming, or_cases}
 
 -- ---- one argument
 
@@ -29,35 +29,32 @@ neither_test false b is = (refl, is)
 neither : (word a b : Word) → (bytes_eq word a || bytes_eq word b) ≡ false → (word ≡ a → ⊥) × (word ≡ b → ⊥)
 neither word a b is = let t = neither_test (bytes_eq word a) (bytes_eq word b) is in (differs word a t.0, differs word b t.1)
 
--- the tests of the options that have a value
-abbrev is_naming : Word → Bool
-is_naming word = bytes_eq word (codes "-o") || bytes_eq word (codes "--output") || bytes_eq word (codes "--section")
-
-one_naming : (word : Word) → is_naming word ≡ true → (n : Naming) × (word ≡ naming_word n)
-one_naming word is = ⊎_elim (λ e. ⊎_elim (λ s. (Short, s)) (λ s. (Long, s)) (either word (codes "-o") (codes "--output") e)) (λ e. (Section, decided word (codes "--section") e)) (or_cases _ _ is)
-
-no_naming : (word : Word) → is_naming word ≡ false → (n : Naming) → word ≡ naming_word n → ⊥
-no_naming word is n = by n
+-- the word is an option that has a value, or none
+naming_or : (word : Word) → ((n : Naming) × (word ≡ naming_word n) × (is_some (naming_named word) ≡ true)) ⊎ (((n : Naming) → word ≡ naming_word n → ⊥) × (is_some (naming_named word) ≡ false))
+naming_or word = by (naming_named word) refl
   where
-    t : ((bytes_eq word (codes "-o") || bytes_eq word (codes "--output")) ≡ false) × (bytes_eq word (codes "--section") ≡ false)
-    t = neither_test (bytes_eq word (codes "-o") || bytes_eq word (codes "--output")) (bytes_eq word (codes "--section")) is
+    by : (m : Option Naming) → naming_named word ≡ m → ((n : Naming) × (word ≡ naming_word n) × (is_some (naming_named word) ≡ true)) ⊎ (((n : Naming) → word ≡ naming_word n → ⊥) × (is_some (naming_named word) ≡ false))
+    by (Some n) is = inl (n, naming_is word n is, ap is_some is)
+    by None is = inr (no_naming word is, ap is_some is)
 
-    by : (n : Naming) → word ≡ naming_word n → ⊥
-    by Short same = (neither word (codes "-o") (codes "--output") t.0).0 same
-    by Long same = (neither word (codes "-o") (codes "--output") t.0).1 same
-    by Section same = differs word (codes "--section") t.1 same
+-- what an argument is, where it asks for no help and isn't `--`
+seen_other : (word : Word) → (word ≡ codes "--" → ⊥) → (IsHelp word → ⊥) → IsSeen word (if is_some (naming_named word) then seen.Option else seen.Nothing)
+seen_other word no_ending no_help = by (naming_or word)
+  where
+    by : ((n : Naming) × (word ≡ naming_word n) × (is_some (naming_named word) ≡ true)) ⊎ (((n : Naming) → word ≡ naming_word n → ⊥) × (is_some (naming_named word) ≡ false)) → IsSeen word (if is_some (naming_named word) then seen.Option else seen.Nothing)
+    by (inl (n, named, is)) = subst (λ (b : Bool). IsSeen word (if b then seen.Option else seen.Nothing)) (sym is) (n, named)
+    by (inr (none, is)) = subst (λ (b : Bool). IsSeen word (if b then seen.Option else seen.Nothing)) (sym is) (no_ending, no_help, none)
 
 seen_is : (word : Word) → IsSeen word (look_at word)
-seen_is word = by _ refl _ refl _ refl
+seen_is word = by _ refl _ refl
   where
-    by : (a : Bool) → (bytes_eq word (codes "-h") || bytes_eq word (codes "--help")) ≡ a → (b : Bool) → is_naming word ≡ b → (c : Bool) → bytes_eq word (codes "--") ≡ c
-        → IsSeen word (if a then seen.Help else (if b then seen.Option else (if c then seen.Ending else seen.Nothing)))
-    by true is _ _ _ _ = either word _ _ is
-    by false _ true is _ _ = one_naming word is
-    by false _ false _ true is = decided word _ is
-    by false no_help false no_option false no_ending =
+    by : (a : Bool) → (bytes_eq word (codes "-h") || bytes_eq word (codes "--help")) ≡ a → (c : Bool) → bytes_eq word (codes "--") ≡ c
+        → IsSeen word (if a then seen.Help else (if c then seen.Ending else (if is_some (naming_named word) then seen.Option else seen.Nothing)))
+    by true is _ _ = either word _ _ is
+    by false _ true is = decided word _ is
+    by false no_help false no_ending =
         let h = neither word _ _ no_help in
-        (differs word _ no_ending, (λ asks. ⊎_elim h.0 h.1 asks), no_naming word no_option)
+        seen_other word (differs word _ no_ending) (λ asks. ⊎_elim h.0 h.1 asks)
 
 -- ---- argument for argument
 
@@ -110,9 +107,16 @@ help_seen word (inl is) = ap look_at is
 help_seen word (inr is) = ap look_at is
 
 naming_seen : (n : Naming) → look_at (naming_word n) ≡ seen.Option
-naming_seen Short = refl
-naming_seen Long = refl
-naming_seen Section = refl
+naming_seen naming.Short = refl
+naming_seen naming.Long = refl
+naming_seen naming.Section = refl
+naming_seen naming.Keep = refl
+naming_seen naming.Drop = refl
+naming_seen naming.Function = refl
+naming_seen naming.Module = refl
+naming_seen naming.Import = refl
+naming_seen naming.By = refl
+naming_seen naming.Count = refl
 
 single_seen : (word : Word) → IsFront (single word) → look_at word ≡ seen.Nothing
 single_seen word is = by (look_at word) refl (seen_is word)

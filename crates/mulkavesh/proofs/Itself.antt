@@ -96,7 +96,7 @@ unasked first words never none alone named no_version Help (help_alone is) = alo
 unasked first words never none alone named no_version (HelpOf w) (help_of _ begins h) = none h
 unasked first words never none alone named no_version (HelpOf w) (help_named _ is) = named w is
 unasked first words never none alone named no_version Version (version is) = no_version is
-unasked first words never none alone named no_version (Run o) (order _ says) = begins_not first words never o.work (_, says.are)
+unasked first words never none alone named no_version (Run o) (order _ says) = begins_not first words never o.work (_, (says.reads).are)
 
 no_version_work : (first : Word) → (first ≡ codes "-V") ⊎ (first ≡ codes "--version") → IsNoWork first
 no_version_work first is w same = version_is_none w (⊎_elim (λ e. inl (sym e ∙ same)) (λ e. inr (sym e ∙ same)) is)

@@ -9,7 +9,9 @@ mod JsonLists
 mod Lines
 mod LinkLemmas
 mod OrderLemmas
+mod Numbers
 mod Pieces
+mod PutLemmas
 mod Refusals
 mod RowLists
 mod SectionLines

@@ -7,7 +7,7 @@ use crate::message::write_shown;
 use crate::mistakes::{Mistake, Wrong};
 use crate::nearest::nearest;
 use crate::order::{Flag, Naming, Work, takes, takes_value};
-use crate::usage::{OUT_OF_MEMORY, USAGE, name_of, operand_of};
+use crate::usage::{OUT_OF_MEMORY, USAGE, name_of};
 use walrus_tools::{DeviceFailed, Sink, write_all};
 
 // What can stand first.
@@ -41,18 +41,35 @@ fn option_of(work: Work, flag: Flag) -> &'static str {
         Flag::Producers => "--producers",
         Flag::Debug => "--debug",
         Flag::All => "--all",
+        Flag::Exports => "--exports",
+        Flag::Imports => "--imports",
+        Flag::Dropped => "--dropped",
+        Flag::Callers => "--callers",
     }
 }
 
-// The option with a value, likewise.
-fn valued_option_of(work: Work, naming: Naming) -> &'static str {
-    if !takes_value(work, naming) {
-        return "--help";
-    }
+// An option with a value.
+fn spelled(naming: Naming) -> &'static str {
     match naming {
         Naming::Short => "-o",
         Naming::Long => "--output",
         Naming::Section => "--section",
+        Naming::Keep => "--keep",
+        Naming::Drop => "--drop",
+        Naming::Function => "--function",
+        Naming::Module => "--module",
+        Naming::Import => "--import",
+        Naming::By => "--by",
+        Naming::Count => "-n",
+    }
+}
+
+// The option with a value, where the subcommand has it; and else one that each has.
+fn valued_option_of(work: Work, naming: Naming) -> &'static str {
+    if takes_value(work, naming) {
+        spelled(naming)
+    } else {
+        "--help"
     }
 }
 
@@ -68,7 +85,17 @@ fn meant(work: Work, word: &str) -> Option<&'static str> {
         option_of(work, Flag::Producers),
         option_of(work, Flag::Debug),
         option_of(work, Flag::All),
+        option_of(work, Flag::Exports),
+        option_of(work, Flag::Imports),
+        option_of(work, Flag::Dropped),
+        option_of(work, Flag::Callers),
         valued_option_of(work, Naming::Section),
+        valued_option_of(work, Naming::Keep),
+        valued_option_of(work, Naming::Drop),
+        valued_option_of(work, Naming::Function),
+        valued_option_of(work, Naming::Module),
+        valued_option_of(work, Naming::Import),
+        valued_option_of(work, Naming::By),
         "--output",
         "--help",
     ];
@@ -168,6 +195,11 @@ const SECOND_OUTPUT: &str = "' is a second output; there can be one -o\n";
 const NO_SECTION: &[u8] =
     b"nothing to strip: --section NAME, --names, --producers, --debug or --all\n";
 
+const APART: &str =
+    "--dropped, --exports and --imports don't go together, nor does --by size with the last two";
+
+const MISSING: &str = " is missing";
+
 const SECOND_INPUT: &str = "' is a second input; the output goes behind -o\n";
 
 // Tells what is wrong behind a subcommand.
@@ -176,11 +208,14 @@ fn tell_wrong<E: Sink>(errors: &mut E, work: Work, wrong: &Wrong) -> Result<(), 
         Wrong::UnknownOption(word) => tell_option(errors, work, word.as_str()),
         Wrong::NotTaken(word) => tell_about(errors, work, word.as_str(), NOT_TAKEN),
         Wrong::TakesNoValue(word) => tell_about(errors, work, word.as_str(), VALUED),
-        Wrong::NoValue(naming) => tell_about(errors, work, missing_behind(*naming), ""),
+        Wrong::NoValue(naming) => tell_missing(errors, work, *naming),
+        Wrong::BadValue(naming, value) => tell_bad(errors, work, *naming, value.text()),
         Wrong::SecondOutput(value) => tell_second(errors, work, value.text(), SECOND_OUTPUT),
         Wrong::SecondInput(word) => tell_second(errors, work, word.as_str(), SECOND_INPUT),
-        Wrong::OperandMissing => tell_about(errors, work, operand_of(work), " is missing"),
+        Wrong::OperandMissing => tell_about(errors, work, "FUNCTION", MISSING),
         Wrong::NoSection => tell_nothing(errors, work),
+        Wrong::NothingMeant => tell_about(errors, work, needed_by(work), MISSING),
+        Wrong::Apart => tell_about(errors, work, APART, ""),
         Wrong::OutOfMemory => write_all(errors, OUT_OF_MEMORY.as_bytes()),
     }
 }
@@ -191,13 +226,49 @@ fn tell_nothing<E: Sink>(errors: &mut E, work: Work) -> Result<(), DeviceFailed>
     write_all(errors, NO_SECTION)
 }
 
-// What is told of an option that has no value behind it.
-fn missing_behind(naming: Naming) -> &'static str {
-    match naming {
-        Naming::Short => "FILE is missing behind -o",
-        Naming::Long => "FILE is missing behind --output",
-        Naming::Section => "NAME is missing behind --section",
+// Which of the options that name what it works on has to stand there.
+fn needed_by(work: Work) -> &'static str {
+    if work == Work::Snip {
+        "--function F"
+    } else {
+        "--module M"
     }
+}
+
+// What the value of the option is called.
+fn value_of(naming: Naming) -> &'static str {
+    match naming {
+        Naming::Short | Naming::Long => "FILE",
+        Naming::Function => "F",
+        Naming::Module => "M",
+        Naming::By => "size or index",
+        Naming::Count => "N",
+        _ => "NAME",
+    }
+}
+
+// Tells of an option that has no value behind it.
+fn tell_missing<E: Sink>(errors: &mut E, work: Work, naming: Naming) -> Result<(), DeviceFailed> {
+    begin(errors, work)?;
+    write_all(errors, value_of(naming).as_bytes())?;
+    write_all(errors, b" is missing behind ")?;
+    write_all(errors, spelled(naming).as_bytes())?;
+    end_with_help(errors, work)
+}
+
+// Tells of a value that the option can't have.
+fn tell_bad<E: Sink>(
+    errors: &mut E,
+    work: Work,
+    naming: Naming,
+    value: &str,
+) -> Result<(), DeviceFailed> {
+    begin(errors, work)?;
+    write_all(errors, b"'")?;
+    write_shown(errors, value.as_bytes())?;
+    write_all(errors, b"' is no value of ")?;
+    write_all(errors, spelled(naming).as_bytes())?;
+    end_with_help(errors, work)
 }
 
 /// What is told where standard input is a terminal, and nothing says that it is read.
