@@ -21,7 +21,7 @@ use Rattle.mulkavesh.specs.Mistakes.{room, room_if}
 use Rattle.mulkavesh.specs.Order.{Said, flag_word, has_flag, has_naming, has_operand, joined_front, naming_word, value_bytes}
 use Rattle.mulkavesh.specs.Steps.{Put, by_said, number_said, put_spelled, put_value, put_word, put_words, set, spelling_of, then_at, then_put, with_by, with_count, with_flag, with_output, with_plain, with_value}
 use Rattle.mulkavesh.specs.Words.{IsFilled, IsGood, IsPiece, IsPlain, Piece, SaysBy, Valued, Word, behind_words, ending_words, flag, flag_in, joined, one_value, one_word, out_of, piece_words, plain, plain_in, quiet, valued, valued_in}
-use Rattle.mulkavesh.proofs.Numbers.{parsed}
+use Rattle.mulkavesh.proofs.NumberLemmas.{parsed}
 use Rattle.mulkavesh.proofs.Pieces.{Turns, adds, held, turns_both, turns_flag, turns_none, turns_value}
 use Rattle.mulkavesh.proofs.Sound.{IsValue, joined_is, joined_value, value_in, value_turns, valued_is, whole_value}
 use Rattle.mulkavesh.proofs.Spelling.{ending_spelled, flag_spelled, joined_spelled, naming_spelled, plain_spelled, quiet_spelled}

@@ -18,7 +18,7 @@ use Rattle.mulkavesh.specs.declared.mistakes.Wrong.TheVariants.{BadValue, Second
 use Rattle.mulkavesh.specs.Order.{Said, has_flag, has_naming, has_operand, is_set, value_bytes}
 use Rattle.mulkavesh.specs.Steps.{by_said, number_said, set, with_by, with_count, with_named, with_output, with_plain, with_value}
 use Rattle.mulkavesh.specs.Words.{IsBy, IsCount, IsFilled, IsGood, IsPiece, IsPlain, Piece, SaysBy, Valued, Word, by_of, count_of, flag, flag_in, held_value, named_of, one_value, one_word, out_of, plain, plain_in, quiet, valued_in}
-use Rattle.mulkavesh.proofs.Numbers.{said_index}
+use Rattle.mulkavesh.proofs.NumberLemmas.{said_index}
 use Rattle.mulkavesh.proofs.Spelling.{decided}
 
 -- the plain words that an order holds

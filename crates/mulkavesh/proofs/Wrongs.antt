@@ -16,7 +16,7 @@ use Rattle.mulkavesh.specs.Mistakes.{Stands, WrongAt, room, room_if}
 use Rattle.mulkavesh.specs.Order.{Said, has_operand, value_bytes}
 use Rattle.mulkavesh.specs.Steps.{by_said, number_said, with_by, with_count, with_output, with_plain, with_value}
 use Rattle.mulkavesh.specs.Words.{IsFilled, IsGood, IsPiece, Piece, SaysBy, Valued, Word, one_value, one_word, out_of, piece_words, plain_in, valued_in}
-use Rattle.mulkavesh.proofs.Numbers.{parsed}
+use Rattle.mulkavesh.proofs.NumberLemmas.{parsed}
 use Rattle.mulkavesh.proofs.Pieces.{Suits, Turns, held}
 use Rattle.mulkavesh.proofs.Spelling.{differs}
 
