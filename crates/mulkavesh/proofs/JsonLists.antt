@@ -5,7 +5,7 @@ use Rattle.std.proofs.lemmas.List.{append-nil, append_assoc, flat_map_more, leng
 use Rattle.mulkavesh.specs.Json.{comma_at, separated}
 
 -- one text more
-behind : (comma : List ℕ) (texts : List (List ℕ)) (text : List ℕ) → separated comma (texts ++ text ∷ []) ≡ separated comma texts ++ (comma_at comma (length texts) ++ text)
+pub behind : (comma : List ℕ) (texts : List (List ℕ)) (text : List ℕ) → separated comma (texts ++ text ∷ []) ≡ separated comma texts ++ (comma_at comma (length texts) ++ text)
 behind comma [] text = append-nil text
 behind comma (first ∷ others) text =
     rw (eqb-suc-zero (length others)) (sym (flat_map_more (λ (other : List ℕ). comma ++ other) first others text))
@@ -35,12 +35,3 @@ module _ {A B : Type 0} (comma : List ℕ) (text_of : B → List ℕ) (seen : A 
       ∙ append_assoc (front ++ done) (comma_at comma i) text
       ∙ append_assoc front done (comma_at comma i ++ text)
       ∙ ap (λ (t : List ℕ). front ++ t) (sym step)
-
--- eight texts, one behind another
-pub in_a_row : (z t u v w x y s r : List ℕ) (a b c d e f g h : List ℕ) → z ≡ [] → t ≡ z ++ a → u ≡ t ++ b → v ≡ u ++ c → w ≡ v ++ d → x ≡ w ++ e → y ≡ x ++ f → s ≡ y ++ g → r ≡ s ++ h → r ≡ a ++ b ++ c ++ d ++ e ++ f ++ g ++ h
-in_a_row z t u v w x y s r a b c d e f g h z_is t_is u_is v_is w_is x_is y_is s_is r_is =
-    let t_all : t ≡ a = t_is ∙ ap (λ (l : List ℕ). l ++ a) z_is in
-    let v_all : v ≡ a ++ b ++ c = v_is ∙ ap (λ (l : List ℕ). l ++ c) (u_is ∙ ap (λ (l : List ℕ). l ++ b) t_all) in
-    let x_all : x ≡ a ++ b ++ c ++ d ++ e = x_is ∙ ap (λ (l : List ℕ). l ++ e) (w_is ∙ ap (λ (l : List ℕ). l ++ d) v_all) in
-    let s_all : s ≡ a ++ b ++ c ++ d ++ e ++ f ++ g = s_is ∙ ap (λ (l : List ℕ). l ++ g) (y_is ∙ ap (λ (l : List ℕ). l ++ f) x_all) in
-    r_is ∙ ap (λ (l : List ℕ). l ++ h) s_all

@@ -7,11 +7,13 @@ mod Help
 mod Itself
 mod JsonLists
 mod Lines
+mod LinkLemmas
 mod NumberLemmas
 mod OrderLemmas
 mod Pieces
 mod PutLemmas
 mod Refusals
+mod RowLists
 mod SectionLines
 mod ShowLemmas
 mod Sound

@@ -1,14 +1,13 @@
 -- What one order comes to, for all that was read and all that was written, and what is told of it.
-use Rattle.std.specs.Prelude.{ℕ, Bool, true, false, List, Option, Result, Ok, Err, String, IfSome, OnOk, string_bytes, ◌≡◌, ◌⊎◌, ⊤}
+use Rattle.std.specs.Prelude.{ℕ, Bool, true, false, List, Option, Result, Ok, Err, IfSome, OnOk, ◌≡◌, ◌⊎◌, ⊤}
 use Rattle.std.specs.Io.KnownBytes.{Appends, Keeps}
-use Rattle.std.specs.declared.alloc.Global.{Global}
-use Rattle.walrus_tools.specs.Facade.{Config, CountsReads, CountsWrites, Error, IsUntouched, Memory, Module, Read, ReadsWhole, Stream, Tells, ToolError, Write, WroteFront, stream_of}
+use Rattle.walrus_tools.specs.Facade.{CountsReads, CountsWrites, Error, IsUntouched, Memory, Module, Read, ReadsWhole, Stream, Tells, ToolError, Write, WroteFront, stream_of}
 use Rattle.mulkavesh.specs.declared.cause.Cause.{Cause}
 use Rattle.mulkavesh.specs.declared.cause.Cause.TheVariants as cause
 use Rattle.mulkavesh.specs.declared.subcommands.Made.{Made}
 use Rattle.mulkavesh.specs.declared.order.Work.{Work}
 use Rattle.mulkavesh.specs.declared.order.Work.TheVariants as work
-use Rattle.mulkavesh.specs.Cause.{IsInvalid, SaysFault, SaysRefused, refusal_text}
+use Rattle.mulkavesh.specs.Cause.{refusal_text}
 use Rattle.mulkavesh.specs.Message.{line}
 
 -- ---- from the source to the sink
@@ -34,10 +33,10 @@ module _ (Answers : List ℕ → Result Made Error → Type 0) (from_old from_ne
   Carries (Err Read) = Keeps to_old to_new
   Carries (Err (Module e)) = Keeps to_old to_new × RefusesRead e
 
-  -- where there is a text, it says what is wrong with all that was read, which is refused as invalid
-  abbrev pub FindsRead : Config → Cause → Type 0
-  FindsRead c (cause.Refused e said) = IfSome said (λ text. (bytes : List ℕ) × ReadsAndMakes bytes (Err e) × SaysRefused c bytes e text)
-  FindsRead c _ = ⊤
+  -- where there is a text, it says why all that was read is refused
+  abbrev pub FindsRead : (Says : (bytes : List ℕ) → Error → (text : List ℕ) → Type 0) → Cause → Type 0
+  FindsRead Says (cause.Refused e said) = IfSome said (λ text. (bytes : List ℕ) × ReadsAndMakes bytes (Err e) × Says bytes e text.items)
+  FindsRead Says _ = ⊤
 
 -- ---- what is told
 
@@ -72,9 +71,9 @@ TellsUnlessLeft false text errors = Tells errors text
 abbrev pub TellsUnwritten : Device → (errors : Stream) → Type 0
 TellsUnwritten to = TellsUnlessLeft to.is_left (line to.name to.trouble)
 
--- what came of an order that is read under this configuration, as the program tells it: the status, and on the error stream a note, or the refusal in
--- a line
-module _ (Answers : List ℕ → Result Made Error → Type 0) (w : Work) (c : Config) (from to : Device) (errors : Stream) (status : ℕ) where
+-- what came of an order, as the program tells it: the status, and on the error stream a note, or the refusal in a line
+module _ (Answers : List ℕ → Result Made Error → Type 0) (w : Work) (Says : List ℕ → Error → List ℕ → Type 0) (from to : Device) (errors : Stream)
+    (status : ℕ) where
   -- the status is 1, and a line says this text of this name
   abbrev pub TellsLine : List ℕ → List ℕ → Type 0
   TellsLine name text = (status ≡ 1) × Tells errors (line name text)
@@ -84,15 +83,14 @@ module _ (Answers : List ℕ → Result Made Error → Type 0) (w : Work) (c : C
   TellsMade true note = (status ≡ 1) × Tells errors (unaccepted_text w from.name note)
   TellsMade false note = (status ≡ 0) × Tells errors note
 
-  -- a line says that the bytes are invalid, which are all of the source, and behind it something that is wrong with them
-  abbrev pub TellsFaultRead : Error → Type 0
-  TellsFaultRead e = IsInvalid e
-      × ((bytes : List ℕ) × ReadsAndMakes Answers from.stream.old from.stream.new to.stream.old to.stream.new bytes (Err e)
-      × ((text : String Global) × SaysFault c bytes text × TellsLine from.name (string_bytes text)))
+  -- a line says why the bytes are refused, which are all of the source
+  abbrev pub TellsReason : Error → Type 0
+  TellsReason e = (bytes : List ℕ) × ReadsAndMakes Answers from.stream.old from.stream.new to.stream.old to.stream.new bytes (Err e)
+      × ((text : List ℕ) × Says bytes e text × TellsLine from.name text)
 
-  -- a line says why, and of invalid bytes also what is wrong with them, but where memory ran out while that was looked for
+  -- a line says that, or, where memory ran out while that was looked for, what the error says
   abbrev pub TellsRefusal : Error → Type 0
-  TellsRefusal e = TellsFaultRead e ⊎ TellsLine from.name (refusal_text w e)
+  TellsRefusal e = TellsReason e ⊎ TellsLine from.name (refusal_text w e)
 
   -- what comes of each answer
   abbrev pub TellsResult : Result Made ToolError → Type 0
@@ -103,14 +101,14 @@ module _ (Answers : List ℕ → Result Made Error → Type 0) (w : Work) (c : C
 
 -- The order was carried out or refused; its two devices counted the failure of which it answers and no other; what was written whole is flushed, also
 -- where it says that a module isn't accepted; and its answer was told.
-pub record RunsAndTells (Answers : List ℕ → Result Made Error → Type 0) (w : Work) (c : Config) (from to : Device) (errors : Stream) (status : ℕ)
-    (is_flushed : Bool) : Type 0 where
+pub record RunsAndTells (Answers : List ℕ → Result Made Error → Type 0) (w : Work) (Says : List ℕ → Error → List ℕ → Type 0) (from to : Device)
+    (errors : Stream) (status : ℕ) (is_flushed : Bool) : Type 0 where
   pub answer : Result Made ToolError
   pub ran : Carries Answers from.stream.old from.stream.new to.stream.old to.stream.new answer
   pub reads : CountsReads from.stream.failures_old from.stream.failures_new answer
   pub writes : CountsWrites to.stream.failures_old to.stream.failures_new answer
   pub flushed : OnOk answer (is_flushed ≡ true)
-  pub told : TellsResult Answers w c from to errors status answer
+  pub told : TellsResult Answers w Says from to errors status answer
 
 -- a text was written and the status is 0; or the sink failed, and a beginning of the text was written
 pub data Prints (text : List ℕ) (to : Device) (errors : Stream) (status : ℕ) : Type 0 where

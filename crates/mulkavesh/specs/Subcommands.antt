@@ -1,44 +1,42 @@
--- What each subcommand makes of the bytes of a module. Left open are what check and sections write for programs, under `--json`, and what is noted by
--- gc without `--quiet`, by snip and by stub.
-use Rattle.std.specs.Prelude.{ℕ, Bool, true, false, not, List, [], ◌++◌, Option, Some, None, Result, Ok, Err, String, codes, flat_map, is_some, string_bytes, ◌≡◌, ◌⊎◌, ⊤}
+-- What each subcommand makes of the bytes of a module. Left open is what check and sections write for programs, under `--json`.
+use Rattle.std.specs.Prelude.{ℕ, Bool, true, false, not, List, [], ◌++◌, Option, Some, None, Result, Ok, Err, String, codes, flat_map, is_some, string_bytes, ◌≡◌, ⊤}
 use Rattle.std.specs.Global.{Vec}
 use Rattle.std.specs.declared.alloc.Global.{Global}
-use Rattle.std.specs.Str.Parse.{ParsesUnsigned}
+use Rattle.walrus_tools.specs.Choice.{Choice}
+use Rattle.walrus_tools.specs.ChosenModule.{AnswersChosen, KeepsChosen, RefusesChosen}
+use Rattle.walrus_tools.specs.DroppedList.{AnswersDropped}
+use Rattle.walrus_tools.specs.ExportList.{AnswersExports}
 use Rattle.walrus_tools.specs.Faults.{Finds, WordsFault}
-use Rattle.walrus_tools.specs.FunctionNames.{AnswersFound, IsFound}
-use Rattle.walrus_tools.specs.Facade.{Config, Error, Fault, InvalidWasm, Memory, ReportsOn, RunsOn, config_of, defaults}
-use Rattle.walrus_tools.specs.Kinds.{AnswersCounted}
-use Rattle.walrus_tools.specs.PartList.{HasParts, IsNone, Part}
-use Rattle.walrus_tools.specs.Reasons.{AnswersChain, HoldsChain}
-use Rattle.walrus_tools.specs.Sections.{LacksHeader, Piece, StandUpTo}
+use Rattle.walrus_tools.specs.Facade.{Config, Error, Fault, InvalidWasm, Memory}
 use Rattle.walrus_tools.specs.FunctionList.{AnswersListed}
-use Rattle.walrus_tools.specs.SnipAnswers.{AnswersSnipped}
+use Rattle.walrus_tools.specs.ImportList.{AnswersImports}
+use Rattle.walrus_tools.specs.PartList.{HasParts, IsNone, Part}
+use Rattle.walrus_tools.specs.ReasonAnswers.{AnswersCallers, AnswersWhy}
+use Rattle.walrus_tools.specs.Sections.{LacksHeader, Piece, StandUpTo}
 use Rattle.walrus_tools.specs.StripAnswers.{AnswersStripped}
-use Rattle.walrus_tools.specs.StubAnswers.{AnswersStubbed}
+use Rattle.walrus_tools.specs.StubMatching.{AnswersMatching, RefusesMatching, StubsMatching}
+use Rattle.walrus_tools.specs.TrapEdit.{AnswersMeant, RefusesMeant, SnipsMeant}
 use Rattle.walrus_tools.specs.Wanted.{config_wanted}
-use Rattle.walrus_tools.specs.declared.tool.why.Chain.{Chain}
+use Rattle.walrus_tools.specs.Weigh.{AnswersReport, AnswersWeighed}
+use Rattle.walrus_tools.specs.declared.weigh.Smaller.{Smaller}
 use Rattle.mulkavesh.specs.declared.subcommands.Made.{Made}
+use Rattle.mulkavesh.specs.declared.order.Listing.{Listing}
 use Rattle.mulkavesh.specs.declared.order.Order.{Order}
 use Rattle.mulkavesh.specs.declared.order.Work.{Work}
 use Rattle.mulkavesh.specs.declared.order.Work.TheVariants as work
 use Rattle.mulkavesh.specs.Cause.{WordsRefusal, refused_text}
-use Rattle.mulkavesh.specs.Chains.{chain_told}
-use Rattle.mulkavesh.specs.Choices.{choices_of}
-use Rattle.mulkavesh.specs.Entries.{listed_told}
-use Rattle.mulkavesh.specs.Reports.{counted_json}
+use Rattle.mulkavesh.specs.Choices.{functions_of, imports_of, modules_of, roots_of, sections_of}
+use Rattle.mulkavesh.specs.Entries.{TellsListed, first_of}
+use Rattle.mulkavesh.specs.Interface.{exports_text, imports_text}
+use Rattle.mulkavesh.specs.Links.{links_text}
+use Rattle.mulkavesh.specs.Notes.{note_text}
+use Rattle.mulkavesh.specs.Reasons.{reason_told}
+use Rattle.mulkavesh.specs.Reports.{weighed_told}
 use Rattle.mulkavesh.specs.Sections.{part_line, section_line, stop_text}
 
 -- what a call of the library answers: bytes, or why not
 abbrev pub Answer : Type 0
 Answer = Result (Vec ℕ) Error
-
-abbrev pub vec_bytes : Vec ℕ → List ℕ
-vec_bytes b = b.items
-
--- memory ran out
-abbrev pub IsMemory : Error → Type 0
-IsMemory (Memory e) = ⊤
-IsMemory _ = ⊥
 
 -- for people this is so; for programs it is left open
 abbrev pub ForPeople : (is_json : Bool) → Type 0 → Type 0
@@ -51,32 +49,57 @@ ForPeople false P = P
 abbrev pub NotesNothing : Made → Type 0
 NotesNothing m = m.note.items ≡ []
 
--- the answer of a call that answers so; what is noted is left open
-abbrev pub Writes : (Answers : Answer → Type 0) → Result Made Error → Type 0
-Writes Answers (Ok m) = Answers (Ok m.output) × (m.is_refused ≡ false)
-Writes Answers (Err e) = Answers (Err e)
-
--- the same, and nothing is noted
+-- the answer of a call that answers so, and nothing is noted
 abbrev pub WritesAlone : (Answers : Answer → Type 0) → Result Made Error → Type 0
 WritesAlone Answers (Ok m) = Answers (Ok m.output) × (m.is_refused ≡ false) × NotesNothing m
 WritesAlone Answers (Err e) = Answers (Err e)
 
--- the same where the order is to be quiet; and else what is noted is left open
-abbrev pub WritesQuietly : (is_quiet : Bool) → (Answers : Answer → Type 0) → Result Made Error → Type 0
-WritesQuietly true Answers = WritesAlone Answers
-WritesQuietly false Answers = Writes Answers
+-- the output of an answer, and noted is what the answer tells
+pub record Notes (s : Smaller) (m : Made) : Type 0 where
+  pub output : m.output ≡ s.output
+  pub note : m.note.items ≡ note_text s.told
+  pub accepted : m.is_refused ≡ false
+
+-- that of a call that answers so
+abbrev pub WritesNoted : (Answers : Result Smaller Error → Type 0) → Result Made Error → Type 0
+WritesNoted Answers (Ok m) = (s : Smaller) × Answers (Ok s) × Notes s m
+WritesNoted Answers (Err e) = Answers (Err e)
+
+-- the first where the order is to be quiet, and else the second
+abbrev pub WritesSmaller : (is_quiet : Bool) → (Alone : Answer → Type 0) → (Noted : Result Smaller Error → Type 0) → Result Made Error → Type 0
+WritesSmaller true Alone Noted = WritesAlone Alone
+WritesSmaller false Alone Noted = WritesNoted Noted
 
 -- ---- report, list and why
 
--- this text of what a call answers, or the call's refusal
-abbrev pub Told : {X : Type 0} → (text_of : X → List ℕ) → (Answers : Result X Error → Type 0) → Answer → Type 0
-Told {X = X} text_of Answers (Ok text) = (answer : X) × (Answers (Ok answer) × (text.items ≡ text_of answer))
-Told text_of Answers (Err e) = Answers (Err e)
+-- a text of what a call answers, or the call's refusal
+abbrev pub TellsOf : {X : Type 0} → (Tells : X → (text : List ℕ) → Type 0) → (Answers : Result X Error → Type 0) → Answer → Type 0
+TellsOf {X = X} Tells Answers (Ok text) = (answer : X) × Answers (Ok answer) × Tells answer text.items
+TellsOf Tells Answers (Err e) = Answers (Err e)
 
--- for people the report, and for programs the counts of it
-abbrev pub Reports : (is_json : Bool) → Config → (bytes : List ℕ) → Answer → Type 0
-Reports false c bytes = ReportsOn c bytes vec_bytes
-Reports true c bytes = Told counted_json (AnswersCounted c bytes)
+-- this text
+abbrev pub Told : {X : Type 0} → (text_of : X → List ℕ) → (Answers : Result X Error → Type 0) → Answer → Type 0
+Told text_of Answers = TellsOf (λ x text. text ≡ text_of x) Answers
+
+-- the text of so many items of a list, or of all
+abbrev pub ToldFirst : {A : Type 0} → (count : Option ℕ) → (text_of : List A → List ℕ) → (Answers : Result (Vec A) Error → Type 0) → Answer → Type 0
+ToldFirst count text_of Answers = Told (λ v. text_of (first_of count v.items)) Answers
+
+-- the functions that stay, or those that are dropped
+abbrev pub ListsFunctions : (is_dropped : Bool) → (is_json : Bool) → Listing → Config → (bytes : List ℕ) → List Choice → Answer → Type 0
+ListsFunctions true is_json l c bytes roots = TellsOf (λ v. TellsListed is_json l.by_size l.count v.items) (AnswersDropped c bytes roots)
+ListsFunctions false is_json l c bytes roots = TellsOf (λ v. TellsListed is_json l.by_size l.count v.items) (AnswersListed c bytes roots)
+
+-- exports, imports, or functions
+abbrev pub ListsOne : (exports imports : Bool) → (is_json : Bool) → Listing → Config → (bytes : List ℕ) → List Choice → Answer → Type 0
+ListsOne true imports is_json l c bytes roots = ToldFirst l.count (exports_text is_json) (AnswersExports c bytes roots)
+ListsOne false true is_json l c bytes roots = ToldFirst l.count (imports_text is_json) (AnswersImports c bytes roots)
+ListsOne false false is_json l c bytes roots = ListsFunctions l.dropped is_json l c bytes roots
+
+-- what refers to an item, or why it stays
+abbrev pub TellsWhy : (callers : Bool) → (is_json : Bool) → Config → (bytes : List ℕ) → List Choice → (word : List ℕ) → Answer → Type 0
+TellsWhy true is_json c bytes roots word = Told (λ v. links_text is_json v.items) (AnswersCallers c bytes roots word)
+TellsWhy false is_json c bytes roots word = Told (reason_told is_json) (AnswersWhy c bytes roots word)
 
 -- ---- check
 
@@ -145,26 +168,6 @@ abbrev pub TellsAll : (bytes : List ℕ) → (is_all is_json : Bool) → Result 
 TellsAll bytes false is_json = TellsSections bytes is_json
 TellsAll bytes true is_json = TellsParts bytes is_json
 
--- ---- why
-
--- the word says an index of 32 bits
-abbrev pub IsIndex : (word : List ℕ) → ℕ → Type 0
-IsIndex word index = ParsesUnsigned {E = Unit {0}} 32 10 word (Ok index)
-
--- the function of the index that the word says, or else the one that is meant by this name
-pub data Means (c : Config) (bytes word : List ℕ) (function : ℕ) : Type 0 where
-  index : IsIndex word function → Means c bytes word function
-  name : ((i : ℕ) → IsIndex word i → ⊥) → IsFound c bytes word function → Means c bytes word function
-
--- the word says no index, and no function is meant by it
-abbrev pub MeansNone : Config → (bytes word : List ℕ) → Result Chain Error → Type 0
-MeansNone c bytes word (Ok chain) = ⊥
-MeansNone c bytes word (Err e) = ((i : ℕ) → IsIndex word i → ⊥) × AnswersFound c bytes word (Err e)
-
--- the chain to the function that is meant
-abbrev pub AnswersWhy : Config → (bytes word : List ℕ) → Result Chain Error → Type 0
-AnswersWhy c bytes word answer = ((function : ℕ) × Means c bytes word function × AnswersChain c bytes function HoldsChain answer) ⊎ MeansNone c bytes word answer
-
 -- ---- each subcommand
 
 -- what a subcommand is about; where it is about nothing, no bytes
@@ -172,16 +175,31 @@ abbrev pub operand_bytes : Option (String Global) → List ℕ
 operand_bytes None = []
 operand_bytes (Some word) = string_bytes word
 
+-- the module of the exports that stay roots, without what nothing reaches; and what was dropped
+abbrev pub AnswersGc : Order → Config → (bytes : List ℕ) → Result Made Error → Type 0
+AnswersGc o c bytes = WritesSmaller o.is_quiet (AnswersChosen c bytes (roots_of o)) (AnswersWeighed (KeepsChosen (roots_of o)) (RefusesChosen (roots_of o)) c bytes)
+
+-- the same of the module in which functions trap that the order means
+abbrev pub AnswersSnip : Order → Config → (bytes : List ℕ) → Result Made Error → Type 0
+AnswersSnip o c bytes =
+    WritesSmaller o.is_quiet (AnswersMeant c bytes (functions_of o)) (AnswersWeighed (SnipsMeant (functions_of o)) (RefusesMeant (functions_of o)) c bytes)
+
+-- and of that in which functions trap that were imported so
+abbrev pub AnswersStub : Order → Config → (bytes : List ℕ) → Result Made Error → Type 0
+AnswersStub o c bytes =
+    WritesSmaller o.is_quiet (AnswersMatching c bytes (modules_of o) (imports_of o))
+    (AnswersWeighed (StubsMatching (modules_of o) (imports_of o)) (RefusesMatching (modules_of o) (imports_of o)) c bytes)
+
 abbrev pub AnswersWork : Work → Order → (bytes : List ℕ) → Result Made Error → Type 0
-AnswersWork work.Gc o bytes = WritesQuietly o.is_quiet (RunsOn (config_wanted o.wanted) bytes vec_bytes)
-AnswersWork work.Report o bytes = WritesAlone (Reports o.is_json (config_wanted o.wanted) bytes)
-AnswersWork work.List o bytes = WritesAlone (Told (listed_told o.is_json) (AnswersListed (config_wanted o.wanted) bytes))
+AnswersWork work.Gc o bytes = AnswersGc o (config_wanted o.wanted) bytes
+AnswersWork work.Report o bytes = WritesAlone (Told (weighed_told o.is_json) (AnswersReport (config_wanted o.wanted) bytes (roots_of o)))
+AnswersWork work.List o bytes = WritesAlone (ListsOne o.listing.exports o.listing.imports o.is_json o.listing (config_wanted o.wanted) bytes (roots_of o))
 AnswersWork work.Check o bytes = Checks (config_wanted o.wanted) bytes o.is_json
 AnswersWork work.Sections o bytes = TellsAll bytes o.is_all o.is_json
-AnswersWork work.Strip o bytes = WritesAlone (AnswersStripped bytes (choices_of o))
-AnswersWork work.Snip o bytes = Writes (AnswersSnipped (config_of defaults) bytes (operand_bytes o.operand))
-AnswersWork work.Stub o bytes = Writes (AnswersStubbed (config_of defaults) bytes (operand_bytes o.operand))
-AnswersWork work.Why o bytes = WritesAlone (Told (chain_told o.is_json) (AnswersWhy (config_of defaults) bytes (operand_bytes o.operand)))
+AnswersWork work.Strip o bytes = WritesAlone (AnswersStripped bytes (sections_of o))
+AnswersWork work.Snip o bytes = AnswersSnip o (config_wanted o.wanted) bytes
+AnswersWork work.Stub o bytes = AnswersStub o (config_wanted o.wanted) bytes
+AnswersWork work.Why o bytes = WritesAlone (TellsWhy o.listing.callers o.is_json (config_wanted o.wanted) bytes (roots_of o) (operand_bytes o.operand))
 
 -- what an order makes of the bytes
 abbrev pub AnswersOrder : Order → (bytes : List ℕ) → Result Made Error → Type 0

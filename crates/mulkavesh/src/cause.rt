@@ -1,13 +1,16 @@
 //! Why an order isn't carried out, and what is said of that.
 
 ghost use Rattle.std.specs.Prelude.{◌≡◌, IfOk, IfSome, string_bytes};
-ghost use Rattle.mulkavesh.specs.Cause.{SaysFault, SaysRefused, WordsRefusal, absent_text, config_read, refusal_text, said_text};
+ghost use Rattle.mulkavesh.specs.Cause.{SaysFault, SaysRefused, SaysUnfit, WordsRefusal, absent_text, refusal_text, said_text, unfit_text};
+ghost use Rattle.mulkavesh.specs.Choices.{roots_of};
 ghost use Rattle.walrus_tools.specs.Wanted.{config_wanted};
 
-use crate::order::{Order, Work, new_wanted};
+use crate::choices::roots_of;
+use crate::order::{Order, Work};
 use crate::verdicts::REFUSED;
+use crate::visible::add_shown;
 use std::alloc::{AllocError, Global};
-use walrus_tools::{Error, Fault, Wanted, diagnose, fault_words};
+use walrus_tools::{Error, Fault, Wanted, diagnose, fault_words, unfit};
 
 /// Why an order isn't carried out.
 #[derive(Drop)]
@@ -16,38 +19,55 @@ pub enum Cause {
     Read,
     /// The sink failed.
     Write,
-    /// The order is refused. Of bytes that are invalid, what is said, with what is wrong with them; none where memory ran out meanwhile.
-    Refused(Error, Option<String>),
+    /// The order is refused. What is said of that, where more was found than the error says: what is wrong with invalid bytes, or which NAME fits
+    /// nothing.
+    Refused(Error, Option<Vec<u8>>),
 }
 
-/// What is said of the bytes where the error says that they are invalid, and memory suffices to find what is wrong with them.
-pub(crate) fn said_of(alloc: Global, order: &Order, bytes: &[u8], error: &Error) -> Option<String>
-    ensures { IfSome result (SaysRefused (config_read order.now) bytes.now error.now) }
+/// What is said of bytes that are refused by this error, where more can be found than the error says, and memory suffices for that.
+pub(crate) fn said_of(alloc: Global, order: &Order, bytes: &[u8], error: &Error) -> Option<Vec<u8>>
+    ensures { IfSome result (λ text. SaysRefused order.now bytes.now error.now text.items) }
 {
     match error {
-        Error::InvalidWasm(_) => found_in(alloc, bytes, wanted_of(order)),
+        Error::InvalidWasm(_) => fault_in(alloc, bytes, order.wanted),
+        Error::NotFound => unfit_in(alloc, order, bytes),
         _ => None,
     }
 }
 
-// What is read of legacy exceptions: as the order says, or all where its subcommand has no word for that.
-fn wanted_of(order: &Order) -> Wanted
-    ensures { config_wanted result ≡ config_read order.now }
-{
-    match order.work {
-        Work::Snip | Work::Stub | Work::Why => new_wanted(),
-        _ => order.wanted,
-    }
-}
-
-// What is said of bytes that are invalid, where memory suffices to find what is wrong with them.
-fn found_in(alloc: Global, bytes: &[u8], wanted: Wanted) -> Option<String>
-    ensures { IfSome result (SaysFault (config_wanted wanted) bytes.now) }
+// What is said of bytes that are invalid.
+fn fault_in(alloc: Global, bytes: &[u8], wanted: Wanted) -> Option<Vec<u8>>
+    ensures { IfSome result (λ text. SaysFault (config_wanted wanted) bytes.now text.items) }
 {
     match diagnose(alloc, bytes, wanted) {
-        Ok(Some(fault)) => worded(alloc, fault, bytes).ok(),
+        Ok(Some(fault)) => Some(worded(alloc, fault, bytes).ok()?.into_bytes()),
         _ => None,
     }
+}
+
+// What is said of NAMEs of which one fits no export.
+fn unfit_in(alloc: Global, order: &Order, bytes: &[u8]) -> Option<Vec<u8>>
+    ensures { IfSome result (λ text. SaysUnfit (config_wanted order.now.wanted) bytes.now
+        (roots_of order.now) text.items) }
+{
+    let choices = roots_of(alloc, order).ok()?;
+    if choices.is_empty() {
+        return None;
+    }
+    match unfit(alloc, bytes, order.wanted, &choices) {
+        Ok(Some(number)) => unfit_text(alloc, choices.get(number)?.name).ok(),
+        _ => None,
+    }
+}
+
+// What is said of a NAME that fits no export.
+fn unfit_text(alloc: Global, name: &[u8]) -> Result<Vec<u8>, AllocError>
+    ensures { IfOk result (λ text. text.items ≡ unfit_text name.now) }
+{
+    let mut text = Vec::new(alloc);
+    text.extend_from_slice(b"no export fits ")?;
+    add_shown(&mut text, name)?;
+    Ok(text)
 }
 
 /// What is said of bytes that are invalid, and behind it what is wrong with them.
@@ -61,18 +81,15 @@ pub(crate) fn worded(alloc: Global, fault: Fault, bytes: &[u8]) -> Result<String
     Ok(text)
 }
 
-/// What a refusal says: what is said of the invalid bytes, or else of the error.
-pub(crate) fn text_said<'a>(work: Work, error: &'a Error, said: &'a Option<String>) -> &'a str
+/// What a refusal says: what was found, or else what the error says.
+pub(crate) fn text_said<'a>(work: Work, error: &'a Error, said: &'a Option<Vec<u8>>) -> &'a [u8]
     ensures { result.now ≡ said_text work error.now said.now }
 {
     match said {
-        Some(text) => text.as_str(),
-        None => text_of(work, error),
+        Some(text) => text.as_slice(),
+        None => text_of(work, error).as_bytes(),
     }
 }
-
-// Why an exported function isn't replaced.
-const KEPT: &str = "this function is imported, or exported before under another name";
 
 // What a refusal says, in the words of the subcommand.
 fn text_of(work: Work, error: &Error) -> &str
@@ -81,7 +98,7 @@ fn text_of(work: Work, error: &Error) -> &str
     match error {
         Error::InvalidWasm(_) => REFUSED,
         Error::NotFound => absent(work),
-        Error::NotReplaceable => KEPT,
+        Error::NotReplaceable => "one of the functions is imported",
         other => other.text(),
     }
 }
@@ -92,7 +109,9 @@ fn absent(work: Work) -> &'static str
 {
     match work {
         Work::Strip => "one of the options fits no custom section",
-        Work::Snip => "no function is exported under this name",
-        _ => "there is no such function",
+        Work::Snip => "there is no such function",
+        Work::Stub => "no function is imported so",
+        Work::Why => "there is no such function or export",
+        _ => "one of the options fits no export",
     }
 }

@@ -1,7 +1,7 @@
 //! One order from its source to its sink, and what is told of it.
 
 ghost use Rattle.std.specs.Prelude.{◌≡◌, IfErr, OnOk, true};
-ghost use Rattle.mulkavesh.specs.Cause.{answer_of, config_read};
+ghost use Rattle.mulkavesh.specs.Cause.{SaysRefused, answer_of};
 ghost use Rattle.mulkavesh.specs.Command.{Carries, FindsRead, RunsAndTells, Prints, TellsUnlessLeft, device_of, unaccepted_text};
 ghost use Rattle.mulkavesh.specs.Subcommands.{AnswersOrder};
 ghost use Rattle.mulkavesh.specs.Message.{line};
@@ -25,7 +25,7 @@ fn carry<R: Source, W: Sink>(
     ensures headline { Carries (AnswersOrder order.now) (R.left input.old) (R.left input.new)
         (W.held output.old) (W.held output.new) (answer_of result) }
     ensures found { IfErr result (FindsRead (AnswersOrder order.now) (R.left input.old) (R.left input.new)
-        (W.held output.old) (W.held output.new) (config_read order.now)) }
+        (W.held output.old) (W.held output.new) (SaysRefused order.now)) }
     ensures flushed { OnOk result (W.is_flushed output.new ≡ true) }
     ensures reads { CountsReads (R.read_failures input.old) (R.read_failures input.new) (answer_of result) }
     ensures writes { CountsWrites (W.write_failures output.old) (W.write_failures output.new)
@@ -99,7 +99,7 @@ pub(crate) fn command<R: Source + Explains, W: Sink + Explains, E: Sink>(
     output: &mut W,
     errors: &mut E,
 ) -> u8
-    ensures runs { RunsAndTells (AnswersOrder order.now) order.now.work (config_read order.now)
+    ensures runs { RunsAndTells (AnswersOrder order.now) order.now.work (SaysRefused order.now)
         (device_of R.left R.read_failures R.name R.trouble R.is_left input.old input.new)
         (device_of W.held W.write_failures W.name W.trouble W.is_left output.old output.new)
         (stream_of E.held E.write_failures errors.old errors.new) result (W.is_flushed output.new) }
@@ -119,7 +119,7 @@ pub(crate) fn command<R: Source + Explains, W: Sink + Explains, E: Sink>(
         Err(Cause::Read) => refuse(errors, input.name(), input.trouble()),
         Err(Cause::Write) => unwritten(output, errors),
         Err(Cause::Refused(error, said)) => {
-            refuse(errors, input.name(), text_said(order.work, &error, &said))
+            refuse_in(errors, input.name(), text_said(order.work, &error, &said))
         }
     }
 }

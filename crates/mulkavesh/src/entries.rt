@@ -1,105 +1,65 @@
-//! The functions that stay, as a text: for people a line each, for programs an array of objects.
+//! The functions that stay, or those that go, as a text: a line or an object each.
 
-ghost use Rattle.std.specs.Prelude.{◌≡◌, ◌++◌, IfOk, OnOk, codes, flat_map, map, true};
-ghost use Rattle.mulkavesh.specs.Entries.{listed_line, listed_object, listed_text};
-ghost use Rattle.mulkavesh.specs.Json.{separated};
-ghost use Rattle.mulkavesh.specs.Visible.{shown};
-ghost use Rattle.walrus_tools.specs.FunctionList.{listed_seen};
+ghost use Rattle.std.specs.Prelude.{◌≡◌, IfOk};
+ghost use Rattle.mulkavesh.specs.Entries.{TellsListed, first_of, listed_line, listed_object};
 
-use crate::json::{add_comma, add_string};
 use crate::numbers::add_decimal;
-use crate::visible::front_shown;
+use crate::order::Listing;
+use crate::rows::{self, Row, add_name, add_name_json};
+use crate::shares;
 use std::alloc::{AllocError, Global};
 use walrus_tools::Listed;
 
-/// Puts a name behind the text, as people see it.
-pub(crate) fn add_name(to: &mut Vec<u8>, name: &[u8]) -> Result<(), AllocError>
-    ensures { OnOk result (to.new.items ≡ to.old.items ++ shown name.now) }
-{
-    let mut rest = name;
-    'pieces: while !rest.is_empty() {
-        let (piece, behind) = front_shown(rest);
-        to.extend_from_slice(piece)?;
-        rest = behind;
-    }
-    Ok(())
-}
+impl Row for Listed {
+    ghost line = { listed_line };
 
-// Puts the line of a function behind the text: how many bytes its body has, its index, and its name.
-fn add_line(alloc: Global, to: &mut Vec<u8>, function: &Listed) -> Result<(), AllocError>
-    ensures { OnOk result (to.new.items ≡ to.old.items ++ listed_line (listed_seen function.now)) }
-{
-    add_decimal(alloc, to, function.size as u64)?;
-    to.push(b' ')?;
-    add_decimal(alloc, to, function.index as u64)?;
-    if let Some(name) = &function.name {
+    ghost object = { listed_object };
+
+    fn add_line(&self, alloc: Global, to: &mut Vec<u8>) -> Result<(), AllocError> {
+        add_decimal(alloc, to, self.size as u64)?;
         to.push(b' ')?;
-        add_name(to, name.as_bytes())?;
+        add_decimal(alloc, to, self.index as u64)?;
+        add_name(to, &self.name)?;
+        Ok(to.push(b'\n')?)
     }
-    Ok(to.push(b'\n')?)
-}
 
-// A line for each of the functions.
-fn text(alloc: Global, functions: &[Listed]) -> Result<Vec<u8>, AllocError>
-    ensures { IfOk result (λ text. text.items
-        ≡ flat_map listed_line (map listed_seen functions.now)) }
-{
-    let mut text = Vec::new(alloc);
-    for function in functions {
-        add_line(alloc, &mut text, function)?;
+    fn add_object(&self, alloc: Global, to: &mut Vec<u8>) -> Result<(), AllocError> {
+        to.extend_from_slice(b"{\"index\":")?;
+        add_decimal(alloc, to, self.index as u64)?;
+        to.extend_from_slice(b",\"size\":")?;
+        add_decimal(alloc, to, self.size as u64)?;
+        to.extend_from_slice(b",\"name\":")?;
+        add_name_json(to, &self.name)?;
+        Ok(to.push(b'}')?)
     }
-    Ok(text)
 }
 
-// Puts the object of a function behind the text.
-fn add_object(alloc: Global, to: &mut Vec<u8>, function: &Listed) -> Result<(), AllocError>
-    ensures { OnOk result (to.new.items ≡ to.old.items ++ listed_object (listed_seen function.now)) }
+/// So many of a list, where that is said; and else all.
+pub(crate) fn first_of<T>(all: &[T], count: Option<u32>) -> &[T]
+    ensures { result.now ≡ first_of count all.now }
 {
-    to.extend_from_slice(b"{\"index\":")?;
-    add_decimal(alloc, to, function.index as u64)?;
-    to.extend_from_slice(b",\"size\":")?;
-    add_decimal(alloc, to, function.size as u64)?;
-    to.extend_from_slice(b",\"name\":")?;
-    match &function.name {
-        Some(name) => add_string(to, name.as_bytes())?,
-        None => to.extend_from_slice(b"null")?,
+    let Some(count) = count else {
+        return all;
+    };
+    let count = count as usize;
+    if count < all.len() {
+        return &all[..count];
     }
-    Ok(to.push(b'}')?)
+    all
 }
 
-// Puts the objects of functions behind the text.
-fn add_objects(alloc: Global, to: &mut Vec<u8>, functions: &[Listed]) -> Result<(), AllocError>
-    ensures { OnOk result (to.new.items ≡ to.old.items
-        ++ separated (codes ",\n ") (map listed_object (map listed_seen functions.now))) }
-{
-    for (place, function) in functions.iter().enumerate() {
-        add_comma(to, ",\n ", place)?;
-        add_object(alloc, to, function)?;
-    }
-    Ok(())
-}
-
-// A list of the functions, an object each.
-fn json(alloc: Global, functions: &[Listed]) -> Result<Vec<u8>, AllocError>
-    ensures { IfOk result (λ text. text.items ≡ listed_text true (map listed_seen functions.now)) }
-{
-    let mut text = Vec::new(alloc);
-    text.push(b'[')?;
-    add_objects(alloc, &mut text, functions)?;
-    text.extend_from_slice(b"]\n")?;
-    Ok(text)
-}
-
-/// The functions, for people or for programs.
+/// So many of the functions as they stand, or so many of them by size, for people or for programs.
 pub(crate) fn told(
     alloc: Global,
     is_json: bool,
-    functions: &[Listed],
+    listing: Listing,
+    functions: Vec<Listed>,
 ) -> Result<Vec<u8>, AllocError>
-    ensures { IfOk result (λ text. text.items ≡ listed_text is_json (map listed_seen functions.now)) }
+    ensures { IfOk result (λ text. TellsListed is_json listing.by_size listing.count functions.items
+        text.items) }
 {
-    if is_json {
-        return json(alloc, functions);
+    if listing.by_size {
+        return shares::told(alloc, is_json, listing.count, functions);
     }
-    text(alloc, functions)
+    rows::told(alloc, is_json, first_of(&functions, listing.count))
 }

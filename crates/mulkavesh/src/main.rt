@@ -8,14 +8,15 @@
 
 mod beside;
 mod cause;
-mod chains;
 mod choices;
 mod command;
 mod entries;
 mod explains;
 mod input;
+mod interface;
 mod json;
 mod kinds;
+mod links;
 mod message;
 mod mistake_lines;
 mod mistakes;
@@ -25,8 +26,11 @@ mod numbers;
 mod order;
 mod output;
 mod parts;
+mod reasons;
 mod reports;
+mod rows;
 mod sections;
+mod shares;
 mod subcommands;
 mod usage;
 mod verdicts;

@@ -5,12 +5,12 @@ ghost use Rattle.mulkavesh.specs.Sections.{count_text, kind_text, kind_word, sec
 ghost use Rattle.mulkavesh.specs.Subcommands.{ForPeople, TellsAll, TellsSections};
 ghost use Rattle.walrus_tools.specs.Sections.{piece_record};
 
-use crate::entries::add_name;
 use crate::json::add_string;
 use crate::numbers::add_decimal;
 use crate::order::Order;
 use crate::parts;
 use crate::subcommands::Made;
+use crate::visible::add_shown;
 use std::alloc::{AllocError, Global};
 use walrus_tools::{Error, ErrorKind, Pieced, RawPiece, sections};
 
@@ -58,7 +58,7 @@ fn add_what(alloc: Global, to: &mut Vec<u8>, id: u8, name: Option<&str>) -> Resu
     match name {
         Some(name) => {
             to.extend_from_slice(b"custom ")?;
-            add_name(to, name.as_bytes())
+            add_shown(to, name.as_bytes())
         }
         None => add_kind(alloc, to, id),
     }

@@ -1,7 +1,9 @@
 //! A name or a path as people see it: a character that moves a terminal's cursor, or turns the order of what it shows, is a question mark.
 
-ghost use Rattle.std.specs.Prelude.{◌≡◌, ◌<◌, ◌≤◌, ◌++◌, drop, length, take};
+ghost use Rattle.std.specs.Prelude.{◌≡◌, ◌<◌, ◌≤◌, ◌++◌, drop, length, take, OnOk};
 ghost use Rattle.mulkavesh.specs.Visible.{hidden_length, is_control, is_late_control, is_turn, shown};
+
+use std::alloc::AllocError;
 
 // What people see of such a character.
 const MARK: &[u8] = b"?";
@@ -71,4 +73,17 @@ pub(crate) fn front_shown(text: &[u8]) -> (&[u8], &[u8])
         return (MARK, text.split_at(hidden).1);
     }
     text.split_at(plain_length(text))
+}
+
+/// Puts a name behind the text, as people see it.
+pub(crate) fn add_shown(to: &mut Vec<u8>, name: &[u8]) -> Result<(), AllocError>
+    ensures { OnOk result (to.new.items ≡ to.old.items ++ shown name.now) }
+{
+    let mut rest = name;
+    'pieces: while !rest.is_empty() {
+        let (piece, behind) = front_shown(rest);
+        to.extend_from_slice(piece)?;
+        rest = behind;
+    }
+    Ok(())
 }

@@ -2,7 +2,7 @@ use Rattle.std.proofs.Common.{ℕ, List, subst}
 use Rattle.std.specs.Prelude.{IfSome, Ok, Err}
 use Rattle.std.specs.Io.KnownBytes.{Appends}
 use Rattle.walrus_tools.specs.Facade.{WroteFront}
-use Rattle.mulkavesh.specs.Cause.{SaysRefused, config_read}
+use Rattle.mulkavesh.specs.Cause.{SaysRefused}
 use Rattle.mulkavesh.specs.Subcommands.{AnswersOrder}
 use Rattle.mulkavesh.proofs.CauseLemmas.{found_read}
 use Rattle.mulkavesh.proofs.command.carry.Goals as goal
@@ -22,5 +22,5 @@ returns-in-Err-write_all-clause-headline g c =
 pub returns-in-Err-clause-found : goal.returns-in-Err-clause-found
 returns-in-Err-clause-found g c =
     let answers = subst (λ (bytes : List ℕ). AnswersOrder c.args.order.now bytes (Err c.in-Err.error)) c.deref.ensures.value c.in-Err.ensures in
-    let says = subst (λ (bytes : List ℕ). IfSome c.said_of-said.result (SaysRefused (config_read c.args.order.now) bytes c.in-Err.error)) c.deref-in-Err.ensures.value c.said_of-said.ensures in
-    found_read (AnswersOrder c.args.order.now) _ _ (config_read c.args.order.now) c.in-Ok.bytes.items c.in-Err.error (record { consumed = c.in-Ok.ensures.all; ended = c.in-Ok.ensures.end }) answers c.said_of-said.result says
+    let says = subst (λ (bytes : List ℕ). IfSome c.said_of-said.result (λ text. SaysRefused c.args.order.now bytes c.in-Err.error text.items)) c.deref-in-Err.ensures.value c.said_of-said.ensures in
+    found_read (AnswersOrder c.args.order.now) _ _ (SaysRefused c.args.order.now) c.in-Ok.bytes.items c.in-Err.error (record { consumed = c.in-Ok.ensures.all; ended = c.in-Ok.ensures.end }) answers c.said_of-said.result says
