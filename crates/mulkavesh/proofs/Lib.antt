@@ -8,8 +8,8 @@ mod Itself
 mod JsonLists
 mod Lines
 mod LinkLemmas
+mod NumberLemmas
 mod OrderLemmas
-mod Numbers
 mod Pieces
 mod PutLemmas
 mod Refusals

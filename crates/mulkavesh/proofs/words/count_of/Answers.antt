@@ -1,5 +1,5 @@
 use Rattle.std.proofs.Common.{sym}
-use Rattle.mulkavesh.proofs.Numbers.{parsed, unparsed}
+use Rattle.mulkavesh.proofs.NumberLemmas.{parsed, unparsed}
 use Rattle.mulkavesh.proofs.words.count_of.Goals as goal
 
 pub returns-in-Ok : goal.returns-in-Ok
