@@ -11,7 +11,7 @@ from answers import (
     INVALID, NOT_FOUND, UNKNOWN_FLAG, by_program, call, choice, entries, exports, fits, framed, function_names, imported, imports, links, reason, records,
     section, with_exports,
 )
-from hostile import bodies
+from hostile import bodies, number, sections
 
 # The numbers of kinds of items, and those of the kinds of exports that bring them out.
 FUNCTION, ELEMENT, DATA = 1, 6, 7
@@ -78,9 +78,8 @@ def not_imported(data, output, listed):
     """Where what is told of imports isn't what the output imports, or doesn't stand so in the input."""
     found, counts, at = [*imported(listed)], {}, {}
     for place, (module, name, kind) in enumerate(imports(data)):
-        number_of = {0: 0, 1: 1, 2: 2, 3: 3, 4: 4}[kind]
-        at[number_of, counts.get(number_of, 0)] = (place, module, name)
-        counts[number_of] = counts.get(number_of, 0) + 1
+        at[kind, counts.get(kind, 0)] = (place, module, name)
+        counts[kind] = counts.get(kind, 0) + 1
     places = [at.get((kind, index), (None,)) for kind, index, *_ in found]
     if [one[1:] for one in places] != [one[2:] for one in found] or [one[0] for one in places] != sorted(one[0] for one in places):
         yield f"imports: {found} don't stand so"
@@ -122,8 +121,7 @@ def under_choices(program, callers, data):
 
 def start(data):
     """The index of the start function, or None."""
-    content = section(data, 8)
-    return content[0] if len(content) == 1 and content != b"\0" else None
+    return next((number(content, 0)[0] for number_of, content in sections(data) if number_of == 8), None)
 
 
 class Known:

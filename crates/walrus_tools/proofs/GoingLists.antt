@@ -4,7 +4,8 @@ use Rattle.std.proofs.lemmas.List.Elements.{All-cons, All-nil, All-from_recursio
 use Rattle.walrus_tools.specs.Choice.{AllGo, AreChoices, Choice, IsChoice}
 use Rattle.walrus_tools.proofs.Records.{no_front, one_choice}
 
-Goes : Choice → Type 0
+-- what it says goes
+abbrev Goes : Choice → Type 0
 Goes choice = choice.is_kept ≡ false
 
 -- the first choice says so, and so do those behind it
