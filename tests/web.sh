@@ -5,9 +5,11 @@
 #   worked.mjs   each call on modules whose bytes were worked out by hand (and faults.txt), an error of each kind, each way to load, memory that grows, runs
 #                out and is let go
 #   beside.mjs   the modules of tests/samples, ../shared/samples (where it is there), made ones of tests/made (where wabt is there) and 2,000 mutants of them,
-#                beside the program under its words: the same bytes and statuses, and a fault where it refuses; `sections` and `strip` beside what stands there
+#                beside the program under its words: the same bytes and statuses, and a fault where it refuses; `sections`, `strip` and `exports` beside what
+#                stands there; half of the exports chosen in several ways; chains, callers and what would go with a function beside lists and what `snip` leaves
 #   browser.py   the page in a headless Chromium (where one is there; chromium.py drives it): drops, the counts, lists, chains and download of these modules,
-#                beside the program and the library; keys alone, refusals, 20 MB, the policy, wide and narrow. MULKAVESH_SCREENS names a folder for screenshots
+#                with all exports ticked and with some, beside the program and the library; keys alone, refusals, 20 MB, the policy, wide and narrow.
+#                MULKAVESH_SCREENS names a folder for screenshots
 # Prints the counts and a line for each find. Where there is no node, nothing is run, and the status is 2. A minute of one processor.
 set -eu
 exec < /dev/null

@@ -193,7 +193,7 @@ class Call {
     for (let room = asked.room; ; ) {
       const { status, count, answer } = this.tried(asked.name, [...lent, ...words], room, length);
       if (status === 0) return answer;
-      if (status !== NO_ROOM) throw refusalOf(status, asked, count, status === INVALID ? this.fault(lent, asked.flags ?? 0, length) : null);
+      if (status !== NO_ROOM || count <= room) throw refusalOf(status, asked, count, status === INVALID ? this.fault(lent, asked.flags ?? 0, length) : null);
       room = count;
     }
   }

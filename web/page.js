@@ -502,7 +502,8 @@ function onWhy({ index, alone, ...told }) {
 // What would go if its body did nothing.
 function goneWith({ functions: number, bytes }) {
   if (number === 1) return element('p', {}, `No other function would go with it; its own body has ${counted(bytes, 'byte')}.`);
-  return element('p', {}, 'With it would go ', element('strong', {}, counted(number - 1, 'other function')), `: ${counted(bytes, 'byte')} of code, its own among them.`);
+  const others = element('strong', {}, counted(number - 1, 'other function'));
+  return element('p', {}, 'With it would go ', others, `: ${counted(bytes, 'byte')} of code, its own among them.`);
 }
 
 function onCallers({ callers, left }) {

@@ -118,8 +118,9 @@ function othersBesideGc(name, input) {
   if (code !== 'DONE') return;
   reasonsBeside(name, input, {}, reportBeside(name, input, {}, smaller));
   chosenBeside(name, input);
-  const missing = [['strip', 'no section has this name'], ['why', 2 ** 32 - 1], ['callers', 'nothing has this name'], ['snip', 'nothing has this name'], ['stub', 'no module']];
-  for (const [call, ...words] of missing) if (answered(call, input, ...words)[0] !== 'NOT_FOUND') find(name, `${call}: not NOT_FOUND`);
+  for (const [call, word] of [['strip', 'no section'], ['why', 2 ** 32 - 1], ['callers', 'no function'], ['snip', 'no function'], ['stub', 'no module']]) {
+    if (answered(call, input, word)[0] !== 'NOT_FOUND') find(name, `${call}: not NOT_FOUND`);
+  }
   const module = WebAssembly.validate(input) && new WebAssembly.Module(input);
   if (module) {
     importsBeside(name, input, module, new WebAssembly.Module(smaller));
@@ -148,7 +149,8 @@ function editsBeside(name, input, module) {
       const [told, stubbed] = answered('stub', input, from.replaceAll('*', '\\*'), options);
       const isHit = (it) => it.kind === 'function' && it.module === from && (options.imports === undefined || it.name === word);
       if (told === 'NOT_FOUND' && !WebAssembly.Module.imports(module).some(isHit)) continue;
-      if (told !== 'DONE' || WebAssembly.Module.imports(new WebAssembly.Module(stubbed)).some(isHit)) find(name, `stub ${from} ${word}, a ${kind}: ${told}, or still imported`);
+      const isStill = told === 'DONE' && WebAssembly.Module.imports(new WebAssembly.Module(stubbed)).some(isHit);
+      if (told !== 'DONE' || isStill) find(name, `stub ${from} ${word}, a ${kind}: ${told}, or still imported`);
     }
   }
 }

@@ -120,7 +120,8 @@ function answering(status) {
   const [number_, length] = [0x7F, 0x7E], type = (taken, given) => [0x60, taken.length, ...taken, given.length, ...given];
   const lent = [number_, length], room = [number_, length, number_];
   const types = [
-    type([], [number_]), type([number_], [number_]), type([number_], []), type([...lent, number_, ...lent, ...room], [number_]), type([...lent, number_, ...room], [number_]),
+    type([], [number_]), type([number_], [number_]), type([number_], []), type([...lent, number_, ...lent, ...room], [number_]),
+    type([...lent, number_, ...room], [number_]),
   ];
   return Uint8Array.from([
     ...module(), ...section(1, [5, ...types.flat()]), ...section(3, [5, 0, 1, 2, 3, 4]), ...section(5, [1, 0, 1]),
@@ -278,8 +279,8 @@ const TRIES = {
   },
   'a NAME that fits no export': () => {
     const bytes = hex('63'), wanted = [
-      [{ keep: 'c' }, 'c'], [{ keep: ['a', 'c', 'd'] }, 'c'], [{ keep: 'a', drop: ['b', 'a*c'] }, 'a*c'], [{ drop: ['*', 'ab'] }, 'ab'], [{ keep: ['*', bytes] }, bytes],
-      [{ drop: '' }, ''],
+      [{ keep: 'c' }, 'c'], [{ keep: ['a', 'c', 'd'] }, 'c'], [{ keep: 'a', drop: ['b', 'a*c'] }, 'a*c'], [{ drop: ['*', 'ab'] }, 'ab'],
+      [{ keep: ['*', bytes] }, bytes], [{ drop: '' }, ''],
     ];
     for (const call of [gc, report, list, dropped, exports, imports, (it, roots) => why(it, 0, roots), (it, roots) => callers(it, 0, roots)]) {
       for (const [roots, unfit] of wanted) {
@@ -446,7 +447,8 @@ const TRIES = {
     equals(snip(CALLS, [], alone), gc(CALLS, alone));
   },
   stub: () => {
-    [['env'], ['e*'], ['env', { imports: 'f' }], ['*', { imports: ['f', 'g'] }], [['env', 'x']]].forEach(([from, options]) => equals(stub(IMPORTS, from, options), STUBBED));
+    const ways = [['env'], ['e*'], ['env', { imports: 'f' }], ['*', { imports: ['f', 'g'] }], [['env', 'x']]];
+    ways.forEach(([from, options]) => equals(stub(IMPORTS, from, options), STUBBED));
     equals(stub(IMPORTS, 'env', { imports: 'g' }), gc(IMPORTS));
     equals(stub(IMPORTS, 'env', alone), STUBBED.subarray(0, -hex(PRODUCERS).length));
   },
@@ -472,8 +474,8 @@ const TRIES = {
   },
   'not found': () => {
     const calls = [
-      () => strip(SECTIONS, 'c'), () => why(TWO, 2), () => why(TWO, 'g'), () => why(TWO, hex('FF')), () => why(CHOSEN, 'c', { keep: ['a', 'b'] }), () => callers(TWO, 'f*'),
-      () => snip(CALLS, 'b'), () => snip(CALLS, ['a', 2]), () => snip(CALLS, 'b*'), () => snip(IMPORTS, 0), () => stub(IMPORTS, hex('FF')), () => stub(IMPORTS, 'x'),
+      () => strip(SECTIONS, 'c'), () => why(TWO, 2), () => why(TWO, 'g'), () => why(TWO, hex('FF')), () => why(CHOSEN, 'c', { keep: ['a', 'b'] }),
+      () => callers(TWO, 'f*'), () => snip(CALLS, 'b'), () => snip(CALLS, ['a', 2]), () => snip(CALLS, 'b*'), () => snip(IMPORTS, 0), () => stub(IMPORTS, hex('FF')), () => stub(IMPORTS, 'x'),
       () => stub(IMPORTS, []), () => stub(IMPORTS, 'env', { imports: 'h' }),
     ];
     for (const call of calls) {
@@ -483,9 +485,10 @@ const TRIES = {
   },
   'wrong arguments': () => {
     const calls = [
-      () => gc('text'), () => gc(TWO, { name: false }), () => gc(TWO, { names: 0 }), () => gc(TWO, { keep: 3 }), () => gc(TWO, { drop: [null] }), () => gc(TWO, { keep: '\uD800' }),
-      () => diagnose(TWO, { keep: 'f' }), () => why(TWO), () => why(TWO, ['f']), () => why(TWO, 'f', { imports: [] }), () => callers(TWO, {}), () => snip(CALLS, { a: 1 }),
-      () => snip(CALLS, 'a', { keep: 'a' }), () => stub(IMPORTS, 3), () => stub(IMPORTS, 'env', { imports: 3 }), () => stub(IMPORTS, 'env', { keep: 'a' }), () => sections('text'),
+      () => gc('text'), () => gc(TWO, { name: false }), () => gc(TWO, { names: 0 }), () => gc(TWO, { keep: 3 }), () => gc(TWO, { drop: [null] }),
+      () => gc(TWO, { keep: '\uD800' }), () => diagnose(TWO, { keep: 'f' }), () => why(TWO), () => why(TWO, ['f']), () => why(TWO, 'f', { imports: [] }),
+      () => callers(TWO, {}), () => snip(CALLS, { a: 1 }), () => snip(CALLS, 'a', { keep: 'a' }), () => stub(IMPORTS, 3), () => stub(IMPORTS, 'env', { imports: 3 }),
+      () => stub(IMPORTS, 'env', { keep: 'a' }), () => sections('text'),
     ];
     const names = ['\uD800', 3, undefined, ['a', 3]].flatMap((it) => [() => strip(SECTIONS, it), () => strip(SECTIONS, 'a', { keep: it ?? null })]);
     [...calls, ...names, () => strip(SECTIONS, 'a', { names: false })].forEach((call) => assert.throws(call, TypeError));
@@ -499,6 +502,10 @@ const TRIES = {
       const other = await load(answering(status));
       refuses(kind, code, () => other.gc(TWO));
     }
+  },
+  'no room, and no more is asked for': async () => {
+    const other = await load(answering(4));
+    refuses(MulkaveshError, 'UNKNOWN_STATUS', () => other.gc(new Uint8Array()));
   },
   'a trap as a fault is looked for': async () => {
     const other = await load(snip(wasm, 'mulkavesh_diagnose'));
