@@ -243,7 +243,7 @@ def try_list(work):
         same(f"list -n2 of {title}", run("list", "-n2", data=data)[1], "".join(lines.splitlines(True)[:2]).encode())
         found = [it["index"] for it in json.loads(run("list", "--json", "--by", "size", "-n", "4", data=data)[1])]
         same(f"list --json --by size -n 4 of {title}", found, [it.index for it in by_size[:4]])
-        try_others_of_list(title, data)
+        others_of_list(title, data)
     same("list --by size of nothing", run("list", "--by", "size", data=functions(1))[:2], (0, b"0 100.0% of 0 functions\n"))
 
 
@@ -275,7 +275,7 @@ def imports_of(data):
             before[kind] += 1
 
 
-def try_others_of_list(title, data):
+def others_of_list(title, data):
     """Exports, imports that stay, and functions that go."""
     made = run("gc", "--quiet", data=data)[1]
     rows = list(exports_of(data))
