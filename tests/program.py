@@ -1040,20 +1040,20 @@ def try_failures(work):
         (["gc", "-o", work / "nowhere"], work / "nowhere", nothing),
         (["gc", "-o", ""], "", nothing),
         (["strip", "--section", "none", "-o", out], "standard input", "one of the options fits no custom section"),
-        (["snip", "none", "-o", out], "standard input", "no function is exported under this name"),
-        (["why", "none", "-o", out], "standard input", "there is no such function"),
-        (["why", "2", "-o", out], "standard input", "there is no such function"),
+        (["snip", "--function", "none", "-o", out], "standard input", "there is no such function"),
+        (["stub", "--module", "none", "-o", out], "standard input", "no function is imported so"),
+        (["gc", "--keep", "none", "-o", out], "standard input", "no export fits none"),
+        (["why", "none", "-o", out], "standard input", "there is no such function or export"),
+        (["why", "2", "-o", out], "standard input", "there is no such function or export"),
     ):
         same(f"{words}", run(*words, data=TWO), (1, b"", f"mulkavesh: {of}: {why}\n"))
         same(f"OUT of {words}", out.read_bytes(), b"as it was")
     line = f"mulkavesh: standard input: the input WebAssembly is invalid: {run('check', data=BROKEN)[1].decode()}"
-    for work_word in ("gc", "report", "list", "strip --all", "snip none", "stub none", "why none"):
+    for work_word in ("gc", "report", "list", "strip --all", "snip --function none", "stub --module none", "why none"):
         same(f"{work_word} of what is refused", run(*work_word.split(), "-o", out, data=BROKEN), (1, b"", line))
         same(f"OUT of {work_word} of what is refused", out.read_bytes(), b"as it was")
     line = "mulkavesh: standard input: the input WebAssembly is invalid\n"
     same("check of what is refused", run("check", "-o", out, data=BROKEN), (1, b"", line))
-    data = functions(1, [("a", 0), ("b", 0)])
-    same("snip of a second name", run("snip", "b", data=data)[2], "mulkavesh: standard input: this function is imported, or exported before under another name\n")
     is_clean("what was refused", work)
 
 
@@ -1193,12 +1193,12 @@ def try_terminals(work):
     source.write_bytes(TWO)
     no_input = "no input: name a file, or - for standard input"
     no_output = "standard output is a terminal; write -o FILE, or -o - to send the bytes there all the same"
-    for words in (["gc"], ["report"], ["list", "--json"], ["check"], ["sections"], ["strip", "--all"], ["snip", "run"], ["stub", "env"], ["why", "0"]):
+    for words in (["gc"], ["report"], ["list", "--json"], ["check"], ["sections"], ["strip", "--all"], ["snip", "--function", "run"], ["stub", "--module", "*"], ["why", "0"]):
         line = (2, b"", f"mulkavesh: {words[0]}: {no_input}\n")
         same(f"{words} of a terminal", at_terminal(*words, of=(0,)), line)
         same(f"{words} -o OUT of a terminal", at_terminal(*words, "-o", out, of=(0, 1)), line)
     same("OUT is left alone", out.exists(), False)
-    for words in (["gc"], ["strip", "--all"], ["snip", "run"], ["stub", "env"]):
+    for words in (["gc"], ["strip", "--all"], ["snip", "--function", "run"]):
         same(f"{words} to a terminal", at_terminal(*words, source, of=(1,)), (2, b"", f"mulkavesh: {words[0]}: {no_output}\n"))
         same(f"{words} to a terminal from standard input", at_terminal(*words, of=(1,)), (2, b"", f"mulkavesh: {words[0]}: {no_output}\n"))
         status, written, said = at_terminal(*words, source, "-o", "-", of=(1,))
