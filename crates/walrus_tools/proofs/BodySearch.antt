@@ -4,7 +4,7 @@ use Rattle.std.specs.Prelude.{AllPairs, nat_eq}
 use Rattle.std.specs.List.Sorted.{IsBinarySearchResult, IsNonDecreasingBy, IsSearchInRange}
 use Rattle.std.specs.Ordering.{nat_cmp, ordering_index}
 use Rattle.std.specs.declared.ops.Range.{Range}
-use Rattle.std.proofs.lemmas.Bool.{eqb-false, eq-eqb}
+use Rattle.std.proofs.lemmas.Bool.{eqb-true, eq-eqb}
 use Rattle.std.proofs.lemmas.Bool.Decides.{nat_tests}
 use Rattle.std.proofs.lemmas.Cmp.{ranked}
 use Rattle.std.proofs.lemmas.List.Sorted.{IsNonDecreasingBy-from_default}
@@ -32,17 +32,17 @@ get_map f (x ∷ xs) (suc i) d = get_map f xs i d
 
 -- the first that passes
 find_at : {Y : Type 0} (p : Y → Bool) (xs : List Y) (i : ℕ) (d : Y) → i < length xs → p (get_or xs i d) ≡ true → ((j : ℕ) → j < i → p (get_or xs j d) ≡ false) → find p xs ≡ Some (get_or xs i d)
-find_at p [] i d lt yes no = absurd (omega (arith, lt))
-find_at p (x ∷ xs) zero d lt yes no = ap (λ (b : Bool). cond b (Some x) (find p xs)) yes
-find_at p (x ∷ xs) (suc i) d lt yes no =
+find_at p [] i d lt holds fails = absurd (omega (arith, lt))
+find_at p (x ∷ xs) zero d lt holds fails = ap (λ (b : Bool). cond b (Some x) (find p xs)) holds
+find_at p (x ∷ xs) (suc i) d lt holds fails =
     let l : suc i < length (x ∷ xs) = lt in
-    ap (λ (b : Bool). cond b (Some x) (find p xs)) (no zero (omega arith)) ∙ find_at p xs i d (omega (arith, l)) yes (λ j below. no (suc j) (omega (arith, below)))
+    ap (λ (b : Bool). cond b (Some x) (find p xs)) (fails zero (omega arith)) ∙ find_at p xs i d (omega (arith, l)) holds (λ j below. fails (suc j) (omega (arith, below)))
 
 -- none passes
 find_none : {Y : Type 0} (p : Y → Bool) (xs : List Y) (d : Y) → ((j : ℕ) → j < length xs → p (get_or xs j d) ≡ false) → find p xs ≡ None
-find_none p [] d no = refl
-find_none p (x ∷ xs) d no =
-    ap (λ (b : Bool). cond b (Some x) (find p xs)) (no zero (omega arith)) ∙ find_none p xs d (λ j below. no (suc j) (let l : suc (length xs) ≡ length (x ∷ xs) = refl in omega (arith, below, l)))
+find_none p [] d fails = refl
+find_none p (x ∷ xs) d fails =
+    ap (λ (b : Bool). cond b (Some x) (find p xs)) (fails zero (omega arith)) ∙ find_none p xs d (λ j below. fails (suc j) (let l : suc (length xs) ≡ length (x ∷ xs) = refl in omega (arith, below, l)))
 
 length_map : {X Y : Type 0} (f : X → Y) (xs : List X) → length (map f xs) ≡ length xs
 length_map f [] = refl
@@ -54,6 +54,13 @@ length_map f (x ∷ xs) = ap suc (length_map f xs)
 abbrev pub result_place : Result ℕ ℕ → Option ℕ
 result_place (Ok at) = Some at
 result_place (Err at) = None
+
+-- numbers that differ are told apart
+told_apart : (n m : ℕ) → (n ≡ m → ⊥) → nat_eq n m ≡ false
+told_apart n m differs = by (nat_eq n m) refl where
+  by : (b : Bool) → nat_eq n m ≡ b → nat_eq n m ≡ false
+  by true is = absurd (differs (eqb-true n m is))
+  by false is = is
 
 abbrev key : Body → ℕ
 key b = place b.0
@@ -75,7 +82,7 @@ module _ (all : List Body) (rise : AreRising (map range_of all)) (f : ℕ) where
 
   -- a body of another function doesn't pass
   apart : (d : Body) (k : ℕ) → (key (get_or all k d) ≡ f → ⊥) → test (get_or (map range_of all) k (range_of d)) ≡ false
-  apart d k differs = ap test (get_map range_of all k d) ∙ eqb-false (key (get_or all k d)) f differs
+  apart d k differs = ap test (get_map range_of all k d) ∙ told_apart (key (get_or all k d)) f differs
 
   same : (d : Body) (k : ℕ) → key (get_or all k d) ≡ f → test (get_or (map range_of all) k (range_of d)) ≡ true
   same d k is = ap test (get_map range_of all k d) ∙ eq-eqb (key (get_or all k d)) f is
@@ -104,8 +111,8 @@ module _ (all : List Body) (rise : AreRising (map range_of all)) (f : ℕ) where
 -- ---- other items
 
 find_false : {Y : Type 0} (p : Y → Bool) (xs : List Y) → ((y : Y) → p y ≡ false) → find p xs ≡ None
-find_false p [] no = refl
-find_false p (x ∷ xs) no = ap (λ (b : Bool). cond b (Some x) (find p xs)) (no x) ∙ find_false p xs no
+find_false p [] fails = refl
+find_false p (x ∷ xs) fails = ap (λ (b : Bool). cond b (Some x) (find p xs)) (fails x) ∙ find_false p xs fails
 
 other_kind : (all : List Body) (x : Item) → ((f : ℕ) → is_item (function_item f) x ≡ false) → None ≡ body_size (map range_of all) x
 other_kind all x apart = sym (ap (option_map (λ (r : ℕ × (ℕ × ℕ)). r.1.1 - r.1.0)) (find_false (λ (r : ℕ × (ℕ × ℕ)). is_item (function_item r.0) x) (map range_of all) (λ r. apart r.0)))

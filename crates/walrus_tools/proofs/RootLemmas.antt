@@ -1,6 +1,6 @@
 -- What makes an item a root: what each search finds, and that a root is one by something.
 use Rattle.std.proofs.Common.{◌≡◌, ℕ, Bool, true, false, List, ◌∷◌, [], Option, Some, None, map, refl, sym, ap, ◌∙◌, subst, cond, eqb-true}
-use Rattle.std.specs.Prelude.{Contains, is_some, nat_eq, option_map, if◌then◌else◌}
+use Rattle.std.specs.Prelude.{Contains, slice_get, is_some, nat_eq, option_map, if◌then◌else◌}
 use Rattle.walrus_base.specs.Arena.{entries, item_at, items}
 use Rattle.walrus_base.specs.Id.{place}
 use Rattle.walrus_base.specs.Operators.{Space, Types, Functions, Tables, Memories, Tags, Globals, Elements, DataSegments, Item, function_item}
@@ -35,7 +35,7 @@ use Rattle.walrus_contents.specs.declared.parts.Contents.{Contents}
 use Rattle.walrus_theorem.proofs.EditKept.{none_isnt, some_is}
 use Rattle.walrus_tools.proofs.ImportMatches.{finds}
 use Rattle.walrus_tools.specs.Links.{IsActive, IsActiveKind, IsDeclared, IsExported, IsRootBy, IsStart}
-use Rattle.walrus_tools.specs.RootSteps.{FindsRoot, by_data, by_data_kind, by_element, by_element_kind, by_start}
+use Rattle.walrus_tools.specs.RootSteps.{FindsChainRoot, FindsRoot, by_data, by_data_kind, by_element, by_element_kind, by_start}
 use Rattle.walrus_tools.specs.declared.roots.Root.{Root}
 use Rattle.walrus_tools.specs.declared.roots.Root.TheVariants as roots
 
@@ -50,7 +50,7 @@ pub not_named : (x : Item) → ((e : ExportItem) → exported_item e ≡ x → �
 not_named x none all = by (first (exports_item x) all) refl where
   by : (o : Option (ℕ × ExportValue)) → first (exports_item x) all ≡ o → false ≡ is_some o
   by None found = refl
-  by (Some e) found = absurd (none e.1.item (sym (is_item-same x (exported_item e.1.item) (found-passes (λ (d : ℕ × ExportValue). exports_item x d.1) all e found))))
+  by (Some e) found = absurd (none e.1.item (is_item-same (exported_item e.1.item) x (found-passes (λ (d : ℕ × ExportValue). exports_item x d.1) all e found)))
 
 -- what is found has a place
 pub found_place : {K : Type 0} (r : Option (Id K)) (o : Option (ℕ × ExportValue)) → option_map place r ≡ option_map (λ (e : ℕ × ExportValue). e.0) o → is_some r ≡ is_some o
@@ -72,14 +72,14 @@ module _ (c : Contents) (x : Item) where
     by None found h = absurd (let no_such : true ≡ false = h in cc)
     by (Some e) found h =
         let at : Contains (items all) e.1 = Contains-map (λ (d : ℕ × ExportValue). d.1) e (entries all) (entry_in all e.0 e.1 (found-item (λ (d : ℕ × ExportValue). exports_item x d.1) all e found)) in
-        (export_of e.1, Contains-map export_of e.1 (items all) at, is_item-same x (exported_item e.1.item) (found-passes (λ (d : ℕ × ExportValue). exports_item x d.1) all e found))
+        (export_of e.1, Contains-map export_of e.1 (items all) at, sym (is_item-same (exported_item e.1.item) x (found-passes (λ (d : ℕ × ExportValue). exports_item x d.1) all e found)))
 
   pub not_exported : false ≡ is_some (first (exports_item x) all) → IsExported v x → ⊥
   not_exported h (e, at, is) =
-      let back = Contains-unmap export_of e (items all) at in
-      let entry = Contains-unmap (λ (d : ℕ × ExportValue). d.1) back.0 (entries all) back.1 in
+      let back = Contains-unmap export_of (items all) e at in
+      let entry = Contains-unmap (λ (d : ℕ × ExportValue). d.1) (entries all) back.0 back.1 in
       let same : x ≡ exported_item entry.0.1.item = is ∙ ap (λ (o : Export). o.item) (sym back.2) ∙ ap (λ (o : ExportValue). exported_item o.item) (sym entry.2) in
-      by (first (exports_item x) all) refl h entry.0 entry.1 (same-is_item x (exported_item entry.0.1.item) same)
+      by (first (exports_item x) all) refl h entry.0 entry.1 (same-is_item (exported_item entry.0.1.item) x (sym same))
     where
       by : (o : Option (ℕ × ExportValue)) → first (exports_item x) all ≡ o → false ≡ is_some o → (d : ℕ × ExportValue) → Contains (entries all) d → exports_item x d.1 ≡ true → ⊥
       by None found h d there passes = finds (λ (d : ℕ × ExportValue). exports_item x d.1) (entries all) d there passes found
@@ -180,3 +180,8 @@ module _ (c : Contents) where
   plain_root (items_of_kinds.Function id) out f e d = absurd (f id refl)
   plain_root (items_of_kinds.Element id) out f e d = absurd (e id refl)
   plain_root (items_of_kinds.Data id) out f e d = absurd (d id refl)
+
+-- what was found of the first item is found of its chain
+pub chain_found : (v : Abstract) (ids : List ItemId) (id : ItemId) (r : Option Root) → Some id ≡ slice_get ids 0 → FindsRoot v (item_of id) r → FindsChainRoot v (Some (map item_of ids)) r
+chain_found v [] id r at found = absurd (none_isnt (sym at))
+chain_found v (x ∷ ids) id r at found = subst (λ (y : ItemId). FindsRoot v (item_of y) r) (some_is at) found

@@ -133,7 +133,7 @@ module _ {V : Type 0} {O : V → Type 0} (G : (v : V) → Ghosts (O v)) where
     -- what goes with the item is told
     pub alone_so : (back : Module (SectionEntry V O)) (x : Item) (transform : Transform) (marks : Option (Marks FunctionKey)) → TellsGoers G x stays back (Ok marks)
         → TellsAlone (view G edited) transform x (option_map (λ (m : Marks FunctionKey). alone_in m transform.function_ranges) marks)
-    alone_so back x transform None h f reached =
+    alone_so back x transform None h = λ f reached.
         let kept : item_at (functions stays.funcs) f ≡ item_at (functions edited.funcs) f = ran.items.functions.kept f (inl (subst (λ (y : Item). Reached (view G edited) y) reached.is reached.reached)) in
         no_body edited.locals (item_at (functions edited.funcs) f) (ap has_body (sym kept) ∙ h.1 f reached.is) reached.local
     alone_so back x transform (Some marks) (f, is, g) =
@@ -260,20 +260,20 @@ module _ {V : Type 0} {O : V → Type 0} (G : (v : V) → Ghosts (O v)) (choices
       callers_lack _ h = absurd h
 
       module _ (configured : settings read ≡ g) (back : Module (SectionEntry V O)) (again : HoldsSame stays back) (left : Module (SectionEntry V O)) where
-        set_so : settings edited ≡ g
+        pub set_so : settings edited ≡ g
         set_so = ap settings kept.others ∙ configured
 
-        collected : Collected (view G edited) (view G back)
+        pub collected : Collected (view G edited) (view G back)
         collected = subst (λ (v : Abstract). Collected (view G edited) v) (sym (same_view G stays back again)) ran.collected
 
-        same_customs : back.customs ≡ edited.customs
+        pub same_customs : back.customs ≡ edited.customs
         same_customs = ap (λ (m : Module (SectionEntry V O)). m.customs) again.others ∙ ran.others.customs
 
-        set_back : settings back ≡ settings edited
+        pub set_back : settings back ≡ settings edited
         set_back = ap settings again.others ∙ ran.others.settings
 
         module _ (answer : Result (Vec ℕ × CodeTransform) Error) (emits : EmitsTransform G back left true answer) where
-          stay : left.customs ≡ back.customs
+          pub stay : left.customs ≡ back.customs
           stay = (emits.emits).raw (all_raw back.customs raws (ap sections (same_customs ∙ own) ∙ are))
 
         -- emission refuses
@@ -291,7 +291,7 @@ module _ {V : Type 0} {O : V → Type 0} (G : (v : V) → Ghosts (O v)) (choices
     module _ (u : Abstract) (transform : Transform) (m : IsMeasured Edits c bytes u transform) (held : m.comes.module_edited ≡ contents_of edited) (same : m.comes.customs ≡ (view G read).customs)
         (x : Item) (means : MeansItem (functions edited.funcs) (exports edited.exports) text x) where
       -- the item is meant
-      pub asked : IsAsked c bytes choices text x
+      abbrev pub asked : IsAsked c bytes choices text x
       asked = record {
         module_left = u;
         transform = transform;

@@ -103,11 +103,7 @@ pub(crate) fn root_of(parts: Parts<'_>, item: ItemId) -> Option<Root>
         ItemId::Function(id) => start_root(parts.start, id),
         ItemId::Element(id) => element_root(parts.elements, id),
         ItemId::Data(id) => data_root(parts.data_, id),
-        ItemId::Type(_)
-        | ItemId::Table(_)
-        | ItemId::Memory(_)
-        | ItemId::Global(_)
-        | ItemId::Tag(_) => None,
+        _ => None,
     }
 }
 

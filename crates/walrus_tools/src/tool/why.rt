@@ -91,11 +91,10 @@ pub fn why(
     let bodies = transform.function_ranges.as_slice();
     let left = module.parts();
     let links = links_of_chain(alloc, left, bodies, &chain)?;
-    let alone = alone_if(&marks, bodies);
     Ok(Reason {
         item,
         links,
         root,
-        alone,
+        alone: alone_if(&marks, bodies),
     })
 }

@@ -9,4 +9,4 @@ pub returns : goal.returns
 returns c =
     let x = item_of c.args.item in
     link_same x _ _ _ _ _ _ (c.in_ok-owned.ensures ∙ c.name_in.ensures)
-    (c.in_ok-names_of.ensures ∙ c.args.requires.grouped x ∙ exported_so (items (exports c.args.parts.exports.now)) x) c.body_size.ensures
+    (c.in_ok-names_of.ensures ∙ c.requires.grouped x ∙ exported_so (items (exports c.args.parts.exports.now)) x) c.body_size.ensures

@@ -7,7 +7,7 @@ use Rattle.walrus_contents.specs.View.{lent, parts_view}
 use Rattle.walrus_tools.specs.Links.{IsExported}
 use Rattle.walrus_tools.specs.RootSteps.{FindsRoot}
 use Rattle.walrus_tools.specs.declared.roots.Root.{Root}
-use Rattle.walrus_tools.proofs.RootLemmas.{data_root, element_root, exported_so, function_root, not_exported}
+use Rattle.walrus_tools.proofs.RootLemmas.{data_root, element_root, exported_so, function_root, not_exported, plain_root}
 use Rattle.walrus_tools.proofs.roots.root_of.Goals as goal
 
 pub returns-then-is_exported : goal.returns-then-is_exported
@@ -38,3 +38,8 @@ returns-in-Data c =
     let out = subst (λ (x : Item). IsExported v x → ⊥) (ap item_of c.in-Data.is) (not_exported (lent c.args.parts) (item_of c.args.item) (sym no ∙ c.is_exported.ensures)) in
     subst (λ (item : ItemId). FindsRoot v (item_of item) c.data_root.result) (sym c.in-Data.is)
     (subst (λ (r : Option Root). FindsRoot v (DataSegments, place c.in-Data.id) r) (sym c.data_root.ensures) (data_root (lent c.args.parts) (place c.in-Data.id) out))
+
+pub returns-in_default : goal.returns-in_default
+returns-in_default c =
+    let no : c.is_exported.result ≡ false = search rules in
+    plain_root (lent c.args.parts) c.args.item (not_exported (lent c.args.parts) (item_of c.args.item) (sym no ∙ c.is_exported.ensures)) c.in_default.not-Function c.in_default.not-Element c.in_default.not-Data

@@ -20,7 +20,7 @@ use Rattle.walrus_tools.proofs.tool.callers.callers.Goals as goal
 pub returns-in_err-module : goal.returns-in_err-module
 returns-in_err-module c =
     let choices = choices_seen c.args.choices.now in
-    let p = err_from_is_err_and c.from_residual-in_err-module.result c.from_residual-in_err-module.ensures.1 in
+    let p = err_from_is_err_and c.from_residual.result c.from_residual.ensures.1 in
     let same = c.of_choices-config.ensures.value in
     let f = flags c.of_choices-config.result in
     rw (p.1, p.2) (subst (λ (f : Flags). AnswersCallers (config_of f) c.args.bytes.now choices c.args.text.now (Err c.in_err-module.field-0.0)) same

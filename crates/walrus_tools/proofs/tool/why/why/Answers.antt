@@ -24,7 +24,7 @@ use Rattle.walrus_tools.proofs.tool.why.why.Goals as goal
 pub returns-in_err-module : goal.returns-in_err-module
 returns-in_err-module c =
     let choices = choices_seen c.args.choices.now in
-    let p = err_from_is_err_and c.from_residual-in_err-module.result c.from_residual-in_err-module.ensures.1 in
+    let p = err_from_is_err_and c.from_residual.result c.from_residual.ensures.1 in
     let same = c.of_choices-config.ensures.value in
     let f = flags c.of_choices-config.result in
     rw (p.1, p.2) (subst (λ (f : Flags). AnswersWhy (config_of f) c.args.bytes.now choices c.args.text.now (Err c.in_err-module.field-0.0)) same
@@ -159,11 +159,11 @@ returns c =
     let m = way_measured _ choices c.args.text.now f (ap (λ (f : Flags). f.preserve_code_transform) same) c.args.bytes.now read.module read.ensures.found edited kept read.ensures.kept.raws read.ensures.kept.are stays ran read.ensures.configured back again left c.in_ok-output.output c.in_ok-output.transform c.in_ok-output.ensures in
     let bodies : map range_of c.as_slice-bodies.result.now ≡ transform.function_ranges = ap (map range_of) c.as_slice-bodies.ensures.value in
     let chain = option_map items_in c.in_ok-chain.chain in
-    let answer : Reason = record { item = c.in_ok-item.item; links = c.in_ok-links.links; root = c.root_of_chain.result; alone = c.alone_if.result } in
+    let answer : Reason = record { item = c.in_ok-item.item; links = c.in_ok-links.links; root = c.root_of_chain-root.result; alone = c.alone_if.result } in
     subst (λ (f : Flags). AnswersWhy (config_of f) c.args.bytes.now choices c.args.text.now (Ok answer)) same
     (why_told _ choices c.args.text.now f (ap (λ (f : Flags). f.preserve_code_transform) same) c.args.bytes.now read.module read.ensures.found edited kept _ transform m refl refl x c.in_ok-item.ensures chain c.in_ok-chain.ensures
     (links_in c.in_ok-links.links) (c.in_ok-links.ensures ∙ ap₂ (λ (v : Abstract) (rs : List (ℕ × (ℕ × ℕ))). option_map (map (link_of v rs)) chain) c.parts-left.ensures bodies)
-    c.root_of_chain.result (subst (λ (v : Abstract). FindsChainRoot v chain c.root_of_chain.result) c.parts-read.ensures c.root_of_chain.ensures)
+    c.root_of_chain-root.result (subst (λ (v : Abstract). FindsChainRoot v chain c.root_of_chain-root.result) c.parts-read.ensures c.root_of_chain-root.ensures)
     c.alone_if.result (subst (λ (a : Option Alone). TellsAlone (view _ edited) transform x a)
     (sym (c.alone_if.ensures ∙ ap (λ (rs : List (ℕ × (ℕ × ℕ))). option_map (λ (m : Marks FunctionKey). alone_in m rs) c.in_ok-marks.marks) bodies))
     (alone_so _ edited stays ran back x transform c.in_ok-marks.marks c.in_ok-marks.ensures)))
