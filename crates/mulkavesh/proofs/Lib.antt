@@ -18,4 +18,5 @@ mod SectionLines
 mod ShowLemmas
 mod Sound
 mod Spelling
+mod UnfitLemmas
 mod Wrongs

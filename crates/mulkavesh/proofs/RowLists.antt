@@ -40,18 +40,27 @@ module _ {A : Type 0} (text_of : A → List ℕ) where
   pub all_texts : (comma : List ℕ) (all : List A) (i : ℕ) → length all ≤ i → (front text : List ℕ) → text ≡ front ++ separated comma (map text_of (take i all)) → text ≡ front ++ separated comma (map text_of all)
   all_texts comma all i past front text is = is ∙ ap (λ (items : List A). front ++ separated comma (map text_of items)) (take_all i all past)
 
--- ---- seven, one behind another
+-- ---- several, one behind another
 
-pub seven_joined : {A : Type 0} (a k l m n o p q : List A) → ((((((a ++ k) ++ l) ++ m) ++ n) ++ o) ++ p) ++ q ≡ a ++ (k ++ l ++ m ++ n ++ o ++ p ++ q)
-seven_joined {A} a k l m n o p q =
-    ap (λ (b : List A). ((((b ++ m) ++ n) ++ o) ++ p) ++ q) (append_assoc a k l)
-    ∙ ap (λ (b : List A). (((b ++ n) ++ o) ++ p) ++ q) (append_assoc a (k ++ l) m)
-    ∙ ap (λ (b : List A). ((b ++ o) ++ p) ++ q) (append_assoc a (k ++ l ++ m) n)
-    ∙ ap (λ (b : List A). (b ++ p) ++ q) (append_assoc a (k ++ l ++ m ++ n) o)
-    ∙ ap (λ (b : List A). b ++ q) (append_assoc a (k ++ l ++ m ++ n ++ o) p)
-    ∙ append_assoc a (k ++ l ++ m ++ n ++ o ++ p) q
+four_joined : {A : Type 0} (o a b c d : List A) → (((o ++ a) ++ b) ++ c) ++ d ≡ o ++ (a ++ b ++ c ++ d)
+four_joined {A} o a b c d = ap (λ (s : List A). (s ++ c) ++ d) (append_assoc o a b) ∙ ap (λ (s : List A). s ++ d) (append_assoc o (a ++ b) c) ∙ append_assoc o (a ++ b ++ c) d
+
+five_joined : {A : Type 0} (o a b c d e : List A) → ((((o ++ a) ++ b) ++ c) ++ d) ++ e ≡ o ++ (a ++ b ++ c ++ d ++ e)
+five_joined {A} o a b c d e = ap (λ (s : List A). s ++ e) (four_joined o a b c d) ∙ append_assoc o (a ++ b ++ c ++ d) e
+
+pub seven_joined : {A : Type 0} (o a b c d e f g : List A) → ((((((o ++ a) ++ b) ++ c) ++ d) ++ e) ++ f) ++ g ≡ o ++ (a ++ b ++ c ++ d ++ e ++ f ++ g)
+seven_joined {A} o a b c d e f g =
+    ap (λ (s : List A). (s ++ f) ++ g) (five_joined o a b c d e) ∙ ap (λ (s : List A). s ++ g) (append_assoc o (a ++ b ++ c ++ d ++ e) f) ∙ append_assoc o (a ++ b ++ c ++ d ++ e ++ f) g
 
 -- behind others
+pub four_behind : {A : Type 0} (old t u v w : List A) (a b c d : List A) → t ≡ old ++ a → u ≡ t ++ b → v ≡ u ++ c → w ≡ v ++ d → w ≡ old ++ (a ++ b ++ c ++ d)
+four_behind {A} old t u v w a b c d t_is u_is v_is w_is =
+    w_is ∙ ap (λ (s : List A). s ++ d) (v_is ∙ ap (λ (s : List A). s ++ c) (u_is ∙ ap (λ (s : List A). s ++ b) t_is)) ∙ four_joined old a b c d
+
+pub five_behind : {A : Type 0} (old t u v w x : List A) (a b c d e : List A) → t ≡ old ++ a → u ≡ t ++ b → v ≡ u ++ c → w ≡ v ++ d → x ≡ w ++ e → x ≡ old ++ (a ++ b ++ c ++ d ++ e)
+five_behind {A} old t u v w x a b c d e t_is u_is v_is w_is x_is =
+    x_is ∙ ap (λ (s : List A). s ++ e) (w_is ∙ ap (λ (s : List A). s ++ d) (v_is ∙ ap (λ (s : List A). s ++ c) (u_is ∙ ap (λ (s : List A). s ++ b) t_is))) ∙ five_joined old a b c d e
+
 pub seven_behind : {A : Type 0} (old t u v w x y z : List A) (a b c d e f g : List A) → t ≡ old ++ a → u ≡ t ++ b → v ≡ u ++ c → w ≡ v ++ d → x ≡ w ++ e → y ≡ x ++ f → z ≡ y ++ g
     → z ≡ old ++ (a ++ b ++ c ++ d ++ e ++ f ++ g)
 seven_behind {A} old t u v w x y z a b c d e f g t_is u_is v_is w_is x_is y_is z_is =

@@ -88,7 +88,7 @@ module _ (Answers : List ℕ → Result Made Error → Type 0) (w : Work) (Says 
   TellsReason e = (bytes : List ℕ) × ReadsAndMakes Answers from.stream.old from.stream.new to.stream.old to.stream.new bytes (Err e)
       × ((text : List ℕ) × Says bytes e text × TellsLine from.name text)
 
-  -- a line says that, or, where memory ran out while that was looked for, what the error says
+  -- a line says that; or what the error says, where there is no more to say, or memory ran out while that was looked for
   abbrev pub TellsRefusal : Error → Type 0
   TellsRefusal e = TellsReason e ⊎ TellsLine from.name (refusal_text w e)
 

@@ -2,7 +2,6 @@
 use Rattle.std.specs.Prelude.{ℕ, Bool, true, false, not, List, [], ◌++◌, Option, Some, None, Result, Ok, Err, String, codes, flat_map, is_some, string_bytes, ◌≡◌, ⊤}
 use Rattle.std.specs.Global.{Vec}
 use Rattle.std.specs.declared.alloc.Global.{Global}
-use Rattle.walrus_tools.specs.Choice.{Choice}
 use Rattle.walrus_tools.specs.ChosenModule.{AnswersChosen, KeepsChosen, RefusesChosen}
 use Rattle.walrus_tools.specs.DroppedList.{AnswersDropped}
 use Rattle.walrus_tools.specs.ExportList.{AnswersExports}
@@ -20,7 +19,6 @@ use Rattle.walrus_tools.specs.Wanted.{config_wanted}
 use Rattle.walrus_tools.specs.Weigh.{AnswersReport, AnswersWeighed}
 use Rattle.walrus_tools.specs.declared.weigh.Smaller.{Smaller}
 use Rattle.mulkavesh.specs.declared.subcommands.Made.{Made}
-use Rattle.mulkavesh.specs.declared.order.Listing.{Listing}
 use Rattle.mulkavesh.specs.declared.order.Order.{Order}
 use Rattle.mulkavesh.specs.declared.order.Work.{Work}
 use Rattle.mulkavesh.specs.declared.order.Work.TheVariants as work
@@ -70,7 +68,7 @@ abbrev pub WritesSmaller : (is_quiet : Bool) → (Alone : Answer → Type 0) →
 WritesSmaller true Alone Noted = WritesAlone Alone
 WritesSmaller false Alone Noted = WritesNoted Noted
 
--- ---- report, list and why
+-- ---- texts
 
 -- a text of what a call answers, or the call's refusal
 abbrev pub TellsOf : {X : Type 0} → (Tells : X → (text : List ℕ) → Type 0) → (Answers : Result X Error → Type 0) → Answer → Type 0
@@ -84,22 +82,6 @@ Told text_of Answers = TellsOf (λ x text. text ≡ text_of x) Answers
 -- the text of so many items of a list, or of all
 abbrev pub ToldFirst : {A : Type 0} → (count : Option ℕ) → (text_of : List A → List ℕ) → (Answers : Result (Vec A) Error → Type 0) → Answer → Type 0
 ToldFirst count text_of Answers = Told (λ v. text_of (first_of count v.items)) Answers
-
--- the functions that stay, or those that are dropped
-abbrev pub ListsFunctions : (is_dropped : Bool) → (is_json : Bool) → Listing → Config → (bytes : List ℕ) → List Choice → Answer → Type 0
-ListsFunctions true is_json l c bytes roots = TellsOf (λ v. TellsListed is_json l.by_size l.count v.items) (AnswersDropped c bytes roots)
-ListsFunctions false is_json l c bytes roots = TellsOf (λ v. TellsListed is_json l.by_size l.count v.items) (AnswersListed c bytes roots)
-
--- exports, imports, or functions
-abbrev pub ListsOne : (exports imports : Bool) → (is_json : Bool) → Listing → Config → (bytes : List ℕ) → List Choice → Answer → Type 0
-ListsOne true imports is_json l c bytes roots = ToldFirst l.count (exports_text is_json) (AnswersExports c bytes roots)
-ListsOne false true is_json l c bytes roots = ToldFirst l.count (imports_text is_json) (AnswersImports c bytes roots)
-ListsOne false false is_json l c bytes roots = ListsFunctions l.dropped is_json l c bytes roots
-
--- what refers to an item, or why it stays
-abbrev pub TellsWhy : (callers : Bool) → (is_json : Bool) → Config → (bytes : List ℕ) → List Choice → (word : List ℕ) → Answer → Type 0
-TellsWhy true is_json c bytes roots word = Told (λ v. links_text is_json v.items) (AnswersCallers c bytes roots word)
-TellsWhy false is_json c bytes roots word = Told (reason_told is_json) (AnswersWhy c bytes roots word)
 
 -- ---- check
 
@@ -190,16 +172,36 @@ AnswersStub o c bytes =
     WritesSmaller o.is_quiet (AnswersMatching c bytes (modules_of o) (imports_of o))
     (AnswersWeighed (StubsMatching (modules_of o) (imports_of o)) (RefusesMatching (modules_of o) (imports_of o)) c bytes)
 
+-- the report on it
+abbrev pub Reports : Order → Config → (bytes : List ℕ) → Answer → Type 0
+Reports o c bytes = Told (weighed_told o.is_json) (AnswersReport c bytes (roots_of o))
+
+-- the functions that are dropped, or those that stay
+abbrev pub ListsFunctions : (is_dropped : Bool) → Order → Config → (bytes : List ℕ) → Answer → Type 0
+ListsFunctions true o c bytes = TellsOf (λ v. TellsListed o.is_json o.listing.by_size o.listing.count v.items) (AnswersDropped c bytes (roots_of o))
+ListsFunctions false o c bytes = TellsOf (λ v. TellsListed o.is_json o.listing.by_size o.listing.count v.items) (AnswersListed c bytes (roots_of o))
+
+-- the exports that stay, the imports that do, or functions
+abbrev pub Lists : (exports imports : Bool) → Order → Config → (bytes : List ℕ) → Answer → Type 0
+Lists true imports o c bytes = ToldFirst o.listing.count (exports_text o.is_json) (AnswersExports c bytes (roots_of o))
+Lists false true o c bytes = ToldFirst o.listing.count (imports_text o.is_json) (AnswersImports c bytes (roots_of o))
+Lists false false o c bytes = ListsFunctions o.listing.dropped o c bytes
+
+-- what refers to the item that is meant, or why that stays
+abbrev pub TellsWhy : (callers : Bool) → Order → Config → (bytes : List ℕ) → Answer → Type 0
+TellsWhy true o c bytes = Told (λ v. links_text o.is_json v.items) (AnswersCallers c bytes (roots_of o) (operand_bytes o.operand))
+TellsWhy false o c bytes = Told (reason_told o.is_json) (AnswersWhy c bytes (roots_of o) (operand_bytes o.operand))
+
 abbrev pub AnswersWork : Work → Order → (bytes : List ℕ) → Result Made Error → Type 0
 AnswersWork work.Gc o bytes = AnswersGc o (config_wanted o.wanted) bytes
-AnswersWork work.Report o bytes = WritesAlone (Told (weighed_told o.is_json) (AnswersReport (config_wanted o.wanted) bytes (roots_of o)))
-AnswersWork work.List o bytes = WritesAlone (ListsOne o.listing.exports o.listing.imports o.is_json o.listing (config_wanted o.wanted) bytes (roots_of o))
+AnswersWork work.Report o bytes = WritesAlone (Reports o (config_wanted o.wanted) bytes)
+AnswersWork work.List o bytes = WritesAlone (Lists o.listing.exports o.listing.imports o (config_wanted o.wanted) bytes)
 AnswersWork work.Check o bytes = Checks (config_wanted o.wanted) bytes o.is_json
 AnswersWork work.Sections o bytes = TellsAll bytes o.is_all o.is_json
 AnswersWork work.Strip o bytes = WritesAlone (AnswersStripped bytes (sections_of o))
 AnswersWork work.Snip o bytes = AnswersSnip o (config_wanted o.wanted) bytes
 AnswersWork work.Stub o bytes = AnswersStub o (config_wanted o.wanted) bytes
-AnswersWork work.Why o bytes = WritesAlone (TellsWhy o.listing.callers o.is_json (config_wanted o.wanted) bytes (roots_of o) (operand_bytes o.operand))
+AnswersWork work.Why o bytes = WritesAlone (TellsWhy o.listing.callers o (config_wanted o.wanted) bytes)
 
 -- what an order makes of the bytes
 abbrev pub AnswersOrder : Order → (bytes : List ℕ) → Result Made Error → Type 0

@@ -1,6 +1,6 @@
 //! Why an order isn't carried out, and what is said of that.
 
-ghost use Rattle.std.specs.Prelude.{◌≡◌, IfOk, IfSome, string_bytes};
+ghost use Rattle.std.specs.Prelude.{◌≡◌, IfOk, IfSome};
 ghost use Rattle.mulkavesh.specs.Cause.{SaysFault, SaysRefused, SaysUnfit, WordsRefusal, absent_text, refusal_text, said_text, unfit_text};
 ghost use Rattle.mulkavesh.specs.Choices.{roots_of};
 ghost use Rattle.walrus_tools.specs.Wanted.{config_wanted};
@@ -30,7 +30,7 @@ pub(crate) fn said_of(alloc: Global, order: &Order, bytes: &[u8], error: &Error)
 {
     match error {
         Error::InvalidWasm(_) => fault_in(alloc, bytes, order.wanted),
-        Error::NotFound => unfit_in(alloc, order, bytes),
+        Error::NotFound => unfit_in(alloc, order, bytes).unwrap_or(None),
         _ => None,
     }
 }
@@ -40,24 +40,27 @@ fn fault_in(alloc: Global, bytes: &[u8], wanted: Wanted) -> Option<Vec<u8>>
     ensures { IfSome result (λ text. SaysFault (config_wanted wanted) bytes.now text.items) }
 {
     match diagnose(alloc, bytes, wanted) {
-        Ok(Some(fault)) => Some(worded(alloc, fault, bytes).ok()?.into_bytes()),
+        Ok(Some(fault)) => worded(alloc, fault, bytes).ok(),
         _ => None,
     }
 }
 
-// What is said of NAMEs of which one fits no export.
-fn unfit_in(alloc: Global, order: &Order, bytes: &[u8]) -> Option<Vec<u8>>
-    ensures { IfSome result (λ text. SaysUnfit (config_wanted order.now.wanted) bytes.now
-        (roots_of order.now) text.items) }
+// What is said of NAMEs of which one fits no export, if one does.
+fn unfit_in(alloc: Global, order: &Order, bytes: &[u8]) -> Result<Option<Vec<u8>>, Error>
+    ensures { IfOk result (λ said. IfSome said (λ text.
+        SaysUnfit (config_wanted order.now.wanted) bytes.now (roots_of order.now) text.items)) }
 {
-    let choices = roots_of(alloc, order).ok()?;
+    let choices = roots_of(alloc, order)?;
     if choices.is_empty() {
-        return None;
+        return Ok(None);
     }
-    match unfit(alloc, bytes, order.wanted, &choices) {
-        Ok(Some(number)) => unfit_text(alloc, choices.get(number)?.name).ok(),
-        _ => None,
-    }
+    let Some(number) = unfit(alloc, bytes, order.wanted, &choices)? else {
+        return Ok(None);
+    };
+    let Some(choice) = choices.get(number) else {
+        return Ok(None);
+    };
+    Ok(Some(unfit_text(alloc, choice.name)?))
 }
 
 // What is said of a NAME that fits no export.
@@ -71,14 +74,14 @@ fn unfit_text(alloc: Global, name: &[u8]) -> Result<Vec<u8>, AllocError>
 }
 
 /// What is said of bytes that are invalid, and behind it what is wrong with them.
-pub(crate) fn worded(alloc: Global, fault: Fault, bytes: &[u8]) -> Result<String, AllocError>
-    ensures { IfOk result (λ text. WordsRefusal bytes.now fault (string_bytes text)) }
+pub(crate) fn worded(alloc: Global, fault: Fault, bytes: &[u8]) -> Result<Vec<u8>, AllocError>
+    ensures { IfOk result (λ text. WordsRefusal bytes.now fault text.items) }
 {
     let words = fault_words(alloc, fault, bytes)?;
     let mut text = String::from_str(alloc, REFUSED)?;
     text.push_str(": ")?;
     text.push_str(words.as_str())?;
-    Ok(text)
+    Ok(text.into_bytes())
 }
 
 /// What a refusal says: what was found, or else what the error says.

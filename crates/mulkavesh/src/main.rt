@@ -7,6 +7,7 @@
 #![tactic(auto)]
 
 mod beside;
+mod calls;
 mod cause;
 mod choices;
 mod command;

@@ -77,7 +77,8 @@ fn add_alone(alloc: Global, to: &mut Vec<u8>, alone: Option<Alone>) -> Result<()
     add_decimal(alloc, to, alone.functions as u64)?;
     to.extend_from_slice(b" functions, ")?;
     add_decimal(alloc, to, alone.bytes as u64)?;
-    to.extend_from_slice(b" bytes\n")
+    to.extend_from_slice(b" bytes\n")?;
+    Ok(())
 }
 
 // The lines.

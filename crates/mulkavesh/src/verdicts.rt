@@ -43,7 +43,7 @@ fn noted(
 {
     match found {
         None => Ok(Vec::new(alloc)),
-        Some(fault) if is_json => Ok(worded(alloc, fault, bytes)?.into_bytes()),
+        Some(fault) if is_json => worded(alloc, fault, bytes),
         Some(_) => Vec::from_slice(alloc, REFUSED.as_bytes()),
     }
 }

@@ -1,0 +1,16 @@
+use Rattle.std.proofs.Common.{ap, ◌∙◌}
+use Rattle.mulkavesh.specs.Entries.{first_of}
+use Rattle.mulkavesh.specs.Interface.{exports_text, imports_text}
+use Rattle.mulkavesh.proofs.subcommands.listed.Goals as goal
+
+pub returns-then-order : goal.returns-then-order
+returns-then-order c =
+    let o = c.args.order.now in
+    let told = c.in_ok-told.ensures ∙ ap (exports_text o.is_json) (c.first_of.ensures ∙ ap (first_of o.listing.count) c.deref.ensures.value) in
+    rw c.if-order.true (c.in_ok-all.all, (c.in_ok-all.ensures, told))
+
+pub returns-then-order-2 : goal.returns-then-order-2
+returns-then-order-2 c =
+    let o = c.args.order.now in
+    let told = c.in_ok-told-then-order.ensures ∙ ap (imports_text o.is_json) (c.first_of-then-order.ensures ∙ ap (first_of o.listing.count) c.deref-then-order.ensures.value) in
+    rw (c.if-order.false, c.if-order-2.true) (c.in_ok-all-then-order.all, (c.in_ok-all-then-order.ensures, told))
