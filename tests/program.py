@@ -580,13 +580,13 @@ def calling(exports, names=()):
 
 # What is asked of that module, with its exports `run` (0) and `b` (4), and what is answered.
 ASKED = (
-    ("0", 'function 0 main, 6 bytes, exported as "run"\nit and what it alone keeps: 4 functions, 18 bytes\n'),
-    ("main", 'function 0 main, 6 bytes, exported as "run"\nit and what it alone keeps: 4 functions, 18 bytes\n'),
-    ("run", 'function 0 main, 6 bytes, exported as "run"\nit and what it alone keeps: 4 functions, 18 bytes\n'),
-    ("1", 'function 0 main, 6 bytes, exported as "run"\nfunction 1, 4 bytes\nit and what it alone keeps: 1 functions, 4 bytes\n'),
-    ("b", 'function 4 four, 4 bytes, exported as "b"\nit and what it alone keeps: 2 functions, 6 bytes\n'),
+    ("0", 'function 0 main, 6 bytes, exported as "run"\nit and what it alone keeps: functions 4, bytes 18\n'),
+    ("main", 'function 0 main, 6 bytes, exported as "run"\nit and what it alone keeps: functions 4, bytes 18\n'),
+    ("run", 'function 0 main, 6 bytes, exported as "run"\nit and what it alone keeps: functions 4, bytes 18\n'),
+    ("1", 'function 0 main, 6 bytes, exported as "run"\nfunction 1, 4 bytes\nit and what it alone keeps: functions 1, bytes 4\n'),
+    ("b", 'function 4 four, 4 bytes, exported as "b"\nit and what it alone keeps: functions 2, bytes 6\n'),
     ("6", "function 6 isn't reached\n"),
-    ("2 --drop b", 'function 0 main, 6 bytes, exported as "run"\nfunction 2, 6 bytes\nit and what it alone keeps: 3 functions, 12 bytes\n'),
+    ("2 --drop b", 'function 0 main, 6 bytes, exported as "run"\nfunction 2, 6 bytes\nit and what it alone keeps: functions 3, bytes 12\n'),
     ("3 --callers", "function 1, 4 bytes\nfunction 2, 6 bytes\n"),
     ("5 --callers", 'function 4 four, 4 bytes, exported as "b"\n'),
     ("0 --callers", ""),
@@ -854,7 +854,7 @@ def try_page_reasons(work):
     for begin, wanted in (
         ("./mulkavesh list --dropped ", "2 1 __wasm_call_ctors\n"),
         ("./mulkavesh list --imports ", "memory 0 env memory\ntable 0 env __indirect_function_table\nglobal 0 env __memory_base\nglobal 1 env __table_base\nfunction 0 env host_log\n"),
-        ("./mulkavesh why fib ", f'function 6 fib, {self_size("fib")} bytes, exported as "fib"\nit and what it alone keeps: 1 functions, {self_size("fib")} bytes\n'),
+        ("./mulkavesh why fib ", f'function 6 fib, {self_size("fib")} bytes, exported as "fib"\nit and what it alone keeps: functions 1, bytes {self_size("fib")}\n'),
         ("./mulkavesh why --callers ", f'function 6 fib, {self_size("fib")} bytes, exported as "fib"\n'),
     ):
         line = page_line(begin)
