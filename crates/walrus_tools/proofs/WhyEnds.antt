@@ -288,6 +288,11 @@ module _ {V : Type 0} {O : V → Type 0} (G : (v : V) → Ghosts (O v)) (choices
             measured G Edits Refuses g plain bytes read parsed edited edits own whole raws are set_so back collected same_customs left (stay (Ok (output, transform)) h)
             (h.emits).left (settings back) (set_back ∙ set_so) output transform (h.emits).well_made (h.transform (inr refl))
 
+        -- what refers to an item of what is left refers to it in the module that was collected
+        pub callers_left : (output : Vec ℕ) (transform : CodeTransform) (h : EmitsTransform G back left true (Ok (output, transform))) (y : Item) (callers : List Item) → AreCallers (held_view back) y callers
+            → AreCallers (way_measured output transform h).comes.left.module_collected y callers
+        callers_left output transform h y callers referring = callers_seen G back y callers referring
+
     module _ (u : Abstract) (transform : Transform) (m : IsMeasured Edits c bytes u transform) (held : m.comes.module_edited ≡ contents_of edited) (same : m.comes.customs ≡ (view G read).customs)
         (x : Item) (means : MeansItem (functions edited.funcs) (exports edited.exports) text x) where
       -- the item is meant
