@@ -1,21 +1,21 @@
 -- One function traps, what is used then is told, and its body is put back: what goes with it, and that all else is as it was.
 use mathlib.Core.Path.{fun_ext}
 use Rattle.std.proofs.Common.{◌≡◌, ◌≢◌, ◌==◌, ℕ, Bool, true, false, not, ◌&&◌, ◌||◌, List, [], ◌∷◌, zero, suc, Option, Some, None, option_map, slice_set, refl, sym, ap, ◌∙◌, subst, inl, inr, ⊎_elim}
-use Rattle.std.specs.Prelude.{◌⊎◌, ◌<◌, ◌≤◌, ◌↔◌, IsSome, is_some}
+use Rattle.std.specs.Prelude.{◌<◌, ◌≤◌, ◌↔◌, IsSome, is_some}
 use Rattle.std.proofs.lemmas.Bool.{cases_lt, eqb-true, eq-eqb}
 use Rattle.std.proofs.lemmas.List.{get_or_past, set-get_or}
 use Rattle.walrus_base.specs.Arena.{IsLive as IsLiveAt, item_at}
 use Rattle.walrus_base.specs.Id.{place}
 use Rattle.walrus_base.specs.IdSet.{has_id}
 use Rattle.walrus_base.specs.Marks.{is_marked, mark_places}
-use Rattle.walrus_base.specs.Operators.{Space, Types, Functions, Tables, Memories, Tags, Globals, Elements, DataSegments, Item, function_item}
+use Rattle.walrus_base.specs.Operators.{Types, Functions, Tables, Memories, Tags, Globals, Elements, DataSegments, Item, function_item}
 use Rattle.walrus_base.specs.declared.id.Id.{Id}
 use Rattle.walrus_base.specs.declared.keys.FunctionKey.{FunctionKey}
 use Rattle.walrus_base.specs.declared.keys.TypeKey.{TypeKey}
 use Rattle.walrus_base.specs.declared.marks.Marks.{Marks}
 use Rattle.walrus_base.proofs.Lookups.{still_some}
 use Rattle.walrus_base.proofs.Standing.{some_inj, was_some}
-use Rattle.walrus_contents.specs.View.{body, contents_view, function, functions_of, handlers_at, kind_of, name_at, named_of}
+use Rattle.walrus_contents.specs.View.{body, contents_view, function, functions_of, handlers_at, name_at, named_of}
 use Rattle.walrus_contents.specs.declared.parts.Contents.{Contents}
 use Rattle.walrus_items.specs.Function.{function_type}
 use Rattle.walrus_items.specs.Functions.{FunctionValue, ModuleFunctions, functions}
@@ -26,7 +26,6 @@ use Rattle.walrus_items.specs.declared.function_kind.FunctionKind.TheVariants.{L
 use Rattle.walrus_model.specs.Abstract as abstract
 use Rattle.walrus_model.specs.Abstract.{Abstract, Name, Subject, TheModule, AnItem, ALocal}
 use Rattle.walrus_model.specs.Kept.{Kept}
-use Rattle.walrus_model.specs.Live.{IsLive}
 use Rattle.walrus_model.specs.Reached.{Reached}
 use Rattle.walrus_model.proofs.PipelineCollected.{left_is_kept, reached_out as left_reached}
 use Rattle.walrus_module.specs.View.{contents_of, held_view, locations_of, view}

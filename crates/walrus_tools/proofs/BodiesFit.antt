@@ -1,5 +1,5 @@
 -- The bodies that a transform tells of stand apart in the output, so that their sizes come to no more than its length.
-use Rattle.std.proofs.Common.{◌≡◌, ◌≢◌, ◌==◌, ℕ, zero, suc, ◌+◌, ◌-◌, ◌<◌, ◌≤◌, Bool, true, false, not, List, [], ◌∷◌, length, Option, Some, None, refl, sym, ap, ◌∙◌, subst, arith, inl, inr, ⊎_elim, length-append}
+use Rattle.std.proofs.Common.{◌≡◌, ◌≢◌, ◌==◌, ℕ, zero, suc, ◌+◌, ◌-◌, ◌<◌, ◌≤◌, Bool, true, false, not, List, [], ◌∷◌, length, Option, Some, None, refl, sym, ap, ◌∙◌, subst, arith, ⊎_elim, length-append}
 use Rattle.std.specs.Prelude.{Contains, IsSome, filter, slice_get}
 use Rattle.std.specs.List.{sum_by}
 use Rattle.std.proofs.lemmas.Bool.{eq-eqb, eqb-true}
@@ -7,15 +7,14 @@ use Rattle.std.proofs.lemmas.List.Filters.{sum_by-filter_both}
 use Rattle.std.proofs.lemmas.List.Sums.{sum_by-cons}
 use Rattle.wasm_frames.specs.Frames.{Frames, header}
 use Rattle.wasm_frames.specs.Record as wire
-use Rattle.walrus_base.specs.Operators.{Functions, Types}
+use Rattle.walrus_base.specs.Operators.{Functions}
 use Rattle.walrus_base.proofs.Filters.{in_filter}
 use Rattle.walrus_base.proofs.Lists.{Contains-head, Contains-none, Contains-tail, Contains-uncons}
-use Rattle.walrus_base.proofs.Standing.{some_inj}
 use Rattle.walrus_code.specs.Transform.{Transform}
 use Rattle.walrus_model.specs.Abstract.{Abstract, Function}
 use Rattle.walrus_model.specs.Config.{Config}
 use Rattle.walrus_model.specs.Names.{body_of_function}
-use Rattle.walrus_model.specs.Transform.{IsBodyOf, IsLocalFunction, IsTransform, no_transform}
+use Rattle.walrus_model.specs.Transform.{IsBodyOf, IsTransform, no_transform}
 use Rattle.walrus_model.proofs.RisingLists.{Rises, first_below, later_rise}
 use Rattle.walrus_writing.specs.Transform.{CountStandsAt, IsTransformOf, imported_functions}
 use Rattle.walrus_tools.specs.Alone.{bytes_of, size_of}

@@ -1,9 +1,9 @@
 -- The function at a place has a trap in place of its body, or a body again.
-use Rattle.std.proofs.Common.{◌≡◌, ℕ, true, false, List, map, Option, None, Some, option_map, slice_set, refl, sym, ap, ◌∙◌, Result, Ok, Err, MatchResult}
+use Rattle.std.proofs.Common.{◌≡◌, ℕ, false, Option, None, Some, option_map, slice_set, refl, sym, ap, ◌∙◌, Result, Ok, Err, MatchResult}
 use Rattle.std.proofs.lemmas.List.{map-set, set-get_or}
 use Rattle.walrus_base.specs.Arena.{item_at}
 use Rattle.walrus_items.specs.Errors.{out_of_memory}
-use Rattle.walrus_items.specs.Functions.{FunctionValue, ModuleFunctions, function_value, functions}
+use Rattle.walrus_items.specs.Functions.{FunctionValue, function_value, functions}
 use Rattle.walrus_items.specs.LendsItem.{with_held}
 use Rattle.walrus_items.specs.LocalFunction.{LocalFunction}
 use Rattle.walrus_items.specs.declared.error.Error.{Error}

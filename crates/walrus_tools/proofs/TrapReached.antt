@@ -7,7 +7,7 @@ use Rattle.walrus_base.proofs.Lists.{Contains-head, Contains-none, Contains-unco
 use Rattle.walrus_base.proofs.Standing.{some_inj}
 use Rattle.walrus_contents.specs.There.{IsSound}
 use Rattle.walrus_model.specs.Abstract.{Abstract, Body, Function, FunctionKind, ImportedFunction, LocalFunction, Name, Subject, Uninitialised}
-use Rattle.walrus_model.specs.Kept.{IsSpareMemory, Kept}
+use Rattle.walrus_model.specs.Kept.{Kept}
 use Rattle.walrus_model.specs.Live.{IsLive}
 use Rattle.walrus_model.specs.Pipeline.{Collected}
 use Rattle.walrus_model.specs.Reached.{Reached, root}

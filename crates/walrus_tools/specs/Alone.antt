@@ -1,5 +1,5 @@
 -- What would go with a function of a module if its body trapped ("Structure > Instructions > Control Instructions").
-use Rattle.std.specs.Prelude.{ℕ, Bool, true, false, ◌-◌, ◌≡◌, ◌↔◌, ◌⊎◌, List, [], Option, IsTrue, filter, map, ◌==◌, option_map}
+use Rattle.std.specs.Prelude.{ℕ, Bool, true, false, ◌-◌, ◌≡◌, ◌↔◌, ◌⊎◌, List, [], Option, IsTrue, filter, ◌==◌, option_map}
 use Rattle.std.specs.List.{sum_by}
 use Rattle.walrus_base.specs.Operators.{function_item}
 use Rattle.walrus_model.specs.Abstract.{Abstract, Function, FunctionKind, ImportedFunction, LocalFunction, Uninitialised}

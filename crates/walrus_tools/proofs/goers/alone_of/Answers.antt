@@ -1,4 +1,4 @@
-use Rattle.std.proofs.Common.{ap₂, map, ℕ, ◌≡◌, ◌∙◌}
+use Rattle.std.proofs.Common.{ap₂, map, ℕ, ◌∙◌}
 use Rattle.walrus_base.specs.Marks.{is_marked}
 use Rattle.walrus_items.specs.Transform.{range_of}
 use Rattle.walrus_tools.specs.declared.goers.Alone.{Alone}

@@ -1,4 +1,4 @@
-use Rattle.std.proofs.Common.{arith, subst, sym, ℕ, ◌≡◌, ◌<◌}
+use Rattle.std.proofs.Common.{arith, subst, ℕ, ◌≡◌, ◌<◌}
 use Rattle.walrus_base.specs.Operators.{Item}
 use Rattle.walrus_code.specs.Code.{item_of}
 use Rattle.walrus_contents.specs.Named.{items_in}

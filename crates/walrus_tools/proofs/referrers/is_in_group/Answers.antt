@@ -1,4 +1,4 @@
-use Rattle.std.proofs.Common.{◌==◌, ap₂, false, sym, true, ℕ, ◌∙◌}
+use Rattle.std.proofs.Common.{◌==◌, ap₂, sym, ℕ, ◌∙◌}
 use Rattle.walrus_base.specs.Id.{place}
 use Rattle.walrus_base.specs.ModuleTypes.{type_slots}
 use Rattle.walrus_base.specs.Operators.{Types}

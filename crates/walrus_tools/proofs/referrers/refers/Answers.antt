@@ -1,6 +1,4 @@
-use Rattle.walrus_tools.proofs.AloneEnds.{alone_told}
-use Rattle.walrus_tools.proofs.BodiesFit.{bodies_fit}
-use Rattle.std.proofs.Common.{◌≡◌, List, ◌++◌, false, inl, map, refl, sym, true, ap, ◌∙◌}
+use Rattle.std.proofs.Common.{◌≡◌, List, ◌++◌, inl, map, refl, sym, ap, ◌∙◌}
 use Rattle.std.proofs.lemmas.Result.{err_from_is_err_and}
 use Rattle.walrus_code.specs.Code.{item_of}
 use Rattle.walrus_code.specs.declared.items.ItemId.{ItemId}
