@@ -23,7 +23,6 @@ mod EachMoves
 mod EditEnds
 mod FaultEnds
 mod FinishLemmas
-mod FoundEnds
 mod Fronts
 mod FunctionsThere
 mod GoingLists

@@ -1,49 +1,28 @@
 -- Why a function stays, of what was parsed: what the whole way comes to, and each refusal.
-use Rattle.std.proofs.Common.{◌≡◌, ℕ, List, Option, Result, refl, sym, ap, ◌∙◌, subst}
+use Rattle.std.proofs.Common.{◌≡◌, ℕ, List, Option, sym, ap, ◌∙◌, subst}
 use Rattle.std.specs.Prelude.{IsSome, Ok, Err, String, string_bytes}
-use Rattle.std.specs.Global.{Vec}
 use Rattle.std.specs.declared.alloc.Global.{Global}
-use Rattle.walrus_base.specs.Arena.{item_at, items}
+use Rattle.walrus_base.specs.Arena.{item_at}
 use Rattle.walrus_base.specs.Operators.{Item, function_item}
 use Rattle.walrus_model.specs.Abstract.{Abstract, Custom}
 use Rattle.walrus_model.specs.Config.{Config}
 use Rattle.walrus_items.specs.declared.custom.CustomSection.{Ghosts}
 use Rattle.walrus_items.specs.declared.error.Error.{Error}
 use Rattle.walrus_items.specs.declared.error.Error.TheVariants as error
-use Rattle.walrus_items.specs.declared.raw_section.RawCustomSection.{RawCustomSection}
 use Rattle.walrus_items.specs.Functions.{functions}
 use Rattle.walrus_code.specs.Transform.{Transform}
 use Rattle.walrus_contents.specs.declared.parts.Contents.{Contents}
-use Rattle.walrus_module.specs.Asked.{OneMayRefuse}
-use Rattle.walrus_module.specs.Customs.{sections}
-use Rattle.walrus_module.specs.Emitted.{told}
 use Rattle.walrus_module.specs.Parsed.{IsParsed}
-use Rattle.walrus_module.specs.Raws.{raw_sections}
-use Rattle.walrus_module.specs.View.{contents_of, meanings, view}
+use Rattle.walrus_module.specs.View.{contents_of, view}
 use Rattle.walrus_module.specs.declared.entry.SectionEntry.{SectionEntry}
 use Rattle.walrus_module.specs.declared.module.Module.{Module}
-use Rattle.walrus.specs.Marked.{ReachesUnsound}
-use Rattle.walrus.specs.Used.{RefusesSearch, Searches}
 use Rattle.walrus.specs.Why.{Explains}
-use Rattle.walrus_module.proofs.KeptRaw.{none_refuses}
-use Rattle.walrus.proofs.HeadlineLemmas.{search_refused as never_dead}
 use Rattle.walrus_tools.proofs.EditEnds.{edit_refused, plain_read}
-use Rattle.walrus_tools.specs.Edits.{RefusesEdit, with_customs}
-use Rattle.walrus_tools.specs.Ends.{Answers}
+use Rattle.walrus_tools.specs.Edits.{with_customs}
 use Rattle.walrus_tools.specs.Measures.{IsMeasured, IsSame}
-use Rattle.walrus_tools.specs.Reasons.{AnswersChain, AnswersReason, ExplainsIn, FindsFunction, HoldsChain, IsChain, LacksFunction, TellsChain, chain_seen, report_text}
-use Rattle.walrus_tools.specs.declared.tool.why.Chain.{Chain}
+use Rattle.walrus_tools.specs.Reasons.{AnswersReason, FindsFunction, LacksFunction, report_text}
 
 module _ {V : Type 0} {O : V → Type 0} (G : (v : V) → Ghosts (O v)) (c : Config) (bytes : List ℕ) (read : Module (SectionEntry V O)) (parsed : IsParsed c bytes (view G read)) where
-  -- a search refuses, for want of memory alone
-  pub search_ended : (X : Type 0) (Done : X → Type 0) (Refuses : Error → Type 0) (raws : List RawCustomSection) → sections read.customs ≡ raw_sections raws → (e : Error)
-      → RefusesSearch (ReachesUnsound (view G read)) (OneMayRefuse (meanings G read)) e → Answers {X = X} c bytes Done ⊥ Refuses (Err e)
-  search_ended X Done Refuses raws are (error.Memory m) h = tt
-  search_ended X Done Refuses raws are error.DeadItem h =
-      absurd (never_dead c (λ (output : Vec ℕ). output.items) (λ b o. ⊥) (λ b. ⊥) (OneMayRefuse (meanings G read)) bytes (view G read) error.DeadItem parsed (none_refuses G read raws are) h)
-  search_ended X Done Refuses raws are (error.Caller text) h = absurd (none_refuses G read raws are h)
-  search_ended X Done Refuses raws are _ h = absurd h
-
   module _ (function : ℕ) where
     abbrev Lacks : Contents → Error → Type 0
     Lacks = LacksFunction function
@@ -53,24 +32,11 @@ module _ {V : Type 0} {O : V → Type 0} (G : (v : V) → Ghosts (O v)) (c : Con
     function_lacks error.NotFound h = edit_refused G IsSame Lacks c bytes read parsed (λ k d. d) (λ d. d) error.NotFound h
     function_lacks _ h = absurd h
 
-    pub chain_lacks : (e : Error) → FindsFunction (functions read.funcs) function (Err e) → AnswersChain c bytes function HoldsChain (Err e)
-    chain_lacks error.NotFound h = edit_refused G IsSame Lacks c bytes read parsed (λ k d. d) (λ d. d) error.NotFound h
-    chain_lacks _ h = absurd h
-
     module _ (n : ℕ) (n_is : n ≡ function) (there : IsSome (item_at (functions read.funcs) function)) where
       -- a chain leads to it, or none does
       module _ (chain : Option (List Item)) (found : Explains (view G read) (function_item n) chain) where
         pub explains : Explains (with_customs (view G read).customs (contents_of read)) (function_item function) chain
         explains = subst (λ (v : Abstract). Explains v (function_item function) chain) (plain_read G IsSame Lacks c bytes read parsed) (subst (λ (k : ℕ). Explains (view G read) (function_item k) chain) n_is found)
-
-        abbrev pub leads : IsChain c bytes function chain
-        leads = record {
-          customs = (view G read).customs;
-          module_parsed = contents_of read;
-          parsed = subst (λ (v : Abstract). IsParsed c bytes v) (plain_read G IsSame Lacks c bytes read parsed) parsed;
-          there = there;
-          explains = explains;
-        }
 
         pub reason_told : (u : Abstract) (x : Transform) (m : IsMeasured IsSame c bytes u x) → m.comes.module_parsed ≡ contents_of read → m.comes.customs ≡ (view G read).customs
             → (text : String Global) → string_bytes text ≡ report_text (function_item n) chain x → AnswersReason c bytes function (Ok text)
@@ -84,13 +50,3 @@ module _ {V : Type 0} {O : V → Type 0} (G : (v : V) → Ghosts (O v)) (c : Con
               (subst (λ (cs : List Custom). Explains (with_customs cs (contents_of read)) (function_item function) chain) (sym same) explains);
           is = says ∙ ap (λ (k : ℕ). report_text (function_item k) chain x) n_is;
         }
-
-      -- what was found is an answer
-      abbrev pub chain_told : (answer : Chain) → ExplainsIn (view G read) (function_item n) answer → TellsChain c bytes function (HoldsChain answer)
-      chain_told answer h = record { chain = chain_seen answer; leads = leads (chain_seen answer) h.1; told = (h.0 ∙ ap function_item n_is, refl) }
-
-      -- what the search for a chain answers
-      pub chain_answered : (raws : List RawCustomSection) → sections read.customs ≡ raw_sections raws → (r : Result Chain Error)
-          → Searches G read (ExplainsIn (view G read) (function_item n)) r → AnswersChain c bytes function HoldsChain r
-      chain_answered raws are (Ok answer) h = chain_told answer h
-      chain_answered raws are (Err e) refused = search_ended Chain (λ (answer : Chain). TellsChain c bytes function (HoldsChain answer)) (λ (x : Error). RefusesEdit Lacks c bytes x) raws are e refused

@@ -32,6 +32,7 @@ use Rattle.walrus_contents.specs.There.{IsRefusal}
 use Rattle.walrus_contents.specs.View.{contents_view, function, kind_of}
 use Rattle.walrus_contents.specs.declared.parts.Contents.{Contents}
 use Rattle.walrus_module.specs.Asked.{OneMayRefuse}
+use Rattle.walrus_theorem.specs.Chain.{Leaves}
 use Rattle.walrus_module.specs.Customs.{sections}
 use Rattle.walrus_module.specs.Emission.{EmitsTransform}
 use Rattle.walrus_module.specs.Flags.{Flags, config_of}
@@ -39,6 +40,7 @@ use Rattle.walrus_module.specs.Parsed.{IsParsed, RefusesBytes}
 use Rattle.walrus_module.specs.Raws.{raw_sections}
 use Rattle.walrus_module.specs.Settings.{settings}
 use Rattle.walrus_module.specs.View.{contents_of, held_view, meanings, view}
+use Rattle.walrus_module.specs.declared.customs.ModuleCustomSections.{ModuleCustomSections}
 use Rattle.walrus_module.specs.declared.entry.SectionEntry.{SectionEntry}
 use Rattle.walrus_module.specs.declared.module.Module.{Module}
 use Rattle.walrus_module.proofs.KeptRaw.{none_refuses}
@@ -55,6 +57,7 @@ use Rattle.walrus_tools.specs.Callers.{AreCallers, HasUnsound}
 use Rattle.walrus_tools.specs.Choice.{Choice}
 use Rattle.walrus_tools.specs.ChosenModule.{KeepsChosen, KeepsIn, RefusesChosen}
 use Rattle.walrus_tools.specs.Edits.{AnswersEdited, IsWhole, with_customs}
+use Rattle.walrus_tools.specs.Ends.{LeftOf}
 use Rattle.walrus_tools.specs.FunctionMeaning.{has_body, is_local}
 use Rattle.walrus_tools.specs.ItemMeaning.{FindsItem, MeansIn, MeansItem}
 use Rattle.walrus_tools.specs.LinkSteps.{AreRising}
@@ -147,6 +150,11 @@ module _ {V : Type 0} {O : V → Type 0} (G : (v : V) → Ghosts (O v)) where
           },
           alone_told G edited stays g.trapped ran f g.body g.trades g.used g.finds marks g.goers transform.function_ranges,
         )
+
+-- what refers to an item, of a module that is seen otherwise
+same_callers : (v w u : Abstract) (same : v ≡ w) (left : LeftOf v u) (y : Item) (callers : List Item) → AreCallers left.module_collected y callers
+    → AreCallers (subst (λ (x : Abstract). LeftOf x u) same left).module_collected y callers
+same_callers v w u same left y callers referring = (subst (λ (x : Abstract). (l : LeftOf x u) × AreCallers l.module_collected y callers) same (left, referring)).1
 
 -- ---- where bodies stand
 
@@ -287,6 +295,17 @@ module _ {V : Type 0} {O : V → Type 0} (G : (v : V) → Ghosts (O v)) (choices
         way_measured output transform h =
             measured G Edits Refuses g plain bytes read parsed edited edits own whole raws are set_so back collected same_customs left (stay (Ok (output, transform)) h)
             (h.emits).left (settings back) (set_back ∙ set_so) output transform (h.emits).well_made (h.transform (inr refl))
+
+        -- what refers to an item of what is left refers to it in the module that was collected
+        pub callers_left : (output : Vec ℕ) (transform : CodeTransform) (h : EmitsTransform G back left true (Ok (output, transform))) (y : Item) (callers : List Item) → AreCallers (held_view back) y callers
+            → AreCallers (way_measured output transform h).comes.left.module_collected y callers
+        callers_left output transform h y callers referring =
+            same_callers (view G edited) (with_customs (view G read).customs (contents_of edited)) (view G left) (plain_edited G Edits Refuses c bytes read parsed edited edits own whole)
+            (record {
+              module_collected = view G back;
+              collected = collected;
+              left = subst (λ (cs : ModuleCustomSections (SectionEntry V O)). Leaves (view G back) (view G (record left { customs = cs }))) (sym (stay (Ok (output, transform)) h)) (h.emits).left;
+            }) y callers (callers_seen G back y callers referring)
 
     module _ (u : Abstract) (transform : Transform) (m : IsMeasured Edits c bytes u transform) (held : m.comes.module_edited ≡ contents_of edited) (same : m.comes.customs ≡ (view G read).customs)
         (x : Item) (means : MeansItem (functions edited.funcs) (exports edited.exports) text x) where

@@ -1,19 +1,14 @@
 -- The function that is meant by a name ("Structure > Values > Names", "Structure > Modules > Exports").
-use Rattle.std.specs.Prelude.{ℕ, ◌^◌, ◌≤◌, List, Option, Some, None, Result, Ok, Err, option_map, ◌≡◌}
+use Rattle.std.specs.Prelude.{ℕ, List, Option, Some, None, Result, Ok, Err, option_map, ◌≡◌}
 use Rattle.walrus_base.specs.Id.{place}
 use Rattle.walrus_base.specs.declared.id.Id.{Id}
 use Rattle.walrus_base.specs.declared.keys.FunctionKey.{FunctionKey}
-use Rattle.walrus_model.specs.Abstract.{Custom}
-use Rattle.walrus_model.specs.Config.{Config}
 use Rattle.walrus_items.specs.declared.error.Error.{Error}
 use Rattle.walrus_items.specs.declared.error.Error.TheVariants.{NotFound}
 use Rattle.walrus_items.specs.Exports.{ExportValue, exports, function_named}
 use Rattle.walrus_items.specs.Functions.{FunctionValue, functions, is_called}
 use Rattle.walrus_items.specs.Searches.{first}
 use Rattle.walrus_contents.specs.declared.parts.Contents.{Contents}
-use Rattle.walrus_module.specs.Parsed.{IsParsed}
-use Rattle.walrus_tools.specs.Edits.{RefusesEdit, with_customs}
-use Rattle.walrus_tools.specs.Ends.{Answers, IfNotFound}
 
 -- ---- of what a module holds
 
@@ -31,3 +26,7 @@ abbrev pub FindsCalled : (name : List ℕ) → List (Option FunctionValue) → L
 FindsCalled name functions exports (Ok id) = function_called name functions exports ≡ Some (place id)
 FindsCalled name functions exports (Err NotFound) = function_called name functions exports ≡ None
 FindsCalled name functions exports (Err _) = ⊥
+
+-- the place of the function that is meant in what is held
+abbrev pub meant : (name : List ℕ) → Contents → Option ℕ
+meant name m = function_called name (functions m.funcs) (exports m.exports)

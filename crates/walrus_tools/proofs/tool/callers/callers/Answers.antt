@@ -13,8 +13,7 @@ use Rattle.walrus_tools.specs.ReasonAnswers.{AnswersCallers}
 use Rattle.walrus_module.specs.View.{held_view}
 use Rattle.walrus_tools.specs.LinkSteps.{AreRising}
 use Rattle.walrus_tools.specs.Links.{link_of}
-use Rattle.walrus_tools.proofs.CallersEnds.{callers_seen}
-use Rattle.walrus_tools.proofs.WhyEnds.{bytes_lack, callers_lack, callers_refused, callers_told, choice_lacks, rising, same_module, search_stops, text_lacks, way_lacks, way_measured}
+use Rattle.walrus_tools.proofs.WhyEnds.{bytes_lack, callers_lack, callers_left, callers_refused, callers_told, choice_lacks, rising, same_module, search_stops, text_lacks, way_lacks, way_measured}
 use Rattle.walrus_tools.proofs.tool.callers.callers.Goals as goal
 
 pub returns-in_err-module : goal.returns-in_err-module
@@ -122,6 +121,6 @@ returns c =
     let found : map item_of c.as_slice-found.result.now ≡ items_in c.in_ok-items.items = ap (map item_of) c.as_slice-found.ensures.value in
     subst (λ (f : Flags). AnswersCallers (config_of f) c.args.bytes.now choices c.args.text.now (Ok c.in_ok-links_of.field-0)) same
     (callers_told _ choices c.args.text.now f (ap (λ (f : Flags). f.preserve_code_transform) same) c.args.bytes.now read.module read.ensures.found edited kept _ transform m refl refl x c.in_ok-item.ensures
-    (items_in c.in_ok-items.items) (callers_seen _ stays x (items_in c.in_ok-items.items) c.in_ok-items.ensures)
+    (items_in c.in_ok-items.items) (callers_left _ choices c.args.text.now f (ap (λ (f : Flags). f.preserve_code_transform) same) c.args.bytes.now read.module read.ensures.found edited kept read.ensures.kept.raws read.ensures.kept.are stays ran read.ensures.configured stays (same_module stays) left c.in_ok-output.output c.in_ok-output.transform c.in_ok-output.ensures x (items_in c.in_ok-items.items) c.in_ok-items.ensures)
     _ (c.in_ok-links_of.ensures ∙ ap₂ (λ (v : Abstract) (rs : List (ℕ × (ℕ × ℕ))). map (link_of v rs) (map item_of c.as_slice-found.result.now)) c.parts-left.ensures bodies
     ∙ ap (map (link_of (held_view left) transform.function_ranges)) found))
