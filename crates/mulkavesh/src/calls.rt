@@ -33,7 +33,7 @@ pub(crate) fn call_gc(alloc: Global, order: &Order, bytes: &[u8]) -> Result<Vec<
     gc_chosen(alloc, bytes, order.wanted, &roots)
 }
 
-/// The same, with what is told of it.
+/// That module, with what is told of it.
 pub(crate) fn call_gc_weighed(alloc: Global, order: &Order, bytes: &[u8]) -> Result<Smaller, Error>
     ensures { AnswersWeighed (KeepsChosen (roots_of order.now)) (RefusesChosen (roots_of order.now))
         (config_wanted order.now.wanted) bytes.now result }
@@ -50,7 +50,7 @@ pub(crate) fn call_snip(alloc: Global, order: &Order, bytes: &[u8]) -> Result<Ve
     snip_functions(alloc, bytes, order.wanted, &functions)
 }
 
-/// The same, with what is told of it.
+/// That module, with what is told of it.
 pub(crate) fn call_snip_weighed(
     alloc: Global,
     order: &Order,
@@ -73,14 +73,15 @@ pub(crate) fn call_stub(alloc: Global, order: &Order, bytes: &[u8]) -> Result<Ve
     stub_matching(alloc, bytes, order.wanted, &modules, &names)
 }
 
-/// The same, with what is told of it.
+/// That module, with what is told of it.
 pub(crate) fn call_stub_weighed(
     alloc: Global,
     order: &Order,
     bytes: &[u8],
 ) -> Result<Smaller, Error>
     ensures { AnswersWeighed (StubsMatching (modules_of order.now) (imports_of order.now))
-        (RefusesMatching (modules_of order.now) (imports_of order.now)) (config_wanted order.now.wanted) bytes.now result }
+        (RefusesMatching (modules_of order.now) (imports_of order.now))
+        (config_wanted order.now.wanted) bytes.now result }
 {
     let modules = modules_of(alloc, order)?;
     let names = imports_of(alloc, order)?;
