@@ -1,5 +1,6 @@
 //! What an order asks of the library: each call, with what the order says of names.
 
+ghost use Rattle.std.specs.Prelude.{◌≡◌};
 ghost use Rattle.mulkavesh.specs.Choices.{functions_of, imports_of, modules_of, roots_of, sections_of};
 ghost use Rattle.mulkavesh.specs.Subcommands.{operand_bytes};
 ghost use Rattle.walrus_tools.specs.ChosenModule.{AnswersChosen, KeepsChosen, RefusesChosen};
