@@ -9,7 +9,7 @@ use Rattle.walrus_tools.specs.declared.choice.Choice.{Choice as HeldChoice}
 use Rattle.mulkavesh.specs.Cause.{SaysUnfit, unfit_text}
 
 -- the name of a choice, if there is one
-name_of : Option Choice → List ℕ → List ℕ
+abbrev name_of : Option Choice → List ℕ → List ℕ
 name_of (Some choice) other = choice.name
 name_of None other = other
 
