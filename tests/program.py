@@ -890,6 +890,8 @@ def try_readers_that_go(work):
 
 NO_SECTION = "nothing to strip: --section NAME, --names, --producers, --debug or --all"
 
+APART = "--dropped, --exports and --imports don't go together, nor does --by size with the last two; mulkavesh list --help tells more"
+
 # Command lines that say nothing, and what is told of each behind `mulkavesh: `.
 MISTAKES = (
     ("nothing", "unknown subcommand 'nothing'; mulkavesh --help tells more"),
@@ -916,11 +918,11 @@ MISTAKES = (
     ("gc --json", "gc: --json is no option of this subcommand; mulkavesh gc --help tells more"),
     ("report --quiet", "report: --quiet is no option of this subcommand; mulkavesh report --help tells more"),
     ("list -q in", "list: -q is no option of this subcommand; mulkavesh list --help tells more"),
-    ("snip a --no-names", "snip: --no-names is no option of this subcommand; mulkavesh snip --help tells more"),
     ("strip --all --no-names", "strip: --no-names is no option of this subcommand; mulkavesh strip --help tells more"),
     ("sections --quiet", "sections: --quiet is no option of this subcommand; mulkavesh sections --help tells more"),
     ("sections in out", "sections: 'out' is a second input; the output goes behind -o"),
-    ("why a --no-legacy", "why: --no-legacy is no option of this subcommand; mulkavesh why --help tells more"),
+    ("why a --quiet", "why: --quiet is no option of this subcommand; mulkavesh why --help tells more"),
+    ("gc -q=1", "gc: -q=1 has a value, but this option takes none; mulkavesh gc --help tells more"),
     ("gc --quiet=1", "gc: --quiet=1 has a value, but this option takes none; mulkavesh gc --help tells more"),
     ("check --json= in", "check: --json= has a value, but this option takes none; mulkavesh check --help tells more"),
     ("gc -o", "gc: FILE is missing behind -o; mulkavesh gc --help tells more"),
@@ -948,9 +950,43 @@ MISTAKES = (
     ("list --all", "list: --all is no option of this subcommand; mulkavesh list --help tells more"),
     ("sections --names", "sections: --names is no option of this subcommand; mulkavesh sections --help tells more"),
     ("check --debug", "check: --debug is no option of this subcommand; mulkavesh check --help tells more"),
-    ("snip -o out", "snip: EXPORT is missing; mulkavesh snip --help tells more"),
-    ("stub --", "stub: MODULE is missing; mulkavesh stub --help tells more"),
     ("why --json", "why: FUNCTION is missing; mulkavesh why --help tells more"),
+    ("snip -o out", "snip: --function F is missing; mulkavesh snip --help tells more"),
+    ("snip a --no-names", "snip: --function F is missing; mulkavesh snip --help tells more"),
+    ("snip f in", "snip: 'in' is a second input; the output goes behind -o"),
+    ("snip in --function", "snip: F is missing behind --function; mulkavesh snip --help tells more"),
+    ("snip --function f --import a", "snip: --import is no option of this subcommand; mulkavesh snip --help tells more"),
+    ("snip --function=f --json", "snip: --json is no option of this subcommand; mulkavesh snip --help tells more"),
+    ("snip --func f", "snip: unknown option --func; did you mean --function?"),
+    ("stub --", "stub: --module M is missing; mulkavesh stub --help tells more"),
+    ("stub --import a in", "stub: --module M is missing; mulkavesh stub --help tells more"),
+    ("stub --module", "stub: M is missing behind --module; mulkavesh stub --help tells more"),
+    ("stub --module=m --import", "stub: NAME is missing behind --import; mulkavesh stub --help tells more"),
+    ("stub --module=m --imports", "stub: --imports is no option of this subcommand; mulkavesh stub --help tells more"),
+    ("gc --keep", "gc: NAME is missing behind --keep; mulkavesh gc --help tells more"),
+    ("gc --kep a", "gc: unknown option --kep; did you mean --keep?"),
+    ("gc --keep a --drop=b -o x -oy", "gc: 'y' is a second output; there can be one -o"),
+    ("gc --function f", "gc: --function is no option of this subcommand; mulkavesh gc --help tells more"),
+    ("gc -n3", "gc: -n3 is no option of this subcommand; mulkavesh gc --help tells more"),
+    ("strip --keep a", "strip: --keep is no option of this subcommand; mulkavesh strip --help tells more"),
+    ("check --drop=a", "check: --drop=a is no option of this subcommand; mulkavesh check --help tells more"),
+    ("report --exports", "report: --exports is no option of this subcommand; mulkavesh report --help tells more"),
+    ("report --by size", "report: --by is no option of this subcommand; mulkavesh report --help tells more"),
+    ("why --callers=1 0", "why: --callers=1 has a value, but this option takes none; mulkavesh why --help tells more"),
+    ("why --caller 0", "why: unknown option --caller; did you mean --callers?"),
+    ("list --expor", "list: unknown option --expor; did you mean --exports?"),
+    ("list --by", "list: size or index is missing behind --by; mulkavesh list --help tells more"),
+    ("list --by name", "list: 'name' is no value of --by; mulkavesh list --help tells more"),
+    ("list --by=", "list: '' is no value of --by; mulkavesh list --help tells more"),
+    ("list in -n", "list: N is missing behind -n; mulkavesh list --help tells more"),
+    ("list -n ten in", "list: 'ten' is no value of -n; mulkavesh list --help tells more"),
+    ("list -n-1", "list: '-1' is no value of -n; mulkavesh list --help tells more"),
+    ("list -n=3", "list: '=3' is no value of -n; mulkavesh list --help tells more"),
+    ("list -n 4294967296", "list: '4294967296' is no value of -n; mulkavesh list --help tells more"),
+    ("list --exports --imports", f"list: {APART}"),
+    ("list --imports in --dropped", f"list: {APART}"),
+    ("list --by size -n 3 --exports", f"list: {APART}"),
+    ("list --by index --imports --by=size", f"list: {APART}"),
 )
 
 
@@ -1025,8 +1061,11 @@ def try_help(work):
         status, text, said = run(word, "--help")
         same(f"{word} --help", (status, said, text.startswith(f"usage: mulkavesh {word} ".encode())), (0, "", True))
         flags[word] = set(re.findall(r"--[a-z-]+", text.decode()))
-        for flag in ("--no-names", "--no-producers", "--no-legacy", "--quiet", "--json", "--section=x", "--names", "--producers", "--debug", "--all"):
-            operand = ["--section=y"] if word == "strip" else ["x"] if word in words[5:] else []
+        for flag in (
+            "--no-names", "--no-producers", "--no-legacy", "--quiet", "--json", "--section=x", "--names", "--producers", "--debug", "--all", "--exports",
+            "--imports", "--dropped", "--callers", "--keep=x", "--drop=x", "--function=x", "--module=x", "--import=x", "--by=size",
+        ):
+            operand = {"strip": ["--section=y"], "snip": ["--function=y"], "stub": ["--module=y"], "why": ["x"]}.get(word, [])
             known = run(word, flag, *operand, data=b"")[0] != 2
             flag = flag.split("=")[0]
             same(f"{word} --help names {flag}", flag in flags[word], known)
@@ -1057,9 +1096,11 @@ def try_completions(words, flags):
     same("a word that is begun", completed("mulkavesh", "s"), {"sections", "strip", "snip", "stub"})
     same("a word behind help", completed("mulkavesh", "help", "st"), {"strip", "stub"})
     for word in words:
-        same(f"the options of {word}", completed("mulkavesh", word, "-"), {*flags[word], "--help", "-o", "--output"})
+        same(f"the options of {word}", completed("mulkavesh", word, "-"), {*flags[word], "--help", "-o", "--output", *(["-n"] if word == "list" else [])})
     same("a file", "samples" in completed("mulkavesh", "gc", "sam"), True)
     same("a name behind --section", completed("mulkavesh", "strip", "--section", "na"), {"name"})
+    same("an order behind --by", completed("mulkavesh", "list", "--by", "s"), {"size"})
+    same("no file behind --keep", completed("mulkavesh", "gc", "--keep", "sam"), set())
     for option in ("-o", "--output"):
         same(f"a file behind {option}", "samples" in completed("mulkavesh", "gc", option, "sam"), True)
 

@@ -1,8 +1,8 @@
 -- What the arguments behind a subcommand say the program makes of them.
-use Rattle.std.proofs.Common.{◌≡◌, ◌+◌, ◌≤◌, ◌<◌, ℕ, Bool, true, false, not, ◌&&◌, List, [], ◌∷◌, ◌++◌, map, length, refl, sym, ap, ap₂, ◌∙◌, subst, codes, string_bytes, arith}
-use Rattle.std.specs.Prelude.{All, Option, Some, None, Result, Ok, Err, String, flat_map, is_some, if◌then◌else◌}
+use Rattle.std.proofs.Common.{◌≡◌, ◌+◌, ◌≤◌, ◌<◌, Bool, true, false, not, ◌&&◌, List, [], ◌∷◌, ◌++◌, map, length, refl, sym, ap, ap₂, ◌∙◌, subst, codes, string_bytes, arith}
+use Rattle.std.specs.Prelude.{All, Option, Some, None, Ok, Err, String, flat_map, is_some, if◌then◌else◌}
 use Rattle.std.specs.declared.alloc.Global.{Global}
-use Rattle.std.proofs.lemmas.List.{append-nil, append_assoc, length-append, length-map}
+use Rattle.std.proofs.lemmas.List.{append_assoc, length-append, length-map}
 use Rattle.std.proofs.lemmas.List.Concat.{flat_map-append}
 use Rattle.std.proofs.lemmas.List.Elements.{All-head, All-tail}
 use Rattle.mulkavesh.specs.declared.order.Flag.{Flag}
@@ -11,7 +11,6 @@ use Rattle.mulkavesh.specs.declared.order.Naming.{Naming}
 use Rattle.mulkavesh.specs.declared.order.Naming.TheVariants as naming
 use Rattle.mulkavesh.specs.declared.order.Value.{Value}
 use Rattle.mulkavesh.specs.declared.order.Work.{Work}
-use Rattle.mulkavesh.specs.declared.mistakes.Wrong.{Wrong}
 use Rattle.mulkavesh.specs.declared.mistakes.Wrong.TheVariants.{NotTaken, SecondInput, SecondOutput}
 use Rattle.mulkavesh.specs.declared.words.Spelling.{Spelling}
 use Rattle.mulkavesh.specs.declared.words.Spelling.TheVariants as kind
@@ -19,7 +18,7 @@ use Rattle.mulkavesh.specs.declared.words.Place.{Place}
 use Rattle.mulkavesh.specs.declared.words.Place.TheVariants.{Anywhere, Value as Waits, Behind}
 use Rattle.mulkavesh.specs.Mistakes.{room, room_if}
 use Rattle.mulkavesh.specs.Order.{Said, flag_word, has_flag, has_naming, has_operand, joined_front, naming_word, value_bytes}
-use Rattle.mulkavesh.specs.Steps.{Put, by_said, number_said, put_spelled, put_value, put_word, put_words, set, spelling_of, then_at, then_put, with_by, with_count, with_flag, with_output, with_plain, with_value}
+use Rattle.mulkavesh.specs.Steps.{Put, by_said, put_spelled, put_value, put_word, put_words, set, set_by, set_count, spelling_of, then_at, then_put, with_flag, with_output, with_plain, with_value}
 use Rattle.mulkavesh.specs.Words.{IsFilled, IsGood, IsPiece, IsPlain, Piece, SaysBy, Valued, Word, behind_words, ending_words, flag, flag_in, joined, one_value, one_word, out_of, piece_words, plain, plain_in, quiet, valued, valued_in}
 use Rattle.mulkavesh.proofs.NumberLemmas.{parsed}
 use Rattle.mulkavesh.proofs.Pieces.{Turns, adds, held, turns_both, turns_flag, turns_none, turns_value}
@@ -115,8 +114,8 @@ by_fits o v false is = ap by_said is
 value_fits : (k : Naming) (o : Said) (v : Value) → IsGood (k, value_bytes v) → length (flat_map out_of ((k, value_bytes v) ∷ [])) + length (one_value o.output) ≤ 1 → (n : Said) × (with_value o k v ≡ Ok n)
 value_fits naming.Short o v good small = (record o { output = Some v }, with_output_free o v (free_by o.output small))
 value_fits naming.Long o v good small = (record o { output = Some v }, with_output_free o v (free_by o.output small))
-value_fits naming.By o v (b, is) small = (record o { listing = record (o.listing) { by_size = b } }, ap (with_by o v) (by_fits o v b is))
-value_fits naming.Count o v (n, is) small = (record o { listing = record (o.listing) { count = Some n } }, ap (with_count o v) (parsed (value_bytes v) n is))
+value_fits naming.By o v (b, is) small = (record o { listing = record (o.listing) { by_size = b } }, ap (set_by o v) (by_fits o v b is))
+value_fits naming.Count o v (n, is) small = (record o { listing = record (o.listing) { count = Some n } }, ap (set_count o v) (parsed (value_bytes v) n is))
 value_fits naming.Section o v good small = (record o { values = o.values ++ record { naming = naming.Section; value = v } ∷ [] }, refl)
 value_fits naming.Keep o v good small = (record o { values = o.values ++ record { naming = naming.Keep; value = v } ∷ [] }, refl)
 value_fits naming.Drop o v good small = (record o { values = o.values ++ record { naming = naming.Drop; value = v } ∷ [] }, refl)

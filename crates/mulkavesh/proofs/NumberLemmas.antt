@@ -1,6 +1,6 @@
 -- The number that a word says, as a test of its digits.
-use Rattle.std.proofs.Common.{◌≡◌, ◌<◌, ◌^◌, ℕ, Bool, true, false, ◌&&◌, List, [], ◌∷◌, length, ltb, Option, Some, None, Result, Ok, Err, refl, sym, ap, ap₂, ◌∙◌, lt-ltb, ltb-true}
-use Rattle.std.specs.Prelude.{OkIff, if◌then◌else◌}
+use Rattle.std.proofs.Common.{◌≡◌, ◌<◌, ◌^◌, ℕ, Bool, true, false, ◌&&◌, List, [], ◌∷◌, length, ltb, Option, Some, None, refl, sym, ap, ap₂, ◌∙◌, lt-ltb, ltb-true}
+use Rattle.std.specs.Prelude.{if◌then◌else◌}
 use Rattle.std.specs.Char.{digit_value}
 use Rattle.std.specs.List.{list_all}
 use Rattle.std.specs.Str.Parse.{AllDigits, IsNumeral, digits_value, without_leading_plus}

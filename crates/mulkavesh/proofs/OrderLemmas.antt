@@ -1,6 +1,6 @@
 -- The arguments of an order, and the order that is made of them, or what is wrong with them.
-use Rattle.std.proofs.Common.{◌≡◌, ◌≤◌, ℕ, Bool, true, false, not, ◌&&◌, ◌||◌, List, [], ◌∷◌, ◌++◌, map, length, refl, sym, ap, ap₂, ◌∙◌, subst, inl, inr, ◌⊎◌, ⊎_elim, codes, string_bytes, arith}
-use Rattle.std.specs.Prelude.{All, Contains, Option, Some, None, Result, Ok, Err, String, flat_map, bytes_eq, is_some, if◌then◌else◌}
+use Rattle.std.proofs.Common.{◌≡◌, ◌≤◌, Bool, true, false, not, ◌&&◌, ◌||◌, List, [], ◌∷◌, ◌++◌, map, length, refl, sym, ap, ap₂, ◌∙◌, subst, inl, inr, ⊎_elim, codes, string_bytes, arith}
+use Rattle.std.specs.Prelude.{All, Option, Some, None, Result, Ok, Err, String, flat_map, bytes_eq, is_some, if◌then◌else◌}
 use Rattle.std.specs.List.{list_any}
 use Rattle.std.specs.declared.alloc.Global.{Global}
 use Rattle.mulkavesh.specs.declared.order.Flag.{Flag}

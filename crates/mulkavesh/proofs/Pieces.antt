@@ -1,5 +1,5 @@
 -- An order that is begun, and what one argument or piece more makes of it.
-use Rattle.std.proofs.Common.{◌≡◌, ◌<◌, ℕ, zero, suc, Bool, true, false, not, ◌&&◌, List, [], ◌∷◌, ◌++◌, length, map, refl, sym, ap, ap₂, ◌∙◌, subst, inl, inr, ◌⊎◌, ⊎_elim, codes, string_bytes, arith}
+use Rattle.std.proofs.Common.{◌≡◌, ◌<◌, ℕ, zero, suc, Bool, true, false, not, ◌&&◌, List, [], ◌∷◌, ◌++◌, map, refl, sym, ap, ap₂, ◌∙◌, subst, inl, inr, ◌⊎◌, ⊎_elim, codes, string_bytes, arith}
 use Rattle.std.specs.Prelude.{◌↔◌, All, Contains, Option, Some, None, Result, Ok, Err, String, bytes_eq, eqb, flat_map, is_some, if◌then◌else◌}
 use Rattle.std.specs.List.{last_or}
 use Rattle.std.specs.declared.alloc.Global.{Global}
@@ -14,10 +14,10 @@ use Rattle.mulkavesh.specs.declared.order.Naming.TheVariants as naming
 use Rattle.mulkavesh.specs.declared.order.Value.{Value}
 use Rattle.mulkavesh.specs.declared.order.Work.{Work}
 use Rattle.mulkavesh.specs.declared.mistakes.Wrong.{Wrong}
-use Rattle.mulkavesh.specs.declared.mistakes.Wrong.TheVariants.{BadValue, SecondInput, SecondOutput}
+use Rattle.mulkavesh.specs.declared.mistakes.Wrong.TheVariants.{SecondInput, SecondOutput}
 use Rattle.mulkavesh.specs.Order.{Said, has_flag, has_naming, has_operand, is_set, value_bytes}
-use Rattle.mulkavesh.specs.Steps.{by_said, number_said, set, with_by, with_count, with_named, with_output, with_plain, with_value}
-use Rattle.mulkavesh.specs.Words.{IsBy, IsCount, IsFilled, IsGood, IsPiece, IsPlain, Piece, SaysBy, Valued, Word, by_of, count_of, flag, flag_in, held_value, named_of, one_value, one_word, out_of, plain, plain_in, quiet, valued_in}
+use Rattle.mulkavesh.specs.Steps.{number_said, set, set_by, set_count, with_by, with_count, with_named, with_output, with_plain, with_value}
+use Rattle.mulkavesh.specs.Words.{IsBy, IsCount, IsFilled, IsGood, IsPiece, IsPlain, Piece, SaysBy, Valued, Word, by_of, count_of, flag_in, held_value, named_of, one_value, one_word, out_of, plain, valued_in}
 use Rattle.mulkavesh.proofs.NumberLemmas.{said_index}
 use Rattle.mulkavesh.proofs.Spelling.{decided}
 
@@ -368,7 +368,7 @@ module _ (o n : Said) (v : Value) (filled : IsFilled o) where
         filled = record { none = filled.none; first = filled.first };
       })
 
-  turns_by : (b : Bool) → SaysBy (value_bytes v) b → with_by o v (Some b) ≡ Ok n → Given naming.By
+  turns_by : (b : Bool) → SaysBy (value_bytes v) b → set_by o v (Some b) ≡ Ok n → Given naming.By
   turns_by b says same =
       subst (λ (m : Said). Puts naming.By o m v) (sym (some_order (record o { listing = record (o.listing) { by_size = b } }) n same)) (record {
         good = (b, says);
@@ -384,7 +384,7 @@ module _ (o n : Said) (v : Value) (filled : IsFilled o) where
         };
       })
 
-  turns_count : (m : ℕ) → number_said (value_bytes v) ≡ Some m → with_count o v (Some m) ≡ Ok n → Given naming.Count
+  turns_count : (m : ℕ) → number_said (value_bytes v) ≡ Some m → set_count o v (Some m) ≡ Ok n → Given naming.Count
   turns_count m says same =
       subst (λ (n : Said). Puts naming.Count o n v) (sym (some_order (record o { listing = record (o.listing) { count = Some m } }) n same)) (record {
         good = (m, said_index (value_bytes v) m says);
@@ -400,19 +400,19 @@ module _ (o n : Said) (v : Value) (filled : IsFilled o) where
         };
       })
 
-  by_value : with_by o v (by_said (value_bytes v)) ≡ Ok n → Given naming.By
+  by_value : with_by o v ≡ Ok n → Given naming.By
   by_value same = by _ refl _ refl same
     where
       by : (a : Bool) → bytes_eq (value_bytes v) (codes "size") ≡ a → (b : Bool) → bytes_eq (value_bytes v) (codes "index") ≡ b
-          → with_by o v (if a then Some true else (if b then Some false else None)) ≡ Ok n → Given naming.By
+          → set_by o v (if a then Some true else (if b then Some false else None)) ≡ Ok n → Given naming.By
       by true is _ _ same = turns_by true (decided (value_bytes v) (codes "size") is) same
       by false _ true is same = turns_by false (decided (value_bytes v) (codes "index") is) same
       by false _ false _ same = absurd (cc)
 
-  count_value : with_count o v (number_said (value_bytes v)) ≡ Ok n → Given naming.Count
+  count_value : with_count o v ≡ Ok n → Given naming.Count
   count_value same = by _ refl same
     where
-      by : (m : Option ℕ) → number_said (value_bytes v) ≡ m → with_count o v m ≡ Ok n → Given naming.Count
+      by : (m : Option ℕ) → number_said (value_bytes v) ≡ m → set_count o v m ≡ Ok n → Given naming.Count
       by (Some m) is same = turns_count m is same
       by None _ same = absurd (cc)
 

@@ -1,6 +1,6 @@
 -- What the program makes of the arguments behind a subcommand they say, and what it says is wrong with them is wrong.
-use Rattle.std.proofs.Common.{◌≡◌, ℕ, Bool, true, false, List, [], ◌∷◌, ◌++◌, length, map, refl, sym, ap, ap₂, ◌∙◌, subst, inl, inr, ◌⊎◌, codes, string_bytes}
-use Rattle.std.specs.Prelude.{All, Option, Some, None, Result, Ok, Err, String, flat_map, if◌then◌else◌, ⊤}
+use Rattle.std.proofs.Common.{◌≡◌, Bool, true, false, List, [], ◌∷◌, ◌++◌, length, map, refl, sym, ap, ◌∙◌, subst, inl, inr, codes, string_bytes}
+use Rattle.std.specs.Prelude.{All, Option, Some, None, Result, Ok, Err, String, flat_map, if◌then◌else◌}
 use Rattle.std.specs.declared.alloc.Global.{Global}
 use Rattle.std.proofs.lemmas.List.{append-nil, append_assoc}
 use Rattle.std.proofs.lemmas.List.Elements.{All-append, All-cons, All-nil}

@@ -1,6 +1,6 @@
 -- What an argument is by its spelling, and how what it is is spelled.
-use Rattle.std.proofs.Common.{◌≡◌, ◌<◌, ◌==◌, ◌+◌, suc, ℕ, Bool, true, false, ◌||◌, List, [], ◌∷◌, ◌++◌, drop, get_or, length, take, refl, sym, ap, ap₂, ◌∙◌, subst, inl, inr, ◌⊎◌, ⊎_elim, codes, arith, eqb-true, length-append, lt-ltb, ltb-true}
-use Rattle.std.specs.Prelude.{Option, Some, None, bytes_eq, ltb, if◌then◌else◌, ⊤}
+use Rattle.std.proofs.Common.{◌≡◌, ◌<◌, ◌+◌, suc, ℕ, Bool, true, false, ◌||◌, List, [], ◌∷◌, ◌++◌, drop, get_or, length, take, refl, sym, ap, ap₂, ◌∙◌, subst, inl, inr, ◌⊎◌, codes, arith, eqb-true, length-append, lt-ltb, ltb-true}
+use Rattle.std.specs.Prelude.{Option, Some, None, bytes_eq, ltb, if◌then◌else◌}
 use Rattle.std.specs.List.{after_first, before_first, position_or_len}
 use Rattle.std.proofs.lemmas.List.{append-nil, append_assoc}
 use Rattle.std.proofs.lemmas.List.Sums.{passes_at_first, split_at_first}
@@ -15,8 +15,8 @@ use Rattle.mulkavesh.specs.declared.words.Spelling.{Spelling}
 use Rattle.mulkavesh.specs.declared.words.Spelling.TheVariants as kind
 use Rattle.mulkavesh.specs.Mistakes.{HasValue, IsFlag, IsUnknown}
 use Rattle.mulkavesh.specs.Order.{begins, flag_named, flag_word, joined_front, naming_named, naming_word, sign, without}
-use Rattle.mulkavesh.specs.Steps.{equals_by, equals_in, is_equals, or_plain, spelled_as, spelled_by, spelled_otherwise, spelled_plain, spelling_of}
-use Rattle.mulkavesh.specs.Words.{IsPiece, IsPlain, Piece, Word, flag, flag_in, joined, piece_words, plain, plain_in, quiet, valued}
+use Rattle.mulkavesh.specs.Steps.{equals_by, equals_in, is_equals, or_plain, spelled_as, spelled_by, spelled_otherwise, spelling_of}
+use Rattle.mulkavesh.specs.Words.{IsPiece, IsPlain, Piece, Word, flag, joined, piece_words, plain, plain_in, quiet, valued}
 
 pub decided : (xs ys : List ℕ) → bytes_eq xs ys ≡ true → xs ≡ ys
 decided xs ys is = (bytes_eq-Decides xs ys).0 is
@@ -165,9 +165,6 @@ sign_behind naming.Count value = refl
 equals_here : (front value : Word) → position_or_len is_equals (front ++ (codes "=" ++ value)) ≡ length front → equals_in (front ++ (codes "=" ++ value)) ≡ equals_by (naming_named front) (flag_named front)
 equals_here front value at = ap₂ (λ (b : Bool) (f : Word). if b then equals_by (naming_named f) (flag_named f) else None) there cut
   where
-    word : Word
-    word = front ++ (codes "=" ++ value)
-
     long : length (front ++ (codes "=" ++ value)) ≡ length front + suc (length value)
     long = length-append front (codes "=" ++ value)
 
@@ -237,12 +234,6 @@ some_behind word n value never is = λ none empty. never (is ∙ ap₂ (λ (s v 
 equals_is : (word : Word) (s : Spelling) → IsLeft word → begins (codes "-o") word ≡ false → begins (codes "-n") word ≡ false → equals_in word ≡ Some s → IsSpelled word s
 equals_is word s left no_short no_count same = by _ refl same
   where
-    front : Word
-    front = before_first is_equals word
-
-    rest : Word
-    rest = after_first is_equals word
-
     cut : ltb (position_or_len is_equals word) (length word) ≡ true → word ≡ before_first is_equals word ++ (codes "=" ++ after_first is_equals word)
     cut there =
         let within : position_or_len is_equals word < length word = ltb-true _ _ there in

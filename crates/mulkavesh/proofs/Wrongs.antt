@@ -1,6 +1,6 @@
 -- What is wrong with arguments, of an order that is begun.
-use Rattle.std.proofs.Common.{◌≡◌, ℕ, Bool, true, false, not, ◌&&◌, List, [], ◌∷◌, ◌++◌, map, length, refl, sym, ap, ap₂, ◌∙◌, subst, inl, inr, ◌⊎◌, codes, string_bytes}
-use Rattle.std.specs.Prelude.{All, Option, Some, None, Result, Ok, Err, String, bytes_eq, flat_map, is_some, if◌then◌else◌}
+use Rattle.std.proofs.Common.{◌≡◌, ℕ, Bool, true, false, not, ◌&&◌, List, [], ◌∷◌, ◌++◌, length, refl, sym, ap, ap₂, ◌∙◌, subst, inl, inr, ◌⊎◌, codes, string_bytes}
+use Rattle.std.specs.Prelude.{Option, Some, None, Result, Ok, Err, String, bytes_eq, flat_map, is_some, if◌then◌else◌}
 use Rattle.std.specs.declared.alloc.Global.{Global}
 use Rattle.std.proofs.lemmas.List.{append-nil, append_assoc}
 use Rattle.std.proofs.lemmas.List.Concat.{flat_map-append}
@@ -14,10 +14,10 @@ use Rattle.mulkavesh.specs.declared.mistakes.Wrong.{Wrong}
 use Rattle.mulkavesh.specs.declared.mistakes.Wrong.TheVariants.{BadValue, SecondOutput, SecondInput}
 use Rattle.mulkavesh.specs.Mistakes.{Stands, WrongAt, room, room_if}
 use Rattle.mulkavesh.specs.Order.{Said, has_operand, value_bytes}
-use Rattle.mulkavesh.specs.Steps.{by_said, number_said, with_by, with_count, with_output, with_plain, with_value}
-use Rattle.mulkavesh.specs.Words.{IsFilled, IsGood, IsPiece, Piece, SaysBy, Valued, Word, one_value, one_word, out_of, piece_words, plain_in, valued_in}
+use Rattle.mulkavesh.specs.Steps.{number_said, set_by, set_count, with_by, with_count, with_output, with_plain, with_value}
+use Rattle.mulkavesh.specs.Words.{IsFilled, IsGood, IsPiece, Piece, SaysBy, Word, one_value, one_word, out_of, piece_words, plain_in, valued_in}
 use Rattle.mulkavesh.proofs.NumberLemmas.{parsed}
-use Rattle.mulkavesh.proofs.Pieces.{Suits, Turns, held}
+use Rattle.mulkavesh.proofs.Pieces.{Turns, held}
 use Rattle.mulkavesh.proofs.Spelling.{differs}
 
 -- ---- at the first arguments that are wrong
@@ -122,11 +122,11 @@ refused_output o v m same = by o.output refl same
       λ none. let some : ◌≡◌ {A = List Word} (value_bytes u ∷ []) [] = sym (ap one_value is) ∙ none in cc,
     )
 
-refused_by : (o : Said) (v : Value) (m : Wrong) → with_by o v (by_said (value_bytes v)) ≡ Err m → ValueRefused naming.By o v m
+refused_by : (o : Said) (v : Value) (m : Wrong) → with_by o v ≡ Err m → ValueRefused naming.By o v m
 refused_by o v m same = by _ refl _ refl same
   where
     by : (a : Bool) → bytes_eq (value_bytes v) (codes "size") ≡ a → (b : Bool) → bytes_eq (value_bytes v) (codes "index") ≡ b
-        → with_by o v (if a then Some true else (if b then Some false else None)) ≡ Err m → ValueRefused naming.By o v m
+        → set_by o v (if a then Some true else (if b then Some false else None)) ≡ Err m → ValueRefused naming.By o v m
     by true _ _ _ same = absurd (cc)
     by false _ true _ same = absurd (cc)
     by false no_size false no_index same = inr ((let e : BadValue naming.By v ≡ m = cc in e), λ good. never good.0 good.1)
@@ -135,10 +135,10 @@ refused_by o v m same = by _ refl _ refl same
         never true is = differs (value_bytes v) (codes "size") no_size is
         never false is = differs (value_bytes v) (codes "index") no_index is
 
-refused_count : (o : Said) (v : Value) (m : Wrong) → with_count o v (number_said (value_bytes v)) ≡ Err m → ValueRefused naming.Count o v m
+refused_count : (o : Said) (v : Value) (m : Wrong) → with_count o v ≡ Err m → ValueRefused naming.Count o v m
 refused_count o v m same = by _ refl same
   where
-    by : (n : Option ℕ) → number_said (value_bytes v) ≡ n → with_count o v n ≡ Err m → ValueRefused naming.Count o v m
+    by : (n : Option ℕ) → number_said (value_bytes v) ≡ n → set_count o v n ≡ Err m → ValueRefused naming.Count o v m
     by (Some n) _ same = absurd (cc)
     by None none same = inr (
       (let e : BadValue naming.Count v ≡ m = cc in e),

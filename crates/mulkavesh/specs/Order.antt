@@ -1,5 +1,5 @@
 -- What can be asked for on the command line, and how it is spelled.
-use Rattle.std.specs.Prelude.{◌≡◌, ℕ, Bool, true, false, not, ◌&&◌, ◌||◌, List, [], ◌∷◌, ◌++◌, Option, Some, None, String, bytes_eq, codes, drop, eqb, length, string_bytes, if◌then◌else◌}
+use Rattle.std.specs.Prelude.{◌≡◌, ℕ, Bool, true, false, not, ◌&&◌, ◌||◌, List, [], ◌++◌, Option, Some, None, String, bytes_eq, codes, drop, eqb, length, string_bytes, if◌then◌else◌}
 use Rattle.std.specs.List.{list_any, starts_with}
 use Rattle.std.specs.declared.alloc.Global.{Global}
 use Rattle.walrus_tools.specs.declared.wanted.Wanted.{Wanted}

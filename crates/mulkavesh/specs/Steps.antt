@@ -62,13 +62,18 @@ with_output o v = if is_some o.output then Err (SecondOutput v) else Ok (record 
 abbrev pub with_named : Said → Naming → Value → Result Said Wrong
 with_named o n v = Ok (record o { values = o.values ++ record { naming = n; value = v } ∷ [] })
 
--- whether the largest stands first, as the value of `--by` says
+-- whether the largest stands first, if the word says that or the contrary
 abbrev pub by_said : List ℕ → Option Bool
 by_said word = if bytes_eq word (codes "size") then Some true else (if bytes_eq word (codes "index") then Some false else None)
 
-abbrev pub with_by : Said → Value → Option Bool → Result Said Wrong
-with_by o v (Some b) = Ok (record o { listing = record (o.listing) { by_size = b } })
-with_by o v None = Err (BadValue naming.By v)
+-- lines stand as is said, where something is
+abbrev pub set_by : Said → Value → Option Bool → Result Said Wrong
+set_by o v (Some b) = Ok (record o { listing = record (o.listing) { by_size = b } })
+set_by o v None = Err (BadValue naming.By v)
+
+-- as the value of `--by` says
+abbrev pub with_by : Said → Value → Result Said Wrong
+with_by o v = set_by o v (by_said (value_bytes v))
 
 -- the number of so many bits that digits say in decimal
 abbrev pub digits_said : (bits : ℕ) → List ℕ → Option ℕ
@@ -79,16 +84,21 @@ digits_said bits digits =
 abbrev pub number_said : List ℕ → Option ℕ
 number_said word = digits_said 32 (without_leading_plus word)
 
-abbrev pub with_count : Said → Value → Option ℕ → Result Said Wrong
-with_count o v (Some n) = Ok (record o { listing = record (o.listing) { count = Some n } })
-with_count o v None = Err (BadValue naming.Count v)
+-- so many lines, where a number is said
+abbrev pub set_count : Said → Value → Option ℕ → Result Said Wrong
+set_count o v (Some n) = Ok (record o { listing = record (o.listing) { count = Some n } })
+set_count o v None = Err (BadValue naming.Count v)
+
+-- as the value of `-n` says
+abbrev pub with_count : Said → Value → Result Said Wrong
+with_count o v = set_count o v (number_said (value_bytes v))
 
 -- the value of an option
 abbrev pub with_value : Said → Naming → Value → Result Said Wrong
 with_value o naming.Short v = with_output o v
 with_value o naming.Long v = with_output o v
-with_value o naming.By v = with_by o v (by_said (value_bytes v))
-with_value o naming.Count v = with_count o v (number_said (value_bytes v))
+with_value o naming.By v = with_by o v
+with_value o naming.Count v = with_count o v
 with_value o n v = with_named o n v
 
 -- as what the subcommand is about, and else as IN

@@ -76,7 +76,8 @@ In a name a character that moves a terminal's cursor, or turns the order of what
   --by size       the largest first, with its share of the bytes behind its size, and a total; --by index is as without this option
   -n N            the first N lines, and no more
   --keep NAME, --drop NAME      as to gc: which exports stay
-  --json          an array of objects, as {\"index\":1,\"size\":20,\"name\":\"main\"}; the name is null where there is none
+  --json          an array of objects, as {\"index\":1,\"size\":20,\"name\":\"main\"}; the name is null where there is none.
+                  An export is {\"kind\":\"function\",\"index\":1,\"name\":\"main\"}, and an import has the member module too
   --no-names, --no-producers, --no-legacy     as to gc
 ";
 

@@ -3,7 +3,7 @@
 ghost use Rattle.std.specs.Prelude.{◌≡◌, ◌∷◌, codes, map, string_bytes};
 ghost use Rattle.std.specs.Vec.Iter.{into_iter_items};
 ghost use Rattle.mulkavesh.specs.Mistakes.{IsOrdered, IsTold};
-ghost use Rattle.mulkavesh.specs.Order.{said, value_bytes, work_word};
+ghost use Rattle.mulkavesh.specs.Order.{said, work_word};
 ghost use Rattle.mulkavesh.specs.Steps.{ArePut, IsAlone, IsFirst, IsPut, IsPutOrMemory, asks_help, by_said, equals_by, equals_in, lacking, look, look_at, missing, number_said};
 ghost use Rattle.mulkavesh.specs.Steps.{or_plain, put_joined, put_spelled, put_value, put_word, put_words, spelled_as, spelled_by, spelled_otherwise, spelled_plain, spelling_of};
 ghost use Rattle.mulkavesh.specs.Steps.{then_at, waiting, with_by, with_count, with_flag, with_named, with_output, with_plain};
@@ -383,7 +383,8 @@ fn put_value(
 
 // One value more of an option that may stand several times.
 fn put_named(order: &mut Order, naming: Naming, value: Value) -> Result<Place, Wrong>
-    ensures { IsPutOrMemory (then_at Place.Anywhere (with_named (said order.old) naming value)) order.new result }
+    ensures { IsPutOrMemory (then_at Place.Anywhere (with_named (said order.old) naming value))
+        order.new result }
 {
     match order.values.push(Named { naming, value }) {
         Ok(()) => Ok(Place::Anywhere),
@@ -393,7 +394,7 @@ fn put_named(order: &mut Order, naming: Naming, value: Value) -> Result<Place, W
 
 // In which order the lines stand.
 fn put_by(order: &mut Order, value: Value) -> Result<Place, Wrong>
-    ensures { IsPut (then_at Place.Anywhere (with_by (said order.old) value (by_said (value_bytes value)))) order.new result }
+    ensures { IsPut (then_at Place.Anywhere (with_by (said order.old) value)) order.new result }
 {
     match by_of(value.text()) {
         Some(by_size) => {
@@ -417,7 +418,7 @@ fn by_of(word: &str) -> Option<bool>
 
 // How many lines there are at most.
 fn put_count(order: &mut Order, value: Value) -> Result<Place, Wrong>
-    ensures { IsPut (then_at Place.Anywhere (with_count (said order.old) value (number_said (value_bytes value)))) order.new result }
+    ensures { IsPut (then_at Place.Anywhere (with_count (said order.old) value)) order.new result }
 {
     match count_of(value.text()) {
         Some(count) => {
