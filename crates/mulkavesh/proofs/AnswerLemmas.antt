@@ -7,7 +7,7 @@ use Rattle.walrus_tools.specs.declared.weigh.Smaller.{Smaller}
 use Rattle.mulkavesh.specs.declared.subcommands.Made.{Made}
 use Rattle.mulkavesh.specs.declared.order.Order.{Order}
 use Rattle.mulkavesh.specs.declared.order.Work.{Work}
-use Rattle.mulkavesh.specs.Subcommands.{Answer, AnswersOrder, AnswersWork, NotesNothing, TellsOf, WritesAlone, WritesNoted, WritesSmaller}
+use Rattle.mulkavesh.specs.Subcommands.{Answer, AnswersOrder, AnswersWork, NotesNothing, WritesAlone, WritesNoted, WritesSmaller}
 
 -- by the subcommand of an order
 pub by_work : (o : Order) (bytes : List ℕ) (w : Work) (r : Result Made Error) → o.work ≡ w → AnswersWork w o bytes r → AnswersOrder o bytes r
@@ -25,7 +25,3 @@ quietly false Alone Noted r is answers = absurd (cc)
 pub aloud : (is_quiet : Bool) (Alone : Answer → Type 0) (Noted : Result Smaller Error → Type 0) (r : Result Made Error) → is_quiet ≡ false → WritesNoted Noted r → WritesSmaller is_quiet Alone Noted r
 aloud true Alone Noted r is answers = absurd (cc)
 aloud false Alone Noted r is answers = answers
-
--- a text of what a call answered
-pub told_of : {X : Type 0} (Tells : X → List ℕ → Type 0) (Answers : Result X Error → Type 0) (x : X) (text : Vec ℕ) → Answers (Ok x) → Tells x text.items → TellsOf Tells Answers (Ok text)
-told_of Tells Answers x text answers tells = (x, answers, tells)

@@ -19,7 +19,7 @@ module _ {A : Type 0} (text_of : A → List ℕ) where
   pub all_lines : (all : List A) (i : ℕ) → length all ≤ i → (front text : List ℕ) → text ≡ front ++ flat_map text_of (take i all) → text ≡ front ++ flat_map text_of all
   all_lines all i past front text is = is ∙ ap (λ (items : List A). front ++ flat_map text_of items) (take_all i all past)
 
-  -- the same with commas between them
+  -- one more with commas between them
   pub text_more : (comma : List ℕ) (all : List A) (i : ℕ) (x d : A) → i < length all → x ≡ get_or all i d → (front before between after : List ℕ) → before ≡ front ++ separated comma (map text_of (take i all))
       → between ≡ before ++ comma_at comma i → after ≡ between ++ text_of x → after ≡ front ++ separated comma (map text_of (take (i + 1) all))
   text_more comma all i x d lt here front before between after were comma_is is =

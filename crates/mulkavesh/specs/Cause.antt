@@ -47,7 +47,7 @@ said_text w e (Some text) = text.items
 abbrev pub WordsRefusal : (bytes : List ℕ) → Fault → (text : List ℕ) → Type 0
 WordsRefusal bytes fault text = (words : List ℕ) × WordsFault bytes fault words × (text ≡ refused_text ++ (codes ": " ++ words))
 
--- the same of something that is wrong with them
+-- the text says so of something that is wrong with them
 abbrev pub SaysFault : Config → (bytes : List ℕ) → (text : List ℕ) → Type 0
 SaysFault c bytes text = (fault : Fault) × Finds c bytes (Some fault) × WordsRefusal bytes fault text
 

@@ -28,7 +28,7 @@ choice_behind about.Modules naming.Module name = going name ∷ []
 choice_behind about.Imports naming.Import name = going name ∷ []
 choice_behind _ _ name = []
 
--- the same of an option with its value
+-- what an option with its value says
 abbrev pub choice_by : About → Named → List Choice
 choice_by a n = choice_behind a n.naming (value_bytes n.value)
 

@@ -10,7 +10,7 @@ use Rattle.mulkavesh.specs.Rows.{name_json, name_text, rows_text}
 abbrev pub listed_line : Listed → List ℕ
 listed_line f = decimal f.size ++ codes " " ++ decimal f.index ++ name_text f.name ++ codes "\n"
 
--- the same for programs
+-- for programs: an object with these members
 abbrev pub listed_object : Listed → List ℕ
 listed_object f = codes "{\"index\":" ++ decimal f.index ++ codes ",\"size\":" ++ decimal f.size ++ codes ",\"name\":" ++ name_json f.name ++ codes "}"
 
@@ -37,7 +37,7 @@ total_of functions = min (sum_by (λ f. f.size) functions) (2 ^ 64 - 1)
 abbrev pub thousandths : (size total : ℕ) → ℕ
 thousandths size total = if nat_eq total 0 then 0 else size * 1000 / total
 
--- the same in hundredths, with one decimal
+-- that in percent, with one decimal
 abbrev pub share_text : (size total : ℕ) → List ℕ
 share_text size total = decimal (thousandths size total / 10) ++ codes "." ++ decimal (thousandths size total % 10) ++ codes "%"
 

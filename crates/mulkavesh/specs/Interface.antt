@@ -14,7 +14,7 @@ use Rattle.mulkavesh.specs.Visible.{shown}
 abbrev pub export_line : Exported → List ℕ
 export_line e = item_text (item_of e.item) ++ codes " " ++ shown (string_bytes e.name) ++ codes "\n"
 
--- the same for programs
+-- for programs: an object with these members
 abbrev pub export_object : Exported → List ℕ
 export_object e = item_members (item_of e.item) ++ codes ",\"name\":" ++ string_json (string_bytes e.name) ++ codes "}"
 
@@ -27,7 +27,7 @@ exports_text is_json exports = rows_text export_line export_object is_json expor
 abbrev pub import_line : Imported → List ℕ
 import_line i = item_text (item_of i.item) ++ codes " " ++ shown (string_bytes i.«module») ++ codes " " ++ shown (string_bytes i.name) ++ codes "\n"
 
--- the same for programs
+-- for programs: an object with these members
 abbrev pub import_object : Imported → List ℕ
 import_object i =
     item_members (item_of i.item) ++ codes ",\"module\":" ++ string_json (string_bytes i.«module») ++ codes ",\"name\":" ++ string_json (string_bytes i.name)

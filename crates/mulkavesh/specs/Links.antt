@@ -41,7 +41,7 @@ size_json (Some size) = decimal size
 abbrev pub link_members : Link → List ℕ
 link_members l = codes ",\"name\":" ++ name_json l.name ++ codes ",\"exports\":[" ++ separated (codes ",") (map string_json (exports_of l)) ++ codes "],\"size\":" ++ size_json l.size
 
--- the same for programs
+-- for programs: an object with these members
 abbrev pub link_object : Link → List ℕ
 link_object l = item_members (item_of l.item) ++ link_members l ++ codes "}"
 

@@ -161,12 +161,12 @@ operand_bytes (Some word) = string_bytes word
 abbrev pub AnswersGc : Order → Config → (bytes : List ℕ) → Result Made Error → Type 0
 AnswersGc o c bytes = WritesSmaller o.is_quiet (AnswersChosen c bytes (roots_of o)) (AnswersWeighed (KeepsChosen (roots_of o)) (RefusesChosen (roots_of o)) c bytes)
 
--- the same of the module in which functions trap that the order means
+-- the module in which functions trap that the order means, likewise
 abbrev pub AnswersSnip : Order → Config → (bytes : List ℕ) → Result Made Error → Type 0
 AnswersSnip o c bytes =
     WritesSmaller o.is_quiet (AnswersMeant c bytes (functions_of o)) (AnswersWeighed (SnipsMeant (functions_of o)) (RefusesMeant (functions_of o)) c bytes)
 
--- and of that in which functions trap that were imported so
+-- and that in which functions trap that were imported as the order says
 abbrev pub AnswersStub : Order → Config → (bytes : List ℕ) → Result Made Error → Type 0
 AnswersStub o c bytes =
     WritesSmaller o.is_quiet (AnswersMatching c bytes (modules_of o) (imports_of o))

@@ -1,5 +1,6 @@
 //! What an order asks of the library: each call, with what the order says of names.
 
+ghost use Rattle.std.specs.Prelude.{◌≡◌};
 ghost use Rattle.mulkavesh.specs.Choices.{functions_of, imports_of, modules_of, roots_of, sections_of};
 ghost use Rattle.mulkavesh.specs.Subcommands.{operand_bytes};
 ghost use Rattle.walrus_tools.specs.ChosenModule.{AnswersChosen, KeepsChosen, RefusesChosen};
@@ -33,7 +34,7 @@ pub(crate) fn call_gc(alloc: Global, order: &Order, bytes: &[u8]) -> Result<Vec<
     gc_chosen(alloc, bytes, order.wanted, &roots)
 }
 
-/// The same, with what is told of it.
+/// That module, with what is told of it.
 pub(crate) fn call_gc_weighed(alloc: Global, order: &Order, bytes: &[u8]) -> Result<Smaller, Error>
     ensures { AnswersWeighed (KeepsChosen (roots_of order.now)) (RefusesChosen (roots_of order.now))
         (config_wanted order.now.wanted) bytes.now result }
@@ -50,7 +51,7 @@ pub(crate) fn call_snip(alloc: Global, order: &Order, bytes: &[u8]) -> Result<Ve
     snip_functions(alloc, bytes, order.wanted, &functions)
 }
 
-/// The same, with what is told of it.
+/// That module, with what is told of it.
 pub(crate) fn call_snip_weighed(
     alloc: Global,
     order: &Order,
@@ -73,14 +74,15 @@ pub(crate) fn call_stub(alloc: Global, order: &Order, bytes: &[u8]) -> Result<Ve
     stub_matching(alloc, bytes, order.wanted, &modules, &names)
 }
 
-/// The same, with what is told of it.
+/// That module, with what is told of it.
 pub(crate) fn call_stub_weighed(
     alloc: Global,
     order: &Order,
     bytes: &[u8],
 ) -> Result<Smaller, Error>
     ensures { AnswersWeighed (StubsMatching (modules_of order.now) (imports_of order.now))
-        (RefusesMatching (modules_of order.now) (imports_of order.now)) (config_wanted order.now.wanted) bytes.now result }
+        (RefusesMatching (modules_of order.now) (imports_of order.now))
+        (config_wanted order.now.wanted) bytes.now result }
 {
     let modules = modules_of(alloc, order)?;
     let names = imports_of(alloc, order)?;

@@ -38,7 +38,7 @@ fn thousandths(size: u64, total: u64) -> u128
     size as u128 * 1000 / total as u128
 }
 
-// Puts the share behind the text that this is of the total, in hundredths with one decimal.
+// Puts the share behind the text that this is of the total, in percent with one decimal.
 fn add_share(alloc: Global, to: &mut Vec<u8>, size: u64, total: u64) -> Result<(), AllocError>
     ensures { OnOk result (to.new.items ≡ to.old.items ++ share_text size total) }
 {

@@ -81,7 +81,7 @@ fn smaller(alloc: Global, order: &Order, bytes: &[u8]) -> Result<Made, Error>
     Ok(noted(alloc, made)?)
 }
 
-// The same of the module in which functions trap that the order means.
+// The module in which functions trap that the order means, likewise.
 fn snipped(alloc: Global, order: &Order, bytes: &[u8]) -> Result<Made, Error>
     ensures { AnswersSnip order.now (config_wanted order.now.wanted) bytes.now result }
 {
@@ -92,7 +92,7 @@ fn snipped(alloc: Global, order: &Order, bytes: &[u8]) -> Result<Made, Error>
     Ok(noted(alloc, made)?)
 }
 
-// And of that in which functions trap that were imported so.
+// And that in which functions trap that were imported as the order says.
 fn stubbed(alloc: Global, order: &Order, bytes: &[u8]) -> Result<Made, Error>
     ensures { AnswersStub order.now (config_wanted order.now.wanted) bytes.now result }
 {

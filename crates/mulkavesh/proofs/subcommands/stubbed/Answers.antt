@@ -10,4 +10,4 @@ pub returns : goal.returns
 returns c =
     let o = c.args.order.now in
     aloud o.is_quiet (AnswersMatching (config_wanted o.wanted) c.args.bytes.now (modules_of o) (imports_of o)) (AnswersWeighed (StubsMatching (modules_of o) (imports_of o)) (RefusesMatching (modules_of o) (imports_of o)) (config_wanted o.wanted) c.args.bytes.now) (Ok c.in_ok-noted.field-0) c.if-order.false
-    (c.in_ok-made.made, (c.in_ok-made.ensures, c.in_ok-noted.ensures))
+    (c.in_ok-made.made, c.in_ok-made.ensures, c.in_ok-noted.ensures)
