@@ -35,3 +35,7 @@ UnderTexts bytes Answers = UnderChoices bytes (λ choices answer. Answers (names
 -- the answer by the choices that the bytes of two lists are
 abbrev pub UnderLists : (bytes others : List ℕ) → (List Choice → List Choice → Answer → Type 0) → Answer → Type 0
 UnderLists bytes others Answers = UnderChoices bytes (λ choices. UnderChoices others (Answers choices))
+
+-- the bytes of both are lists of choices
+abbrev pub AreLists : (bytes others : List ℕ) → Type 0
+AreLists bytes others = IsList bytes × IsList others
