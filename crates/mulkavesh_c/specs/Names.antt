@@ -1,5 +1,5 @@
 -- A call that takes names, lists of choices or texts as bytes ("Structure > Values > Names").
-use Rattle.std.specs.Prelude.{ℕ, Bool, false, List, All, map, Err, IsUtf8, ◌≡◌, ◌⊎◌, ⊤}
+use Rattle.std.specs.Prelude.{ℕ, List, All, map, Err, IsUtf8, ◌≡◌, ◌⊎◌, ⊤}
 use Rattle.walrus_tools.specs.Facade.{Error, Memory, NotFound}
 use Rattle.walrus_tools.specs.Choice.{AreChoices, Choice, IsList}
 use Rattle.mulkavesh_c.specs.Answer.{Answer}
