@@ -41,14 +41,14 @@ module _ (Answers : Answer → Type 0) (Known : Type 0) (Number : ℕ → Type 0
     room = λ four. (bytes, answers, lacks);
     refused = λ not_done not_short not_flags. absurd (not_short is);
   }
-  gives is_so (Err e) number answers numbered (is, stays, told_so) =
+  gives is_so (Err e) number answers numbered (is, left) =
       let r = is_refusal e in
       record {
         flags = (λ five. absurd (r.not_flags (sym is ∙ five)), λ unknown. absurd (unknown is_so));
         unknown = λ five. absurd (r.not_flags (sym is ∙ five));
         done = λ done. absurd (r.not_done (sym is ∙ done));
         room = λ four. absurd (r.not_short (sym is ∙ four));
-        refused = λ not_done not_short not_flags. record { error = e; answers = answers; is = is; stays = stays; tells = tells Number number told e numbered told_so };
+        refused = λ not_done not_short not_flags. record { error = e; answers = answers; is = is; stays = left.0; tells = tells Number number told e numbered left.1 };
       }
 
   -- what isn't known is told so, and nothing is written

@@ -1,17 +1,18 @@
 -- What a call answers under the choices that were read.
-use Rattle.std.proofs.Common.{◌≡◌, ◌⊎◌, ℕ, true, false, List, Option, Some, None, length, refl, sym, ◌∙◌, subst, inl, inr}
-use Rattle.std.specs.Prelude.{Err, unwrap_or, if◌then◌else◌}
+use Rattle.std.proofs.Common.{◌≡◌, ◌⊎◌, ℕ, true, false, List, Option, Some, None, length, refl, sym, ap, ◌∙◌, subst, inl, inr}
+use Rattle.std.specs.Prelude.{Err, IsUtf8, unwrap_or, if◌then◌else◌}
 use Rattle.std.specs.declared.alloc.AllocError.{AllocError}
-use Rattle.walrus_tools.specs.Choice.{AreChoices, Choice, IsList}
+use Rattle.walrus_tools.specs.Choice.{AreChoices, Choice, IsList, choices_seen}
 use Rattle.walrus_tools.specs.ChosenModule.{AnswersUnfit, TellsOfParsed}
 use Rattle.walrus_tools.specs.Facade.{Config, Error, InvalidWasm, Memory, NotFound, TooLarge}
 use Rattle.walrus_tools.specs.Wanted.{config_wanted}
+use Rattle.walrus_tools.specs.declared.choice.Choice.{Choice as HeldChoice}
 use Rattle.walrus_tools.specs.declared.wanted.Wanted.{Wanted}
 use Rattle.walrus_tools.proofs.Records.{one_list}
 use Rattle.mulkavesh_c.specs.Answer.{Answer, Puts}
-use Rattle.mulkavesh_c.specs.ChosenRoots.{AreAsked, GivesChosen, IsNumbered, IsUnfit, MakesChosen, NumbersUnfit}
+use Rattle.mulkavesh_c.specs.ChosenRoots.{AreAsked, GivesChosen, IsNumbered, IsUnfit, MakesChosen, NumbersUnfit, is_missing}
 use Rattle.mulkavesh_c.specs.Flags.{is_known, wanted}
-use Rattle.mulkavesh_c.specs.Names.{LacksChoices, UnderChoices}
+use Rattle.mulkavesh_c.specs.Names.{LacksChoices, LacksTexts, UnderChoices, UnderLists, UnderName, UnderTexts, names_of}
 use Rattle.mulkavesh_c.specs.declared.answer.Made.{Made}
 use Rattle.mulkavesh_c.proofs.AnswerLemmas.{asks, gives}
 
@@ -55,6 +56,17 @@ numbered_refused c bytes choices answer e made same unfit = record {
 pub numbered_same : (c : Config) (bytes : List ℕ) (choices : List Choice) (answer : Answer) (made : Made) → made.answer ≡ answer → (answer ≡ Err NotFound → ⊥) → IsNumbered c bytes choices answer made
 numbered_same c bytes choices answer made same found = record { answers = inl same; numbers = λ h. absurd (found (sym same ∙ h)) }
 
+-- what is missing is so, and what isn't isn't
+missing_is : (e : Error) → is_missing e ≡ true → e ≡ NotFound
+missing_is NotFound h = refl
+missing_is _ h = absurd (untrue h)
+
+pub numbered_missing : (c : Config) (bytes : List ℕ) (choices : List Choice) (e : Error) → is_missing e ≡ true → (made : Made) → IsNumbered c bytes choices (Err NotFound) made → IsNumbered c bytes choices (Err e) made
+numbered_missing c bytes choices e h made numbered = subst (λ (x : Error). IsNumbered c bytes choices (Err x) made) (sym (missing_is e h)) numbered
+
+pub numbered_error : (c : Config) (bytes : List ℕ) (choices : List Choice) (e : Error) → is_missing e ≡ false → (made : Made) → made.answer ≡ Err e → IsNumbered c bytes choices (Err e) made
+numbered_error c bytes choices e h made same = numbered_same c bytes choices (Err e) made same (λ is. let one : e ≡ NotFound = cc in untrue (sym h ∙ ap is_missing one))
+
 module _ (c : Config) (bytes choice : List ℕ) (Answered : List Choice → Answer → Type 0)
     (passes : (choices : List Choice) (e : Error) → AnswersUnfit c bytes choices (Err e) → Answered choices (Err e)) where
   pub made_refused : (e : Error) → LacksChoices choice e → (made : Made) → (made.answer ≡ Err e) × (made.number ≡ 0) → MakesChosen c bytes choice Answered made
@@ -85,3 +97,36 @@ gives_chosen Answered flags bytes choice w is list made makes old new told statu
     let makes_so = subst (λ (v : Wanted). MakesChosen (config_wanted v) bytes choice (Answered (config_wanted v)) made) known.1 makes in
     let c = config_wanted (wanted flags) in
     gives (UnderChoices choice (Answered c)) (AreAsked flags choice) (NumbersUnfit c bytes choice) old new told status (known.0, list) made.answer made.number makes_so.answers makes_so.numbers puts
+
+-- ---- lists as they were read
+
+-- the choices that were read, as a slice of them
+are_read : (bytes : List ℕ) (held slice : List HeldChoice) → slice ≡ held → AreChoices bytes (choices_seen held) → AreChoices bytes (choices_seen slice)
+are_read bytes held slice same are = subst (λ (cs : List HeldChoice). AreChoices bytes (choices_seen cs)) (sym same) are
+
+pub list_answer : (bytes : List ℕ) (held slice : List HeldChoice) → slice ≡ held → AreChoices bytes (choices_seen held) → (Answers : List Choice → Answer → Type 0) (answer : Answer) → Answers (choices_seen slice) answer
+    → UnderChoices bytes Answers answer
+list_answer bytes held slice same are Answers answer answers = under_choices bytes (choices_seen slice) (are_read bytes held slice same are) Answers answer answers
+
+pub lists_answer : (bytes others : List ℕ) (held slice more more_slice : List HeldChoice) → slice ≡ held → more_slice ≡ more → AreChoices bytes (choices_seen held) → AreChoices others (choices_seen more)
+    → (Answers : List Choice → List Choice → Answer → Type 0) (answer : Answer) → Answers (choices_seen slice) (choices_seen more_slice) answer → UnderLists bytes others Answers answer
+lists_answer bytes others held slice more more_slice same more_same are more_are Answers answer answers =
+    list_answer bytes held slice same are (λ (cs : List Choice). UnderChoices others (Answers cs)) answer (list_answer others more more_slice more_same more_are (Answers (choices_seen slice)) answer answers)
+
+pub texts_answer : (bytes : List ℕ) (held slice : List HeldChoice) → slice ≡ held → AreChoices bytes (choices_seen held) → (ts : List (List ℕ)) → ts ≡ names_of (choices_seen slice)
+    → (Answers : List (List ℕ) → Answer → Type 0) (answer : Answer) → Answers ts answer → UnderTexts bytes Answers answer
+texts_answer bytes held slice same are ts is Answers answer answers =
+    list_answer bytes held slice same are (λ (cs : List Choice) (r : Answer). Answers (names_of cs) r ⊎ ((e : Error) × (r ≡ Err e) × LacksTexts (names_of cs) e)) answer
+    (inl (subst (λ (names : List (List ℕ)). Answers names answer) is answers))
+
+pub texts_lack : (bytes : List ℕ) (held slice : List HeldChoice) → slice ≡ held → AreChoices bytes (choices_seen held) → (Answers : List (List ℕ) → Answer → Type 0) (e : Error) → LacksTexts (names_of (choices_seen slice)) e
+    → UnderTexts bytes Answers (Err e)
+texts_lack bytes held slice same are Answers e lacks =
+    list_answer bytes held slice same are (λ (cs : List Choice) (r : Answer). Answers (names_of cs) r ⊎ ((e : Error) × (r ≡ Err e) × LacksTexts (names_of cs) e)) (Err e) (inr (e, refl, lacks))
+
+-- the answer by a name that is a text, and by one that isn't
+pub name_answer : (name text : List ℕ) → name ≡ text → IsUtf8 name → (Answers : List ℕ → Answer → Type 0) (Nothing : Answer → Type 0) (answer : Answer) → Answers text answer → UnderName name (Answers name) Nothing answer
+name_answer name text same is Answers Nothing answer answers = record {
+  named = λ is_so. subst (λ (t : List ℕ). Answers t answer) (sym same) answers;
+  nameless = λ isnt. absurd (isnt is);
+}

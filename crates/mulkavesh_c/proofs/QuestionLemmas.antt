@@ -1,29 +1,30 @@
 -- A refusal for a cause that every answer may have stands for the answer to a question.
-use Rattle.std.proofs.Common.{ℕ, List, Option}
+use Rattle.std.proofs.Common.{ℕ, List}
 use Rattle.std.specs.Prelude.{Err}
-use Rattle.std.specs.Global.{Vec}
 use Rattle.walrus_tools.specs.Choice.{Choice}
 use Rattle.walrus_tools.specs.ChosenModule.{AnswersUnfit}
-use Rattle.walrus_tools.specs.Ends.{Answers}
 use Rattle.walrus_tools.specs.Facade.{Config, Error, InvalidWasm, Memory, TooLarge}
 use Rattle.mulkavesh_c.specs.Questions.{AnswersTo}
 use Rattle.mulkavesh_c.specs.declared.question.Question.{Question}
 use Rattle.mulkavesh_c.specs.declared.question.Question.TheVariants.{Smaller, Report, Listed, Dropped, Exports, Imports, Why, Callers}
 
--- it has no other causes than that memory ran out, or that the bytes aren't accepted
-refused_bare : {X Y : Type 0} (c : Config) (bytes : List ℕ) (Found : X → Type 0) (Done : Y → Type 0) (Large : Type 0) (Refuses : Error → Type 0) (e : Error)
-    → Answers {X = X} c bytes Found ⊥ (λ e. ⊥) (Err e) → Answers {X = Y} c bytes Done Large Refuses (Err e)
-refused_bare c bytes Found Done Large Refuses (Memory m) h = tt
-refused_bare c bytes Found Done Large Refuses (InvalidWasm kind) h = h
-refused_bare c bytes Found Done Large Refuses TooLarge h = absurd h
-refused_bare c bytes Found Done Large Refuses _ h = absurd h
-
+-- what unfit is refused for is a cause of every answer: memory ran out, or the bytes aren't accepted
 pub passes : (question : Question) (c : Config) (bytes : List ℕ) (choices : List Choice) (e : Error) → AnswersUnfit c bytes choices (Err e) → AnswersTo question c bytes choices (Err e)
-passes Smaller c bytes choices e h = refused_bare c bytes _ _ _ _ e h
-passes Report c bytes choices e h = refused_bare c bytes _ _ _ _ e h
-passes Listed c bytes choices e h = refused_bare c bytes _ _ _ _ e h
-passes Dropped c bytes choices e h = refused_bare c bytes _ _ _ _ e h
-passes Exports c bytes choices e h = refused_bare c bytes _ _ _ _ e h
-passes Imports c bytes choices e h = refused_bare c bytes _ _ _ _ e h
-passes (Why text) c bytes choices e h = record { named = λ is. refused_bare c bytes _ _ _ _ e h; nameless = λ isnt. refused_bare c bytes _ _ _ _ e h }
-passes (Callers text) c bytes choices e h = record { named = λ is. refused_bare c bytes _ _ _ _ e h; nameless = λ isnt. refused_bare c bytes _ _ _ _ e h }
+passes Smaller c bytes choices (Memory m) h = tt
+passes Report c bytes choices (Memory m) h = tt
+passes Listed c bytes choices (Memory m) h = tt
+passes Dropped c bytes choices (Memory m) h = tt
+passes Exports c bytes choices (Memory m) h = tt
+passes Imports c bytes choices (Memory m) h = tt
+passes (Why text) c bytes choices (Memory m) h = record { named = λ is. tt; nameless = λ isnt. tt }
+passes (Callers text) c bytes choices (Memory m) h = record { named = λ is. tt; nameless = λ isnt. tt }
+passes Smaller c bytes choices (InvalidWasm kind) h = h
+passes Report c bytes choices (InvalidWasm kind) h = h
+passes Listed c bytes choices (InvalidWasm kind) h = h
+passes Dropped c bytes choices (InvalidWasm kind) h = h
+passes Exports c bytes choices (InvalidWasm kind) h = h
+passes Imports c bytes choices (InvalidWasm kind) h = h
+passes (Why text) c bytes choices (InvalidWasm kind) h = record { named = λ is. h; nameless = λ isnt. h }
+passes (Callers text) c bytes choices (InvalidWasm kind) h = record { named = λ is. h; nameless = λ isnt. h }
+passes question c bytes choices TooLarge h = absurd h
+passes question c bytes choices _ h = absurd h

@@ -1,5 +1,5 @@
 -- A call under a choice of exports, and which NAME of it fits none.
-use Rattle.std.specs.Prelude.{ℕ, List, length, Some, None, Err, ◌≡◌, ◌⊎◌, ⊤}
+use Rattle.std.specs.Prelude.{ℕ, Bool, true, false, List, length, Some, None, Err, ◌≡◌, ◌⊎◌, ⊤}
 use Rattle.walrus_tools.specs.Choice.{AreChoices, Choice, IsList}
 use Rattle.walrus_tools.specs.ChosenModule.{AnswersUnfit, TellsOfParsed}
 use Rattle.walrus_tools.specs.Ends.{Answers, IfNotFound}
@@ -22,6 +22,11 @@ NumbersUnfit c bytes choice number = (choices : List Choice) → AreChoices choi
 -- a refusal where a name is none that anything could have: memory ran out, or the bytes aren't accepted, or nothing is found
 abbrev pub FindsNothing : Config → (bytes : List ℕ) → Answer → Type 0
 FindsNothing c bytes answer = Answers c bytes (λ found. ⊥) ⊥ (IfNotFound ⊤) answer
+
+-- whether it says that something isn't found
+abbrev pub is_missing : Error → Bool
+is_missing NotFound = true
+is_missing _ = false
 
 -- what was made is this answer, or a refusal for which no number can be told; and where something isn't found it has the number
 pub record IsNumbered (c : Config) (bytes : List ℕ) (choices : List Choice) (answer : Answer) (made : Made) : Type 0 where

@@ -1,5 +1,5 @@
 -- A call that takes names, lists of choices or texts as bytes ("Structure > Values > Names").
-use Rattle.std.specs.Prelude.{ℕ, Bool, false, List, All, map, Err, IsUtf8, ◌≡◌, ◌⊎◌, ⊤}
+use Rattle.std.specs.Prelude.{ℕ, List, All, map, Err, IsUtf8, ◌≡◌, ◌⊎◌, ⊤}
 use Rattle.walrus_tools.specs.Facade.{Error, Memory, NotFound}
 use Rattle.walrus_tools.specs.Choice.{AreChoices, Choice, IsList}
 use Rattle.mulkavesh_c.specs.Answer.{Answer}
@@ -35,3 +35,7 @@ UnderTexts bytes Answers = UnderChoices bytes (λ choices answer. Answers (names
 -- the answer by the choices that the bytes of two lists are
 abbrev pub UnderLists : (bytes others : List ℕ) → (List Choice → List Choice → Answer → Type 0) → Answer → Type 0
 UnderLists bytes others Answers = UnderChoices bytes (λ choices. UnderChoices others (Answers choices))
+
+-- the bytes of both are lists of choices
+abbrev pub AreLists : (bytes others : List ℕ) → Type 0
+AreLists bytes others = IsList bytes × IsList others

@@ -1,6 +1,6 @@
 //! What a call leaves behind: its status, the caller's room, and the length that is told.
 
-ghost use Rattle.std.specs.Prelude.{◌≡◌, ◌×◌};
+ghost use Rattle.std.specs.Prelude.{◌≡◌};
 ghost use Rattle.mulkavesh_c.specs.Answer.{Puts, status_of, told_of};
 
 use walrus_tools::Error;

@@ -2,8 +2,9 @@
 
 ghost use Rattle.std.specs.Prelude.{◌≡◌, Err};
 ghost use Rattle.walrus_tools.specs.Choice.{choices_seen};
+ghost use Rattle.walrus_tools.specs.Facade.{NotFound};
 ghost use Rattle.walrus_tools.specs.Wanted.{config_wanted};
-ghost use Rattle.mulkavesh_c.specs.ChosenRoots.{IsNumbered, MakesChosen};
+ghost use Rattle.mulkavesh_c.specs.ChosenRoots.{IsNumbered, MakesChosen, is_missing};
 ghost use Rattle.mulkavesh_c.specs.Questions.{AnswersCallers, AnswersLines, AnswersTo, AnswersWhy};
 
 use crate::answer::Made;
@@ -69,7 +70,7 @@ fn answered(
     wanted: Wanted,
     choices: &[Choice<'_>],
 ) -> Result<Vec<u8>, Error>
-    ensures { AnswersTo question (config_wanted wanted) input.now (choices_seen choices.now) result }
+    ensures { AnswersTo question.entry (config_wanted wanted) input.now (choices_seen choices.now) result }
 {
     match question {
         Question::Smaller => gc_chosen(alloc, input, wanted, choices),
@@ -80,6 +81,16 @@ fn answered(
         Question::Imports => import_list(alloc, input, wanted, choices),
         Question::Why(text) => reasoned(alloc, input, wanted, choices, text),
         Question::Callers(text) => referred(alloc, input, wanted, choices, text),
+    }
+}
+
+// Whether it says that something wasn't found.
+fn is_missing(error: &Error) -> bool
+    ensures { result ≡ is_missing error.now }
+{
+    match error {
+        Error::NotFound => true,
+        _ => false,
     }
 }
 
@@ -106,10 +117,14 @@ fn numbered(
 ) -> Made
     ensures { IsNumbered (config_wanted wanted) input.now (choices_seen choices.now) answer result }
 {
-    match answer {
-        Err(Error::NotFound) => unfound(alloc, input, wanted, choices),
-        answer => Made::of(answer),
+    let error = match answer {
+        Ok(bytes) => return Made::of(Ok(bytes)),
+        Err(error) => error,
+    };
+    if is_missing(&error) {
+        return unfound(alloc, input, wanted, choices);
     }
+    Made::of(Err(error))
 }
 
 /// What is made under the choices that these bytes are.
@@ -121,7 +136,7 @@ pub(crate) fn answer_to(
     choice: &[u8],
 ) -> Made
     ensures { MakesChosen (config_wanted wanted) input.now choice.now
-        (AnswersTo question (config_wanted wanted) input.now) result }
+        (AnswersTo question.entry (config_wanted wanted) input.now) result }
 {
     let choices = match choices_of(alloc, choice) {
         Ok(choices) => choices,

@@ -11,7 +11,7 @@ mod flags;
 mod names;
 mod question;
 
-ghost use Rattle.std.specs.Prelude.{◌≡◌, ◌×◌, ⊤};
+ghost use Rattle.std.specs.Prelude.{◌≡◌, ◌↔◌, true, ⊤};
 ghost use Rattle.walrus_tools.specs.Faults.{AnswersFault};
 ghost use Rattle.walrus_tools.specs.PartList.{AnswersPartList};
 ghost use Rattle.walrus_tools.specs.Choice.{AllGo, IsList};
@@ -28,7 +28,7 @@ ghost use Rattle.walrus_tools.specs.Wanted.{config_wanted};
 ghost use Rattle.mulkavesh_c.specs.Answer.{Gives, NoNumber};
 ghost use Rattle.mulkavesh_c.specs.ChosenRoots.{GivesChosen};
 ghost use Rattle.mulkavesh_c.specs.Flags.{IsKnown, wanted};
-ghost use Rattle.mulkavesh_c.specs.Names.{UnderChoices, UnderLists, UnderTexts};
+ghost use Rattle.mulkavesh_c.specs.Names.{AreLists, UnderChoices, UnderLists, UnderTexts};
 ghost use Rattle.mulkavesh_c.specs.Questions.{AnswersCallers, AnswersLines, AnswersTo, AnswersWhy};
 
 use crate::answer::{Made, UNKNOWN_FLAG, put, refused};
@@ -48,6 +48,13 @@ pub extern "C" fn mulkavesh_version() -> u32
     VERSION
 }
 
+// Whether both are lists of choices.
+fn are_lists(bytes: &[u8], others: &[u8]) -> bool
+    ensures { (result ≡ true) ↔ AreLists bytes.now others.now }
+{
+    are_choices(bytes) && are_choices(others)
+}
+
 // ---- under a choice of exports
 
 // The answer to a question, put into the room.
@@ -60,7 +67,7 @@ fn give(
     output: &mut [u8],
     length: &mut usize,
 ) -> u32
-    ensures { GivesChosen flags input.now choice.now (λ c. AnswersTo question c input.now)
+    ensures { GivesChosen flags input.now choice.now (λ c. AnswersTo question.entry c input.now)
         output.old output.new length.new result }
 {
     let Some(wanted) = wanted_by(flags) else {
@@ -370,14 +377,14 @@ pub extern "C" fn mulkavesh_stub(
     output: &mut [u8],
     length: &mut usize,
 ) -> u32
-    ensures { Gives (IsKnown flags × IsList «module».now × IsList name.now)
+    ensures { Gives (IsKnown flags × AreLists «module».now name.now)
         (UnderLists «module».now name.now (AnswersMatching (config_wanted (wanted flags)) input.now)) NoNumber
         output.old output.new length.new result }
 {
     let Some(wanted) = wanted_by(flags) else {
         return refused(length, UNKNOWN_FLAG);
     };
-    if !are_choices(module) || !are_choices(name) {
+    if !are_lists(module, name) {
         return refused(length, UNKNOWN_FLAG);
     }
     let made = names::stubbed(alloc, input, wanted, module, name);

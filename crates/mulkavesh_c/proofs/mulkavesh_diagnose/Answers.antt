@@ -3,9 +3,9 @@ use Rattle.walrus_tools.specs.Faults.{AnswersFault}
 use Rattle.walrus_tools.specs.Wanted.{config_wanted}
 use Rattle.walrus_tools.specs.declared.wanted.Wanted.{Wanted}
 use Rattle.mulkavesh_c.specs.Answer.{Answer}
-use Rattle.mulkavesh_c.proofs.AnswerLemmas.{gives_wanted}
+use Rattle.mulkavesh_c.proofs.AnswerLemmas.{gives_flagged}
 use Rattle.mulkavesh_c.proofs.mulkavesh_diagnose.Goals as goal
 
 pub returns : goal.returns
 returns c =
-    gives_wanted (λ (w : Wanted) (r : Answer). AnswersFault (config_wanted w) c.args.input.now r) c.args.flags c.in-Some.wanted (sym c.in-Some.is ∙ c.wanted_by.ensures) c.fault-made.result _ _ _ _ c.fault-made.ensures c.put.ensures
+    gives_flagged (λ (w : Wanted) (r : Answer). AnswersFault (config_wanted w) c.args.input.now r) c.args.flags c.in-Some.wanted (sym c.in-Some.is ∙ c.wanted_by.ensures) c.fault-made.result c.of.result c.of.ensures _ _ _ _ c.fault-made.ensures c.put.ensures

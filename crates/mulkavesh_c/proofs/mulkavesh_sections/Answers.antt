@@ -1,5 +1,5 @@
-use Rattle.mulkavesh_c.proofs.AnswerLemmas.{gives}
+use Rattle.mulkavesh_c.proofs.AnswerLemmas.{gives_plain}
 use Rattle.mulkavesh_c.proofs.mulkavesh_sections.Goals as goal
 
 pub returns : goal.returns
-returns c = gives _ _ _ _ _ _ tt c.section_list-made.result c.section_list-made.ensures c.put.ensures
+returns c = gives_plain _ _ _ _ _ _ tt c.section_list-made.result c.of.result c.of.ensures c.section_list-made.ensures c.put.ensures

@@ -1,0 +1,10 @@
+use Rattle.std.proofs.Common.{sym}
+use Rattle.walrus_tools.specs.Choice.{choices_seen}
+use Rattle.walrus_tools.specs.ReasonAnswers.{AnswersReasonList}
+use Rattle.walrus_tools.specs.Wanted.{config_wanted}
+use Rattle.mulkavesh_c.proofs.ChoiceLemmas.{name_answer}
+use Rattle.mulkavesh_c.proofs.choices.reasoned.Goals as goal
+
+pub returns-in-Ok : goal.returns-in-Ok
+returns-in-Ok c =
+    name_answer c.args.text.now c.in-Ok.text.now (sym c.in-Ok.ensures.cases.0) c.in-Ok.ensures.cases.1 (AnswersReasonList (config_wanted c.args.wanted) c.args.input.now (choices_seen c.args.choices.now)) _ c.reason_list.result c.reason_list.ensures
