@@ -88,7 +88,7 @@ fn weigh_parts(all: &ModuleFunctions, parts: &[Part<'_>]) -> (usize, usize)
     (bodies, debug)
 }
 
-// The same of the bytes.
+// How many of these the bytes of a module have.
 fn weigh_input(alloc: Global, bytes: &[u8], all: &ModuleFunctions) -> Result<(usize, usize)>
     ensures { WeighsInput bytes.now (functions all.now) result }
 {
