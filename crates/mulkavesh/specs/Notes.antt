@@ -73,7 +73,7 @@ abbrev pub change_text : (rest written : ℕ) → List ℕ
 change_text rest written = if nat_lt rest written then grouped (written - rest) ++ codes " bytes more" else grouped (rest - written) ++ codes " bytes less"
 
 abbrev pub rest_text : (rest written : ℕ) → List ℕ
-rest_text rest written = codes "; the rest is " ++ change_text rest written
+rest_text rest written = codes "; rest: " ++ change_text rest written
 
 -- why there are more bytes than there were, where it is so
 abbrev pub longer_text : (read written : ℕ) → List ℕ

@@ -33,7 +33,7 @@ reach_text x root (Some chain) = chain_text root chain
 -- what would go with it, where that is told
 abbrev pub alone_text : Option Alone → List ℕ
 alone_text None = []
-alone_text (Some a) = codes "it and what it alone keeps: " ++ decimal a.functions ++ codes " functions, " ++ decimal a.bytes ++ codes " bytes\n"
+alone_text (Some a) = codes "it and what it alone keeps: functions " ++ decimal a.functions ++ codes ", bytes " ++ decimal a.bytes ++ codes "\n"
 
 -- the chain of an answer, or none
 abbrev pub chain_of : Reason → Option (List Link)

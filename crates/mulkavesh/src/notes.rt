@@ -10,7 +10,7 @@ use crate::numbers::add_grouped;
 use std::alloc::{AllocError, Global};
 use walrus_tools::{Kinds, Weighed, rest_of};
 
-/// What became of a module, in a line: `mulkavesh: 2,073 bytes become 1,991; dropped: 1 of 20 functions (60 bytes); the rest is 22 bytes less`.
+/// What became of a module, in a line: `mulkavesh: 2,073 bytes become 1,991; dropped: 1 of 20 functions (60 bytes); rest: 22 bytes less`.
 pub(crate) fn note_of(alloc: Global, told: &Weighed) -> Result<Vec<u8>, AllocError>
     ensures { IfOk result (λ note. note.items ≡ note_text told.now) }
 {
@@ -59,7 +59,7 @@ fn add_change(
 fn add_rest(alloc: Global, to: &mut Vec<u8>, rest: usize, written: usize) -> Result<(), AllocError>
     ensures { OnOk result (to.new.items ≡ to.old.items ++ rest_text rest written) }
 {
-    to.extend_from_slice(b"; the rest is ")?;
+    to.extend_from_slice(b"; rest: ")?;
     add_change(alloc, to, rest, written)
 }
 

@@ -73,11 +73,11 @@ fn add_alone(alloc: Global, to: &mut Vec<u8>, alone: Option<Alone>) -> Result<()
     let Some(alone) = alone else {
         return Ok(());
     };
-    to.extend_from_slice(b"it and what it alone keeps: ")?;
+    to.extend_from_slice(b"it and what it alone keeps: functions ")?;
     add_decimal(alloc, to, alone.functions as u64)?;
-    to.extend_from_slice(b" functions, ")?;
+    to.extend_from_slice(b", bytes ")?;
     add_decimal(alloc, to, alone.bytes as u64)?;
-    to.extend_from_slice(b" bytes\n")?;
+    to.extend_from_slice(b"\n")?;
     Ok(())
 }
 
