@@ -147,7 +147,7 @@ class Test:
         self.page.drop(path)
         self.page.wait(f"{AT_REST} || {ANSWERED}")
         first = time.monotonic() - begun
-        self.page.wait(AT_REST, 30)
+        self.page.wait(AT_REST)
         return first
 
     def run(self, path, *words):
