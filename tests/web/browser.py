@@ -25,7 +25,7 @@ sys.dont_write_bytecode = True
 sys.path.insert(0, str(pathlib.Path(__file__).resolve().parent))
 from chromium import Chromium, Page, Refused
 
-SECONDS_IN_ALL = 300
+SECONDS_IN_ALL = 400
 # A page that answers: so long at most from one tick to the next, while a module of 20 MB is at work.
 LONGEST_GAP = 1.0
 FIRST_ANSWER = 2.0
@@ -147,7 +147,7 @@ class Test:
         self.page.drop(path)
         self.page.wait(f"{AT_REST} || {ANSWERED}")
         first = time.monotonic() - begun
-        self.page.wait(AT_REST, 30)
+        self.page.wait(AT_REST)
         return first
 
     def run(self, path, *words):

@@ -139,7 +139,7 @@ class Page:
             raise Refused(answer["exceptionDetails"].get("exception", {}).get("description", "an exception"))
         return answer["result"].get("value")
 
-    def wait(self, expression, seconds=20):
+    def wait(self, expression, seconds=60):
         """Waits until an expression holds; answers how long that took."""
         begun = time.monotonic()
         while time.monotonic() < begun + seconds:
