@@ -1,5 +1,5 @@
 -- What is said of bytes that are refused.
-use Rattle.std.proofs.Common.{◌≡◌, ℕ, List}
+use Rattle.std.proofs.Common.{ℕ, List}
 use Rattle.std.specs.Prelude.{IfSome, Option, Some, None, Result, Err}
 use Rattle.std.specs.Global.{Vec}
 use Rattle.walrus_tools.specs.Facade.{Error, ReadsWhole}
