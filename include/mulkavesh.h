@@ -245,12 +245,12 @@ uint32_t mulkavesh_strip(const uint8_t *input, size_t input_length, const uint8_
  * leads to the item, from what is a root by itself down to the item. For each link a byte, a MULKAVESH_KIND_..; its index; the bytes that its body has in the output, or
  * MULKAVESH_NO_NAME of what isn't a function with a body; the length of its name or MULKAVESH_NO_NAME; the name; how many exports that stay are of it, and for each
  * of them the length of its name, and the name. Numbers are of 32 bits, little-endian, and indices those of the input. Which chain it is isn't promised, so
- * a second call may want more room than the first one told: call again with more until the room suffices. MULKAVESH_NOT_FOUND also where `function`
- * means nothing. */
+ * a second call may want more room than the first one told: call again with more until the room suffices. Of the flags MULKAVESH_NO_LEGACY alone has a
+ * say. MULKAVESH_NOT_FOUND also where `function` means nothing. */
 uint32_t mulkavesh_why(const uint8_t *input, size_t input_length, uint32_t flags, const uint8_t *choice, size_t choice_length,
                        const uint8_t *function, size_t function_length, uint8_t *output, size_t room, size_t *length);
 
-/* What stays and refers to the same item directly: links as mulkavesh_why tells them, by kind and index. */
+/* What stays and refers directly to the item that `function` means, by kind and index: links as mulkavesh_why tells them. */
 uint32_t mulkavesh_callers(const uint8_t *input, size_t input_length, uint32_t flags, const uint8_t *choice, size_t choice_length,
                            const uint8_t *function, size_t function_length, uint8_t *output, size_t room, size_t *length);
 

@@ -2,7 +2,8 @@
 //! include/mulkavesh.h declares them, and says what the caller owes.
 //!
 //! Read first: `src/lib.rt` (the calls) and `src/answer.rt` (status, room and length).
-//! Main clause: `mulkavesh_gc`, with `Gives` of `specs/Answer.antt`: what each status says of the answer, the room and the told length.
+//! Main clause: `mulkavesh_gc`, with `GivesChosen` of `specs/ChosenRoots.antt`, which is `Gives` of `specs/Answer.antt` under a choice of exports: what each
+//! status says of the answer, the room and the told length.
 #![tactic(auto)]
 
 mod answer;

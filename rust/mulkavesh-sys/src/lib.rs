@@ -384,7 +384,8 @@ extern "C" {
     /// [`MULKAVESH_NO_NAME`]; the name; how many exports that stay are of it, and for each of them the
     /// length of its name, and the name. Numbers are of 32 bits, little-endian, and indices those of
     /// the input. Which chain it is isn't promised: call again with more room until the room suffices.
-    /// [`MULKAVESH_NOT_FOUND`] also where `function` means nothing.
+    /// Of the flags [`MULKAVESH_NO_LEGACY`] alone has a say. [`MULKAVESH_NOT_FOUND`] also where
+    /// `function` means nothing.
     pub fn mulkavesh_why(
         input: *const u8,
         input_length: usize,
@@ -398,8 +399,8 @@ extern "C" {
         length: *mut usize,
     ) -> u32;
 
-    /// What stays and refers to the same item directly: links as [`mulkavesh_why`] tells them, by kind
-    /// and index.
+    /// What stays and refers directly to the item that `function` means, by kind and index: links as
+    /// [`mulkavesh_why`] tells them.
     pub fn mulkavesh_callers(
         input: *const u8,
         input_length: usize,

@@ -367,7 +367,8 @@ pub fn strip(input: &[u8], goes: &[&str], stays: &[&str]) -> Result<Vec<u8>, Err
 /// to it, and what would go with it.
 ///
 /// `function` is the index of a function, in decimal; or else the name of one, of which the first is
-/// meant; or else that of an export, and then its item is meant. Which chain it is isn't promised.
+/// meant; or else that of an export, and then its item is meant. Which chain it is isn't promised. Of
+/// the flags `no_legacy` alone has a say.
 ///
 /// # Errors
 ///
