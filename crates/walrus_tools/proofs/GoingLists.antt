@@ -1,5 +1,5 @@
 -- Whether bytes are a list of choices that all say that texts go, choice by choice.
-use Rattle.std.proofs.Common.{◌≡◌, ◌↔◌, ℕ, Bool, true, false, List, [], ◌∷◌, All, refl, sym, ap, ◌∙◌, subst}
+use Rattle.std.proofs.Common.{◌≡◌, ◌↔◌, ℕ, true, false, List, [], ◌∷◌, All, refl, sym, ap, ◌∙◌, subst}
 use Rattle.std.proofs.lemmas.List.Elements.{All-cons, All-nil, All-from_recursion, recursion_from_All}
 use Rattle.walrus_tools.specs.Choice.{AllGo, AreChoices, Choice, IsChoice}
 use Rattle.walrus_tools.proofs.Records.{no_front, one_choice}

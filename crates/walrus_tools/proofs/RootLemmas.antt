@@ -1,9 +1,9 @@
 -- What makes an item a root: what each search finds, and that a root is one by something.
-use Rattle.std.proofs.Common.{◌≡◌, ℕ, Bool, true, false, List, ◌∷◌, [], Option, Some, None, map, refl, sym, ap, ◌∙◌, subst, cond, eqb-true}
+use Rattle.std.proofs.Common.{◌≡◌, ℕ, Bool, true, false, List, ◌∷◌, [], Option, Some, None, map, refl, sym, ap, ◌∙◌, subst, eqb-true}
 use Rattle.std.specs.Prelude.{Contains, slice_get, is_some, nat_eq, option_map, if◌then◌else◌}
 use Rattle.walrus_base.specs.Arena.{entries, item_at, items}
 use Rattle.walrus_base.specs.Id.{place}
-use Rattle.walrus_base.specs.Operators.{Space, Types, Functions, Tables, Memories, Tags, Globals, Elements, DataSegments, Item, function_item}
+use Rattle.walrus_base.specs.Operators.{Space, Types, Tables, Memories, Tags, Globals, Elements, DataSegments, Item, function_item}
 use Rattle.walrus_base.specs.declared.id.Id.{Id}
 use Rattle.walrus_base.specs.declared.keys.DataKey.{DataKey}
 use Rattle.walrus_base.specs.declared.keys.ElementKey.{ElementKey}
@@ -13,15 +13,14 @@ use Rattle.walrus_code.specs.declared.items.ItemId.{ItemId}
 use Rattle.walrus_code.specs.declared.items.ItemId.TheVariants as items_of_kinds
 use Rattle.walrus_base.proofs.Lists.{Contains-map, Contains-none}
 use Rattle.walrus_base.proofs.SearchFound.{found-item, found-passes}
-use Rattle.walrus_base.proofs.Standing.{some_inj}
-use Rattle.walrus_model.specs.Abstract.{Abstract, DataSegment, Element, Export, ActiveElements, DeclaredElements, PassiveElements, ActiveData, PassiveData, ElementKind, DataKind}
+use Rattle.walrus_model.specs.Abstract.{Abstract, DataSegment, Element, Export, ActiveElements, DeclaredElements, PassiveElements, ElementKind, DataKind}
 use Rattle.walrus_model.specs.Roots.{IsRoot, IsRootData, IsRootElement, exported, start, data_segment, element_segment, asked_for}
 use Rattle.walrus_model.proofs.Reach.{Contains-unmap}
 use Rattle.walrus_model.proofs.Slots.{entry_in}
 use Rattle.walrus_items.specs.Data.{DataValue, data_segments}
 use Rattle.walrus_items.specs.Elements.{ElementValue, elements}
 use Rattle.walrus_items.specs.Exports.{ExportValue, exports, exports_item}
-use Rattle.walrus_items.specs.Items.{is_item, space_number}
+use Rattle.walrus_items.specs.Items.{is_item}
 use Rattle.walrus_items.specs.Kinds.{exported as exported_item}
 use Rattle.walrus_items.specs.Searches.{first}
 use Rattle.walrus_items.specs.declared.kinds.ExportItem.{ExportItem}
@@ -34,7 +33,7 @@ use Rattle.walrus_contents.specs.View.{contents_view, data_kind_of, data_of, ele
 use Rattle.walrus_contents.specs.declared.parts.Contents.{Contents}
 use Rattle.walrus_theorem.proofs.EditKept.{none_isnt, some_is}
 use Rattle.walrus_tools.proofs.ImportMatches.{finds}
-use Rattle.walrus_tools.specs.Links.{IsActive, IsActiveKind, IsDeclared, IsExported, IsRootBy, IsStart}
+use Rattle.walrus_tools.specs.Links.{IsActive, IsActiveKind, IsDeclared, IsExported, IsStart}
 use Rattle.walrus_tools.specs.RootSteps.{FindsChainRoot, FindsRoot, by_data, by_data_kind, by_element, by_element_kind, by_start}
 use Rattle.walrus_tools.specs.declared.roots.Root.{Root}
 use Rattle.walrus_tools.specs.declared.roots.Root.TheVariants as roots

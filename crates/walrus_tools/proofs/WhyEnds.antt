@@ -2,20 +2,18 @@
 -- refusal.
 use Rattle.std.proofs.Common.{◌≡◌, ℕ, ◌<◌, ◌≤◌, ◌^◌, Bool, true, false, length, arith, List, [], ◌∷◌, Option, Some, None, map, refl, sym, ap, ◌∙◌, subst, inl, inr}
 use Rattle.std.specs.Global.{Vec}
-use Rattle.std.specs.Prelude.{Contains, IsSome, Result, Ok, Err, option_map, ◌↔◌}
+use Rattle.std.specs.Prelude.{IsSome, Result, Ok, Err, option_map}
 use Rattle.walrus_base.specs.Arena.{item_at}
-use Rattle.walrus_base.specs.Operators.{Types, Functions, Tables, Memories, Tags, Globals, Elements, DataSegments, Item, function_item}
+use Rattle.walrus_base.specs.Operators.{Item}
 use Rattle.walrus_base.specs.declared.keys.FunctionKey.{FunctionKey}
 use Rattle.walrus_base.specs.declared.locals.ModuleLocals.{ModuleLocals}
 use Rattle.walrus_base.specs.declared.marks.Marks.{Marks}
 use Rattle.walrus_code.specs.Transform.{Transform}
 use Rattle.walrus_model.specs.Abstract.{Abstract, Custom}
 use Rattle.walrus_model.specs.Config.{Config}
-use Rattle.walrus_model.specs.Live.{IsLive}
 use Rattle.walrus_model.specs.Names.{body_of_function, body_of_kind}
 use Rattle.walrus_model.specs.Pipeline.{Collected}
 use Rattle.walrus_model.specs.Reached.{Reached}
-use Rattle.walrus_model.specs.Refers.{Refers}
 use Rattle.walrus_model.specs.Roots.{IsRoot, exported, start, data_segment, element_segment, asked_for}
 use Rattle.walrus_items.specs.Exports.{exports}
 use Rattle.walrus_items.specs.Functions.{FunctionValue, functions}
@@ -51,7 +49,7 @@ use Rattle.walrus.specs.Collected.{Collects}
 use Rattle.walrus.specs.Marked.{ReachesUnsound}
 use Rattle.walrus.specs.Used.{RefusesSearch}
 use Rattle.walrus.specs.Why.{Explains}
-use Rattle.walrus_tools.specs.Alone.{IsAlone, bytes_of}
+use Rattle.walrus_tools.specs.Alone.{bytes_of}
 use Rattle.walrus_tools.specs.AloneSteps.{HoldsSame, alone_in}
 use Rattle.walrus_tools.specs.Callers.{AreCallers, HasUnsound}
 use Rattle.walrus_tools.specs.Choice.{Choice}
@@ -63,10 +61,9 @@ use Rattle.walrus_tools.specs.ItemMeaning.{FindsItem, MeansIn, MeansItem}
 use Rattle.walrus_tools.specs.LinkSteps.{AreRising}
 use Rattle.walrus_tools.specs.Links.{IsRootBy, LinkTold, TellsRoot, link_of}
 use Rattle.walrus_tools.specs.Measures.{IsMeasured}
-use Rattle.walrus_tools.specs.ReasonAnswers.{AnswersCallers, AnswersWhy, AreAsked, IsAsked, IsReachedBody, IsReasoned, MeansNothing, RefusesText, TellsAlone}
-use Rattle.walrus_tools.specs.ReasonBytes.{ReasonTold}
-use Rattle.walrus_tools.specs.ReasonSteps.{FindsGoers, HasNoBodyAt, RefusesGoers, TellsGoers}
-use Rattle.walrus_tools.specs.RootSteps.{FindsChainRoot, FindsRoot}
+use Rattle.walrus_tools.specs.ReasonAnswers.{AnswersCallers, AnswersWhy, AreAsked, IsAsked, IsReasoned, RefusesText, TellsAlone}
+use Rattle.walrus_tools.specs.ReasonSteps.{RefusesGoers, TellsGoers}
+use Rattle.walrus_tools.specs.RootSteps.{FindsChainRoot}
 use Rattle.walrus_tools.specs.declared.goers.Alone.{Alone}
 use Rattle.walrus_tools.specs.declared.roots.Root.{Root}
 use Rattle.walrus_tools.specs.declared.roots.Root.TheVariants as roots

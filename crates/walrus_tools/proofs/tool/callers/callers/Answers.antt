@@ -1,8 +1,6 @@
 use Rattle.std.proofs.Common.{◌≡◌, ℕ, List, ap, ap₂, refl, ◌∙◌, subst, sym}
 use Rattle.std.proofs.lemmas.Result.{err_from_is_err_and}
-use Rattle.std.specs.Prelude.{Err, Ok, map, option_map}
-use Rattle.walrus_base.specs.declared.keys.FunctionKey.{FunctionKey}
-use Rattle.walrus_base.specs.declared.marks.Marks.{Marks}
+use Rattle.std.specs.Prelude.{Err, Ok, map}
 use Rattle.walrus_code.specs.Code.{item_of}
 use Rattle.walrus_model.specs.Abstract.{Abstract}
 use Rattle.walrus_contents.specs.Named.{items_in}

@@ -1,4 +1,4 @@
-use Rattle.std.proofs.Common.{List, Option, Result, subst, sym}
+use Rattle.std.proofs.Common.{Option, subst, sym}
 use Rattle.std.specs.Global.{Vec}
 use Rattle.std.specs.Prelude.{IfErr, OnOk}
 use Rattle.walrus_tools.specs.Links.{links_in}
