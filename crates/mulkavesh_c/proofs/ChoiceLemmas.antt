@@ -23,13 +23,6 @@ untrue h = cc
 pub under_choices : (bytes : List ℕ) (held : List Choice) → AreChoices bytes held → (Answers : List Choice → Answer → Type 0) (answer : Answer) → Answers held answer → UnderChoices bytes Answers answer
 under_choices bytes held held_are Answers answer answers = λ choices are. subst (λ (cs : List Choice). Answers cs answer) (one_list held choices bytes held_are are) answers
 
--- where no choices could be read, nothing is asked of the answer but for want of memory
-pub under_none : (bytes : List ℕ) (Answers : List Choice → Answer → Type 0) (e : Error) → LacksChoices bytes e → ((choices : List Choice) (m : AllocError) → Answers choices (Err (Memory m))) → UnderChoices bytes Answers (Err e)
-under_none bytes Answers (Memory m) lacks passes = λ choices are. passes choices m
-under_none bytes Answers (InvalidWasm kind) lacks passes = λ choices are. absurd (lacks (choices, are))
-under_none bytes Answers TooLarge lacks passes = λ choices are. absurd (lacks (choices, are))
-under_none bytes Answers _ lacks passes = λ choices are. absurd (lacks (choices, are))
-
 -- ---- a choice of exports
 
 -- a refusal that says which number is wanted isn't there is none of the exports that don't fit

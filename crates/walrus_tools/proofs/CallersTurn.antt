@@ -176,10 +176,6 @@ unsound_refused v x live _ h = absurd h
 numbers_same : (s t : Space) → space_number s ≡ space_number t → s ≡ t
 numbers_same s t same = ap (λ (x : Item). x.0) (is_item-same (s, 0) (t, 0) (ap (λ (b : Bool). b && true) (eq-eqb (space_number s) (space_number t) same)))
 
-before_itself : (s : Space) (i j : ℕ) → IsBefore (s, i) (s, j) → i < j
-before_itself s i j (inl less) = absurd (omega (arith, less))
-before_itself s i j (inr (same, less)) = less
-
 module _ (v : Abstract) (y : Item) where
   abbrev Calls : Item → Type 0
   Calls x = IsLive v x × Refers v x y

@@ -63,19 +63,6 @@ next_grouped all e old new grouped adds x =
 
 -- ---- lists
 
--- behind what is told of those before stands what is told of the next
-pub told_more : {W X Y : Type 0} (f : W → Y) (seen : X → Y) (all : List W) (i : ℕ) (w : W) → i < length all → w ≡ get_or all i w → (old new : List X) (x : X) → new ≡ old ++ x ∷ []
-    → map seen old ≡ map f (take i all) → seen x ≡ f w → map seen new ≡ map f (take (i + 1) all)
-told_more f seen all i w lt at old new x is were same =
-    ap (map seen) is ∙ map-append seen old (x ∷ []) ∙ ap₂ (λ ys y. ys ++ y ∷ []) were (same ∙ ap f at) ∙ sym (map_more f all i w lt)
-
--- the same of items by their ids
-pub item_told_more : {W Z X Y : Type 0} (h : W → Z) (f : Z → Y) (seen : X → Y) (all : List W) (i : ℕ) (w : W) → i < length all → w ≡ get_or all i w → (old new : List X) (x : X) → new ≡ old ++ x ∷ []
-    → map seen old ≡ map f (map h (take i all)) → seen x ≡ f (h w) → map seen new ≡ map f (map h (take (i + 1) all))
-item_told_more h f seen all i w lt at old new x is were same =
-    ap (map seen) is ∙ map-append seen old (x ∷ []) ∙ ap₂ (λ ys y. ys ++ y ∷ []) were (same ∙ ap (λ v. f (h v)) at)
-    ∙ sym (map-append f (map h (take i all)) (h (get_or all i w) ∷ [])) ∙ sym (ap (map f) (map_more h all i w lt))
-
 -- ---- one link
 
 -- the names under which a module exports an item

@@ -51,13 +51,6 @@ not_named x none all = by (first (exports_item x) all) refl where
   by None found = refl
   by (Some e) found = absurd (none e.1.item (is_item-same (exported_item e.1.item) x (found-passes (λ (d : ℕ × ExportValue). exports_item x d.1) all e found)))
 
--- what is found has a place
-pub found_place : {K : Type 0} (r : Option (Id K)) (o : Option (ℕ × ExportValue)) → option_map place r ≡ option_map (λ (e : ℕ × ExportValue). e.0) o → is_some r ≡ is_some o
-found_place None None same = refl
-found_place (Some id) (Some e) same = refl
-found_place None (Some e) same = absurd (none_isnt same)
-found_place (Some id) None same = absurd (none_isnt (sym same))
-
 module _ (c : Contents) (x : Item) where
   abbrev v : Abstract
   v = contents_view c
