@@ -17,3 +17,4 @@ mod tag;
 pub use pieces::{Pieced, RawPiece, one_row, pieces_until};
 pub use read::{Framed, framed_until, one_place, one_record, read_module};
 pub use record::{Raw, RawBody, RawCustom};
+pub use section::{RawSection, read_content};

@@ -99,9 +99,11 @@ fn read_number(bytes: &[u8]) -> Result<u32, WireError>
     }
 }
 
-/// The content of a section with this id, from this place on.
+/// The content of a section with this id that all of these bytes are, the first of which stands at this place (Binary Format > Modules > Sections).
+/// Places are told of bodies alone.
+/// `Malformed` where no section has this id, or the bytes aren't the content of one.
 #[tactic(auto, unfolding(crate::specs::Steps::content_at, crate::specs::Steps::content_of))]
-fn read_content<'a>(
+pub fn read_content<'a>(
     alloc: Global,
     id: u8,
     place: usize,
