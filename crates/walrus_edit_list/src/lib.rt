@@ -1,0 +1,12 @@
+//! A list of edits, read from bytes, and a module changed by them, each in its turn.
+//!
+//! Read first: `src/edit.rt` (what an edit is), `specs/Edits.antt` (which bytes say it) and `specs/Makes.antt` (what it makes of a module).
+//! Main clause: `apply_all` of `src/list.rt` promises `AppliesAll`: the bytes are a list of edits, each of which was made of what the one before left;
+//! refused, so many are, and the next one isn't one, or can't be made of that.
+#![tactic(auto)]
+
+mod beside;
+mod edit;
+
+pub use beside::Beside;
+pub use edit::{Deletion, Edit, Naming, Replacement};
