@@ -7,6 +7,13 @@
 
 mod beside;
 mod edit;
+mod law;
+pub mod numbers;
+mod read;
+mod read_names;
+mod read_settings;
 
 pub use beside::Beside;
 pub use edit::{Deletion, Edit, Naming, Replacement};
+pub use law::one_list;
+pub use read::read_edit;
