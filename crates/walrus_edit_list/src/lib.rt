@@ -6,7 +6,15 @@
 #![tactic(auto)]
 
 mod beside;
+mod customs;
 mod edit;
+mod exports;
+mod ids;
+mod imports;
+mod names;
+mod numbers;
+mod producers;
+mod start;
 
 pub use beside::Beside;
 pub use edit::{Deletion, Edit, Naming, Replacement};
