@@ -1,2 +1,11 @@
+pub mod Customs
 pub mod Edits
+pub mod Exports
 pub mod Held
+pub mod Ids
+pub mod Imports
+pub mod Naming
+pub mod Places
+pub mod Producing
+pub mod Start
+pub mod Turns

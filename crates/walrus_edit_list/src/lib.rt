@@ -6,12 +6,20 @@
 #![tactic(auto)]
 
 mod beside;
+mod customs;
 mod edit;
 mod law;
 pub mod numbers;
 mod read;
 mod read_names;
 mod read_settings;
+mod exports;
+mod ids;
+mod imports;
+mod names;
+mod numbers;
+mod producers;
+mod start;
 
 pub use beside::Beside;
 pub use edit::{Deletion, Edit, Naming, Replacement};
