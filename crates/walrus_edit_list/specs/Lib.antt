@@ -1,2 +1,4 @@
+pub mod Constants
 pub mod Edits
 pub mod Held
+pub mod Ids

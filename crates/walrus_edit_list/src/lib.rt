@@ -6,7 +6,9 @@
 #![tactic(auto)]
 
 mod beside;
+mod constants;
 mod edit;
+mod ids;
 
 pub use beside::Beside;
 pub use edit::{Deletion, Edit, Naming, Replacement};
