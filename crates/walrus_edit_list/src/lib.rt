@@ -7,8 +7,12 @@
 
 mod beside;
 mod constants;
+mod data;
 mod edit;
+mod elements;
+mod globals;
 mod ids;
+mod memories;
 
 pub use beside::Beside;
 pub use edit::{Deletion, Edit, Naming, Replacement};
