@@ -11,7 +11,9 @@ use Rattle.walrus_contents.specs.declared.parts.Contents.{Contents}
 use Rattle.walrus_items.specs.Data.{DataValue, data_segments}
 use Rattle.walrus_items.specs.Memories.{MemoryValue, memories}
 use Rattle.walrus_items.specs.declared.error.Error.{Error}
-use Rattle.walrus_model.specs.Abstract.{ActiveData, DataKind, DataSegment, PassiveData}
+use Rattle.walrus_items.specs.declared.segments.DataKind.{DataKind}
+use Rattle.walrus_model.specs.Abstract.{ActiveData, DataSegment, PassiveData}
+use Rattle.walrus_model.specs.Abstract as abstract
 use Rattle.walrus_model.specs.Sections as said
 use Rattle.walrus_edit_list.specs.Ids.{HasTooMany, ids_of}
 use Rattle.walrus_edit_list.specs.InTurn.{InTurn}
@@ -20,7 +22,7 @@ use Rattle.walrus_edit_list.specs.SegmentSets.{changed_at, memory_in, memory_wit
 
 module _ (names : Lookup) (slots : List (Option MemoryValue)) where
   -- how data is used, with the id for each number, where the memory is there
-  abbrev pub data_kind_there : DataKind → Option DataKind
+  abbrev pub data_kind_there : abstract.DataKind → Option abstract.DataKind
   data_kind_there PassiveData = Some PassiveData
   data_kind_there (ActiveData memory offset) = there slots (names Memories memory) >>= λ at. named_const names offset >>= λ ops. Some (ActiveData at ops)
 
@@ -29,7 +31,7 @@ module _ (names : Lookup) (slots : List (Option MemoryValue)) where
   data_there d = data_kind_there d.kind >>= λ kind. Some (record { kind = kind; value = d.value })
 
 -- the memory that data of this kind is active in has the segment in its set, or hasn't
-abbrev pub in_memory : Bool → DataKind → ℕ → List (Option MemoryValue) → List (Option MemoryValue)
+abbrev pub in_memory : Bool → abstract.DataKind → ℕ → List (Option MemoryValue) → List (Option MemoryValue)
 in_memory is_in kind segment slots = changed_at (memory_with is_in segment) (memory_in kind) slots
 
 -- a segment that an entry says stands behind the others, and is in the set of its memory
