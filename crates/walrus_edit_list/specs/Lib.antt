@@ -9,3 +9,14 @@ pub mod Places
 pub mod Producing
 pub mod Start
 pub mod Turns
+pub mod Constants
+pub mod Data
+pub mod Edits
+pub mod Elements
+pub mod Globals
+pub mod Held
+pub mod Ids
+pub mod InTurn
+pub mod Memories
+pub mod Refuses
+pub mod SegmentSets

@@ -20,6 +20,13 @@ mod names;
 mod numbers;
 mod producers;
 mod start;
+mod constants;
+mod data;
+mod edit;
+mod elements;
+mod globals;
+mod ids;
+mod memories;
 
 pub use beside::Beside;
 pub use edit::{Deletion, Edit, Naming, Replacement};
