@@ -6,9 +6,13 @@
 #![tactic(auto)]
 
 mod beside;
+mod bring;
 mod constants;
 mod edit;
+mod front;
+mod functions;
 mod ids;
+mod types;
 
 pub use beside::Beside;
 pub use edit::{Deletion, Edit, Naming, Replacement};
