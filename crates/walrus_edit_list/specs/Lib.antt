@@ -20,3 +20,11 @@ pub mod InTurn
 pub mod Memories
 pub mod Refuses
 pub mod SegmentSets
+pub mod Bringing
+pub mod Constants
+pub mod Edits
+pub mod Fronts
+pub mod Functions
+pub mod Held
+pub mod Ids
+pub mod Types

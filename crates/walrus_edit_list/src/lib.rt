@@ -27,6 +27,13 @@ mod elements;
 mod globals;
 mod ids;
 mod memories;
+mod bring;
+mod constants;
+mod edit;
+mod front;
+mod functions;
+mod ids;
+mod types;
 
 pub use beside::Beside;
 pub use edit::{Deletion, Edit, Naming, Replacement};
