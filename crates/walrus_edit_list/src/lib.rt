@@ -6,33 +6,27 @@
 #![tactic(auto)]
 
 mod beside;
-mod customs;
-mod edit;
-mod law;
-pub mod numbers;
-mod read;
-mod read_names;
-mod read_settings;
-mod exports;
-mod ids;
-mod imports;
-mod names;
-mod numbers;
-mod producers;
-mod start;
+mod bring;
 mod constants;
+mod customs;
 mod data;
 mod edit;
 mod elements;
-mod globals;
-mod ids;
-mod memories;
-mod bring;
-mod constants;
-mod edit;
+mod exports;
 mod front;
 mod functions;
+mod globals;
 mod ids;
+mod imports;
+mod law;
+mod memories;
+mod names;
+pub mod numbers;
+mod producers;
+mod read;
+mod read_names;
+mod read_settings;
+mod start;
 mod types;
 
 pub use beside::Beside;
