@@ -20,3 +20,12 @@ pub mod WholeLemmas
 pub mod ListedRoots
 pub mod MoveLemmas
 pub mod StateLemmas
+pub mod Base
+pub mod Contents
+pub mod Items
+pub mod Model
+pub mod Module
+pub mod Theorem
+pub mod Forms
+pub mod Frames
+pub mod Operators

@@ -20,3 +20,14 @@ pub mod Whole
 pub mod Listed
 pub mod Places
 pub mod PlacesLaws
+pub mod Base
+pub mod Code
+pub mod Contents
+pub mod Ir
+pub mod Items
+pub mod Model
+pub mod Module
+pub mod Theorem
+pub mod Forms
+pub mod Frames
+pub mod Operators
