@@ -20,6 +20,10 @@ pub mod WholeLemmas
 pub mod ListedRoots
 pub mod MoveLemmas
 pub mod StateLemmas
+pub mod FinishLemmas
+pub mod AnswerLemmas
+pub mod EditEnds
+pub mod FreeNames
 pub mod Base
 pub mod Contents
 pub mod Items

@@ -20,6 +20,11 @@ pub mod Whole
 pub mod Listed
 pub mod Places
 pub mod PlacesLaws
+pub mod Ends
+pub mod Ready
+pub mod Edits
+pub mod Edited
+pub mod Wanted
 pub mod Base
 pub mod Code
 pub mod Contents
