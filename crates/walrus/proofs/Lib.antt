@@ -28,7 +28,7 @@ pub mod Base
 pub mod Contents
 pub mod Items
 pub mod Model
-pub mod Module
+pub mod Modules
 pub mod Theorem
 pub mod Forms
 pub mod Frames

@@ -31,7 +31,7 @@ pub mod Contents
 pub mod Ir
 pub mod Items
 pub mod Model
-pub mod Module
+pub mod Modules
 pub mod Theorem
 pub mod Forms
 pub mod Frames
