@@ -28,3 +28,4 @@ pub mod Checked
 pub mod CheckedWell
 pub mod FirstRaw
 pub mod RawStays
+mod TakenRaws
