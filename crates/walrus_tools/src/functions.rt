@@ -7,8 +7,12 @@ ghost use Rattle.walrus_tools.specs.Reasons.{FindsFunction};
 
 use walrus::{Error, FunctionId, ModuleExports, ModuleFunctions, Result};
 
-/// The function of this index. `NotFound` is the only error.
-pub(crate) fn function_at(all: &ModuleFunctions, function: u32) -> Result<FunctionId>
+/// The function of this index.
+///
+/// # Errors
+///
+/// `NotFound` alone, and only where there is none.
+pub fn function_at(all: &ModuleFunctions, function: u32) -> Result<FunctionId>
     ensures { FindsFunction (functions all.now) function result }
 {
     let id = FunctionId::at(function as usize);

@@ -22,7 +22,11 @@ pub struct Chain {
 }
 
 /// The lines of the chain, or the one that the item isn't reached, and then those of the functions.
-pub(crate) fn report(
+///
+/// # Errors
+///
+/// Where memory runs out, and never else.
+pub fn chain_report(
     alloc: Global,
     chain: &Chain,
     transform: &CodeTransform,

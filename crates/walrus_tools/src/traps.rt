@@ -7,8 +7,12 @@ ghost use Rattle.walrus_items.specs.Errors.{out_of_memory};
 
 use walrus::{InstrSeqBuilder, Result};
 
-/// Puts a trap behind what was built. `Memory` is the only error.
-pub(crate) fn put_trap(body: &mut InstrSeqBuilder) -> Result<()>
+/// Puts a trap behind what was built.
+///
+/// # Errors
+///
+/// `Memory` alone.
+pub fn put_trap(body: &mut InstrSeqBuilder) -> Result<()>
     ensures { MatchResult result (λ _. built body.new ≡ built body.old ++ unreachable_op ∷ [])
         (λ e. e ≡ out_of_memory) }
 {
