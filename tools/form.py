@@ -222,6 +222,7 @@ def wrong_in_lemmas():
     """Files of lemmas that speak of one crate and what it stands on, and stand above it."""
     listed, handed = listed_crates(), handed_on()
     files = {(path.parts[-3], path.stem): path.read_text(encoding="utf-8") for path in CRATES.glob("*/proofs/*.antt") if path.stem != "Lib"}
+    files = {key: text for key, text in files.items() if re.search(r"(?m)^(?!pub use|--|$)", text)}
 
     @functools.cache
     def below(crate):

@@ -9,7 +9,8 @@ use Rattle.walrus.specs.Model.Kept.{Kept}
 use Rattle.walrus.specs.Model.Names.{body_of}
 use Rattle.walrus.specs.Model.Renaming.{Renaming, renamed_op}
 use Rattle.walrus.specs.Theorem.Headline.{ComesTo}
-use Rattle.walrus_tools.specs.Moves.{Moves, OperatorStands, StandsIn}
+use Rattle.walrus_tools.specs.Stands.{StandsIn}
+use Rattle.walrus_examples.specs.Moves.{Moves, OperatorStands}
 use Rattle.walrus.proofs.Model.Looked.{at_map, map_at}
 use Rattle.walrus_examples.proofs.OneNumber.{comes_out, out_numbers}
 use Rattle.walrus_tools.proofs.PlacedOps.{place_there, row_in, stands_in}

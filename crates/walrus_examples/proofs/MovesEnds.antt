@@ -36,7 +36,7 @@ use Rattle.walrus.specs.Modules.View.{held_view, locations_of, view}
 use Rattle.walrus.specs.Modules.SectionEntry.{SectionEntry}
 use Rattle.walrus.specs.Modules.Module.{Module}
 use Rattle.walrus.specs.Collected.{KeepsOnly}
-use Rattle.walrus_tools.specs.Moves.{TellsMoves}
+use Rattle.walrus_examples.specs.Moves.{TellsMoves}
 use Rattle.walrus_examples.proofs.MovesTrue.{tells_moves}
 use Rattle.walrus_tools.proofs.PlacedOps.{RowIn, Text, located_in}
 

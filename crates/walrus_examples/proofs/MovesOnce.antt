@@ -13,7 +13,7 @@ use Rattle.walrus.proofs.Base.Standing.{some_inj}
 use Rattle.walrus.specs.Theorem.Headline.{ComesTo, ReadsModule}
 use Rattle.walrus.proofs.Theorem.ReadsOnce.{reads_once_lem}
 use Rattle.walrus.proofs.Model.RisingLists.{same_members}
-use Rattle.walrus_tools.specs.Moves.{Moves, MovesOnce, OperatorStands, TellsMoves}
+use Rattle.walrus_examples.specs.Moves.{Moves, MovesOnce, OperatorStands, TellsMoves}
 use Rattle.walrus.proofs.Model.Looked.{map_at}
 use Rattle.walrus_examples.proofs.OneNumber.{Numbers, comes_out, numbers_one, out_numbers}
 use Rattle.walrus_examples.proofs.ReadBodies.{has_function, op_stands}

@@ -20,7 +20,8 @@ use Rattle.walrus.specs.Theorem.Chain.{Leaves, ParsedAs}
 use Rattle.walrus.specs.Theorem.Headline.{ComesTo, ReadsModule}
 use Rattle.walrus.proofs.Theorem.StepRead.{steps_come_out_lem}
 use Rattle.walrus.specs.Modules.Transform.{CountStandsAt, IsTransformOf, OperatorsStandAt, imported_functions}
-use Rattle.walrus_tools.specs.Moves.{Moves, StandsIn, TellsMoves}
+use Rattle.walrus_tools.specs.Stands.{StandsIn}
+use Rattle.walrus_examples.specs.Moves.{Moves, TellsMoves}
 use Rattle.walrus_tools.proofs.BodiesRise.{one_body}
 use Rattle.walrus_examples.proofs.EachMoves.{each_moves}
 use Rattle.walrus.proofs.Model.Looked.{at_map, got_contains, map_at}

@@ -18,7 +18,8 @@ use Rattle.walrus.specs.Theorem.Headline.{ReadsBody, ReadsModule}
 use Rattle.walrus.proofs.Theorem.TextShaped.{all_at}
 use Rattle.walrus.proofs.Modules.AllHeld.{IsImported, all_imported}
 use Rattle.walrus.specs.Modules.Transform.{imported_functions}
-use Rattle.walrus_tools.specs.Moves.{OperatorStands, StandsIn}
+use Rattle.walrus_tools.specs.Stands.{StandsIn}
+use Rattle.walrus_examples.specs.Moves.{OperatorStands}
 use Rattle.walrus.proofs.Model.Looked.{at_map, map_at, unzipped}
 use Rattle.walrus.proofs.Model.OwnOps.{declared_itself, locals_itself, ops_itself}
 use Rattle.walrus_tools.proofs.PlacedOps.{RowIn, Text, in_row, row_in, same_texts}

@@ -5,6 +5,7 @@ pub mod ListAnswers
 pub mod ListSection
 pub mod ListSteps
 pub mod Metadata
+pub mod Moves
 pub mod PlacesSection
 pub mod Snip
 pub mod SnipAnswers

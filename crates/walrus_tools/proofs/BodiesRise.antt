@@ -6,7 +6,7 @@ use Rattle.wasm_frames.specs.Frames.{Section, CustomSection, Types, Imports, Fun
 use Rattle.walrus_base.specs.Operators.{Op}
 use Rattle.walrus_base.proofs.Standing.{some_inj}
 use Rattle.walrus_base.proofs.Agree.{Compared, compared}
-use Rattle.walrus_tools.specs.Moves.{StandsIn}
+use Rattle.walrus_tools.specs.Stands.{StandsIn}
 use Rattle.walrus_tools.proofs.PlacedOps.{begins_within}
 
 -- the bodies stand one behind another from p on, and end by q

@@ -21,7 +21,7 @@ use Rattle.walrus_base.proofs.Standing.{some_inj}
 use Rattle.walrus_module.specs.Located.{IsPlace}
 use Rattle.walrus_base.proofs.Agree.{Compared, compared}
 use Rattle.walrus_writing.specs.Transform.{OperatorsStandAt}
-use Rattle.walrus_tools.specs.Moves.{StandsIn}
+use Rattle.walrus_tools.specs.Stands.{StandsIn}
 
 abbrev pub Text : Type 0
 Text = operators.Op

@@ -24,7 +24,6 @@ pub mod LinkSteps
 pub mod Links
 pub mod MarkSteps
 pub mod Measures
-pub mod Moves
 pub mod NameLists
 pub mod Numbers
 pub mod PartList
@@ -37,6 +36,7 @@ pub mod Reasons
 pub mod RootSteps
 pub mod Sections
 pub mod Spelled
+pub mod Stands
 pub mod StripAnswers
 pub mod StripSteps
 pub mod Stub

@@ -5,7 +5,7 @@ ghost use Rattle.walrus.specs.Headline.{RunsOn};
 ghost use Rattle.walrus.specs.Modules.Flags.{config_of, defaults};
 ghost use Rattle.walrus.specs.Items.Errors.{out_of_memory};
 ghost use Rattle.walrus.specs.Items.Transform.{location_of};
-ghost use Rattle.walrus_tools.specs.Moves.{TellsMoves};
+ghost use Rattle.walrus_examples.specs.Moves.{TellsMoves};
 
 use std::alloc::Global;
 use walrus::passes::gc;

@@ -1,36 +1,13 @@
 -- Where the operators of a module stand, and where those of the functions that gc keeps come to stand ("Binary Format > Modules > Code Section").
-use Rattle.std.specs.Prelude.{ℕ, ◌+◌, ◌-◌, ◌^◌, ◌<◌, List, ◌++◌, length, AllPairs, Contains, Some, slice_get, ◌≡◌, ◌↔◌}
-use Rattle.wasm_forms.specs.declared.types.RawVal.{RawVal}
-use Rattle.wasm_forms.specs.Grammar.{Is, IsRow}
-use Rattle.wasm_operators.specs.Operators as operators
-use Rattle.wasm_operators.specs.Forms.{operator}
-use Rattle.wasm_frames.specs.Record as wire
-use Rattle.walrus_base.specs.Operators.{Functions, Op}
-use Rattle.walrus_code.specs.FromRaw.{op_of}
-use Rattle.walrus_bodies.specs.Body.{declarations}
-use Rattle.walrus_model.specs.Config.{Config}
-use Rattle.walrus_model.specs.Kept.{Kept}
-use Rattle.walrus_model.specs.Renaming.{renamed_op}
-use Rattle.walrus_theorem.specs.Headline.{ComesTo}
-use Rattle.walrus_writing.specs.Transform.{imported_functions}
-
--- The bytes of a body begin with declarations of locals; behind these stand k operators, and then this one. Its first byte has this place
--- among the bytes of the module ("Binary Format > Instructions > Expressions").
-pub record StandsIn (body : wire.Body) (k place : ℕ) (o : Op) : Type 0 where
-  pub locals : List ℕ
-  pub declared : List (ℕ × RawVal)
-  pub declares : Is declarations locals declared
-  pub front : List ℕ
-  pub before : List operators.Op
-  pub leads : IsRow (Is operator) front before
-  pub counted : length before ≡ k
-  pub own : List ℕ
-  pub text : operators.Op
-  pub spelled : Is operator own text
-  pub says : op_of text ≡ o
-  pub behind : List ℕ
-  pub parts : body.bytes ≡ locals ++ (front ++ (own ++ behind))
-  pub stands : place ≡ body.start + length locals + length front
+use Rattle.std.specs.Prelude.{ℕ, ◌+◌, ◌-◌, ◌^◌, ◌<◌, List, AllPairs, Contains, Some, slice_get, ◌≡◌, ◌↔◌}
+use Rattle.walrus.specs.Frames.Record as wire
+use Rattle.walrus.specs.Base.Operators.{Functions, Op}
+use Rattle.walrus.specs.Model.Config.{Config}
+use Rattle.walrus.specs.Model.Kept.{Kept}
+use Rattle.walrus.specs.Model.Renaming.{renamed_op}
+use Rattle.walrus.specs.Theorem.Headline.{ComesTo}
+use Rattle.walrus.specs.Modules.Transform.{imported_functions}
+use Rattle.walrus_tools.specs.Stands.{StandsIn}
 
 -- function f of these sections has a body, of which operator number k is this one, and stands at this place
 pub record OperatorStands (s : wire.Module) (f k place : ℕ) (o : Op) : Type 0 where
