@@ -1,4 +1,4 @@
-use Rattle.walrus_tools.proofs.MovesOnce as all
+use Rattle.walrus_examples.proofs.MovesOnce as all
 use Rattle.walrus_examples.proofs.law.moves_once.Goals as goal
 
 pub returns : goal.returns
