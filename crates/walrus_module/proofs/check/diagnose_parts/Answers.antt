@@ -1,9 +1,9 @@
-use Rattle.std.proofs.Common.{sym, ◌∙◌}
+use Rattle.std.proofs.Common.{sym, subst, ◌∙◌}
 use Rattle.std.proofs.lemmas.Result.{err_from_is_err_and}
 use Rattle.walrus_contents.specs.View.{lent, parts_view}
 use Rattle.walrus_module.proofs.Checked.{all_pass, live_refused, plan_refused}
 use Rattle.walrus_module.proofs.FormsTested.{has_unspelled}
-use Rattle.walrus_module.proofs.check.check_parts.Goals as goal
+use Rattle.walrus_module.proofs.check.diagnose_parts.Goals as goal
 
 pub returns-in_err-check_live : goal.returns-in_err-check_live
 returns-in_err-check_live c =
@@ -18,10 +18,10 @@ returns-in_err-prepared c =
 pub returns-then-not-are_forms_spelled : goal.returns-then-not-are_forms_spelled
 returns-then-not-are_forms_spelled c = has_unspelled (lent c.args.parts) (sym c.are_forms_spelled.ensures ∙ c.if-not-are_forms_spelled.true)
 
-pub returns-then-not-kept : goal.returns-then-not-kept
-returns-then-not-kept c = c.in_ok-kept.ensures.broken c.if-not-kept.true
-
-pub returns : goal.returns
-returns c =
+pub returns-in-None : goal.returns-in-None
+returns-in-None c =
     all_pass c.args.parts _ c.in_ok-check_live.ensures c.in_ok-prepared.ensures.prepared
-    (sym c.are_forms_spelled.ensures ∙ c.if-not-are_forms_spelled.false) (c.in_ok-kept.ensures.kept c.if-not-kept.false)
+    (sym c.are_forms_spelled.ensures ∙ c.if-not-are_forms_spelled.false) (rw c.in-None.is at c.in_ok-broken.ensures)
+
+pub returns-in-Some : goal.returns-in-Some
+returns-in-Some c = rw c.in-Some.is at c.in_ok-broken.ensures
