@@ -6,7 +6,7 @@ use Rattle.walrus_base.specs.declared.keys.ImportKey.{ImportKey}
 use Rattle.walrus_base.proofs.Standing.{some_of}
 use Rattle.walrus_items.specs.Imports.{ImportValue, imported_function}
 use Rattle.walrus_items.specs.declared.error.Error.TheVariants as error
-use Rattle.walrus_tools.specs.Choice.{Choice}
+use Rattle.walrus_sections.specs.Choice.{Choice}
 use Rattle.walrus_tools.specs.MarkSteps.{Meets}
 use Rattle.walrus_tools.specs.Stub.{BringsFunction}
 use Rattle.walrus_tools.specs.StubMatching.{AreChosen, ChosenAt, HitFunctions, IsChosen, MarksChosen}

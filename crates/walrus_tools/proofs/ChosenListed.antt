@@ -31,7 +31,7 @@ use Rattle.walrus.specs.Collected.{Collects}
 use Rattle.walrus.specs.Marked.{MarksKept, ReachesUnsound}
 use Rattle.walrus.specs.Used.{RefusesSearch}
 use Rattle.walrus.specs.declared.passes.used.Used.{Used}
-use Rattle.walrus_tools.specs.Choice.{Choice}
+use Rattle.walrus_sections.specs.Choice.{Choice}
 use Rattle.walrus_tools.specs.ChosenModule.{KeepsChosen, KeepsIn, RefusesChosen, RefusesExports}
 use Rattle.walrus_tools.specs.DroppedList.{AnswersDropped, dropped_of, functions_among}
 use Rattle.walrus_tools.specs.Edited.{Edited, edited_view}
@@ -41,11 +41,11 @@ use Rattle.walrus_tools.specs.ExportList.{AnswersExports, export_told, exported_
 use Rattle.walrus_tools.specs.FunctionList.{listed_seen, names_in}
 use Rattle.walrus_tools.specs.ImportList.{AnswersImports, import_told, imported_seen}
 use Rattle.walrus_tools.specs.ListSteps.{IsReady}
-use Rattle.walrus_tools.specs.PartList.{AnswersParts}
-use Rattle.walrus_tools.specs.Parts.{HasParts, part_record}
+use Rattle.walrus_sections.specs.PartList.{AnswersParts}
+use Rattle.walrus_sections.specs.Parts.{HasParts, part_record}
 use Rattle.walrus_tools.specs.Those.{AreThose}
-use Rattle.walrus_tools.specs.declared.parts.Item.{Item}
-use Rattle.walrus_tools.specs.declared.parts.Part.{Part as RawPart}
+use Rattle.walrus_sections.specs.declared.parts.Item.{Item}
+use Rattle.walrus_sections.specs.declared.parts.Part.{Part as RawPart}
 use Rattle.walrus_tools.specs.declared.tool.exports.Exported.{Exported}
 use Rattle.walrus_tools.specs.declared.tool.imports.Imported.{Imported}
 use Rattle.walrus_tools.specs.declared.tool.list.Listed.{Listed}

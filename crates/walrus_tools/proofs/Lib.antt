@@ -1,5 +1,4 @@
 mod AloneEnds
-mod Among
 pub mod AnswerLemmas
 mod BodiesFit
 mod BodiesRise
@@ -8,9 +7,6 @@ mod CallBody
 mod CallSound
 mod CallersEnds
 mod CallersTurn
-mod ChoiceLemmas
-mod ChoiceLists
-mod Choosers
 mod ChosenEnds
 mod ChosenImports
 mod ChosenListed
@@ -23,9 +19,7 @@ mod EachMoves
 mod EditEnds
 mod FaultEnds
 mod FinishLemmas
-mod Fronts
 mod FunctionsThere
-mod GoingLists
 mod GoersTurn
 mod HookEnds
 mod HookSteps
@@ -38,7 +32,6 @@ mod ListedBytes
 mod ListedEnds
 mod ListedReached
 mod ListedWritten
-mod LookUps
 mod MarkLemmas
 mod MatchingEnds
 mod MeantLemmas
@@ -52,13 +45,8 @@ mod MovesRuns
 mod MovesTrue
 mod NamedExports
 mod NoneChosen
-mod OneBeginning
 mod OneNumber
-mod PartItems
-mod PartListLemmas
-mod PartRows
 mod PartSizes
-mod PartText
 mod PlacedEnds
 mod PlacedOps
 mod PlacedSlots
@@ -67,10 +55,8 @@ pub use Rattle.walrus.proofs.DeviceLemmas
 mod ReadBodies
 mod ReasonEnds
 mod ReasonSpelled
-pub mod Records
 mod RenameSteps
 mod RootLemmas
-mod SectionLemmas
 mod SectionsWritten
 mod SizeEnds
 mod SizeLemmas
@@ -78,8 +64,6 @@ mod SnipCall
 mod SnipStep
 mod SpelledEnds
 mod Spellings
-mod Stars
-mod StripLemmas
 mod StubCall
 mod StubStep
 mod StubTurn

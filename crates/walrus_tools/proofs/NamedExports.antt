@@ -8,10 +8,10 @@ use Rattle.std.proofs.lemmas.List.Sorted.{Contains-permutation, IsPermutation-ma
 use Rattle.walrus_base.specs.Arena.{item_at}
 use Rattle.walrus_base.proofs.Indexed.{beyond}
 use Rattle.walrus_items.specs.Exports.{ExportValue}
-use Rattle.walrus_tools.specs.Choice.{Choice}
-use Rattle.walrus_tools.specs.ExportChoice.{EachFits, FitsText, TellsUnfit}
+use Rattle.walrus_sections.specs.Choice.{Choice}
+use Rattle.walrus_sections.specs.ExportChoice.{EachFits, FitsText, TellsUnfit}
 use Rattle.walrus_tools.specs.KeptExports.{KeepsAt, KeepsNamed, KeepsUntil, StaysIf}
-use Rattle.walrus_tools.specs.NameLists.{texts}
+use Rattle.walrus_sections.specs.NameLists.{texts}
 
 -- ---- texts in another order
 

@@ -20,7 +20,7 @@ use Rattle.walrus_theorem.proofs.SettleAll.{runs_settle}
 use Rattle.walrus_theorem.proofs.StepRead.{steps_come_out_lem}
 use Rattle.walrus_module.specs.Answered.{IsWellWritten}
 use Rattle.walrus.specs.Headline.{ComesOut}
-use Rattle.walrus_tools.specs.ExportChoice.{IsChosen}
+use Rattle.walrus_sections.specs.ExportChoice.{IsChosen}
 use Rattle.walrus_tools.specs.ChosenModule.{KeepsChosen, NoneChosen}
 use Rattle.walrus_tools.specs.Edits.{EditsTo, with_customs}
 use Rattle.walrus_tools.specs.Ends.{LeftOf}

@@ -7,7 +7,7 @@ use Rattle.walrus_model.specs.Abstract.{Abstract, Name}
 use Rattle.walrus_model.specs.Config.{Config}
 use Rattle.walrus_items.specs.declared.error.Error.{Error}
 use Rattle.walrus_items.specs.declared.error.Error.TheVariants as error
-use Rattle.walrus_tools.specs.Choice.{Choice}
+use Rattle.walrus_sections.specs.Choice.{Choice}
 use Rattle.walrus_tools.specs.ChosenModule.{KeepsChosen, RefusesChosen}
 use Rattle.walrus_tools.specs.Edits.{AnswersEdited}
 use Rattle.walrus_tools.specs.FunctionList.{AnswersListed, function_names, listed_of, listed_seen}

@@ -7,9 +7,9 @@ use Rattle.walrus_items.specs.declared.error.Error.{Error}
 use Rattle.walrus_items.specs.declared.error.Error.TheVariants as error
 use Rattle.walrus_contents.proofs.NamedLemmas.{among, row_more}
 use Rattle.walrus_tools.specs.Ends.{Answers}
-use Rattle.walrus_tools.specs.Numbers.{RefusesIf}
+use Rattle.walrus_sections.specs.Numbers.{RefusesIf}
 use Rattle.walrus_tools.specs.Spelled.{AreLong, AreSpelled, HasLong, NoneLong}
-use Rattle.walrus_tools.proofs.Among.{because}
+use Rattle.walrus_sections.proofs.Among.{because}
 use Rattle.walrus_tools.proofs.LineLemmas.{lines_more}
 
 -- ---- one by one

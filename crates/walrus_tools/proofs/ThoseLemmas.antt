@@ -7,10 +7,10 @@ use Rattle.walrus_model.specs.Abstract.{Name}
 use Rattle.walrus_theorem.proofs.EditKept.{none_isnt}
 use Rattle.walrus_tools.specs.DroppedList.{dropped_of, functions_among, listed_part}
 use Rattle.walrus_tools.specs.FunctionList.{ListedFunction}
-use Rattle.walrus_tools.specs.Parts.{Part, SectionPart, FunctionPart, SegmentPart}
+use Rattle.walrus_sections.specs.Parts.{Part, SectionPart, FunctionPart, SegmentPart}
 use Rattle.walrus_tools.specs.Those.{AreThose}
-use Rattle.walrus_tools.specs.declared.parts.Item.{Item}
-use Rattle.walrus_tools.proofs.LookUps.{untrue}
+use Rattle.walrus_sections.specs.declared.parts.Item.{Item}
+use Rattle.walrus_sections.proofs.LookUps.{untrue}
 
 -- ---- of parts
 

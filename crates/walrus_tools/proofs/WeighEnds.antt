@@ -24,7 +24,7 @@ use Rattle.walrus_module.specs.View.{contents_of, view}
 use Rattle.walrus_module.specs.declared.entry.SectionEntry.{SectionEntry}
 use Rattle.walrus_module.specs.declared.module.Module.{Module}
 use Rattle.walrus.specs.Collected.{Collects}
-use Rattle.walrus_tools.specs.Choice.{Choice}
+use Rattle.walrus_sections.specs.Choice.{Choice}
 use Rattle.walrus_tools.specs.ChosenModule.{KeepsChosen, RefusesChosen}
 use Rattle.walrus_tools.specs.Edits.{AnswersEdited, EditsTo, IsWhole, RefusesEdit, with_customs}
 use Rattle.walrus_tools.specs.Ends.{Finishes, LeavesLarge, LeavesWritten, LeftOf}

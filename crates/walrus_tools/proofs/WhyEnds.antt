@@ -52,7 +52,7 @@ use Rattle.walrus.specs.Why.{Explains}
 use Rattle.walrus_tools.specs.Alone.{bytes_of}
 use Rattle.walrus_tools.specs.AloneSteps.{HoldsSame, alone_in}
 use Rattle.walrus_tools.specs.Callers.{AreCallers, HasUnsound}
-use Rattle.walrus_tools.specs.Choice.{Choice}
+use Rattle.walrus_sections.specs.Choice.{Choice}
 use Rattle.walrus_tools.specs.ChosenModule.{KeepsChosen, KeepsIn, RefusesChosen}
 use Rattle.walrus_tools.specs.Edits.{AnswersEdited, IsWhole, with_customs}
 use Rattle.walrus_tools.specs.Ends.{LeftOf}

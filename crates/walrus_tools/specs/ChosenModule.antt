@@ -10,8 +10,8 @@ use Rattle.walrus_contents.specs.declared.parts.Contents.{Contents}
 use Rattle.walrus_module.specs.Parsed.{IsParsed}
 use Rattle.walrus_module.specs.declared.module.Module.{Module}
 use Rattle.walrus.specs.Headline.{RunsOn}
-use Rattle.walrus_tools.specs.Choice.{Choice}
-use Rattle.walrus_tools.specs.ExportChoice.{EachFits, IsChosen, OneFitsNone, TellsUnfit}
+use Rattle.walrus_sections.specs.Choice.{Choice}
+use Rattle.walrus_sections.specs.ExportChoice.{EachFits, IsChosen, OneFitsNone, TellsUnfit}
 use Rattle.walrus_tools.specs.Edits.{AnswersEdited, with_customs}
 use Rattle.walrus_tools.specs.Ends.{Answers}
 use Rattle.walrus_tools.specs.KeptExports.{KeepsNamed, export_names}

@@ -7,16 +7,16 @@ use Rattle.walrus_model.specs.Abstract.{Name}
 use Rattle.walrus_model.specs.Config.{Config}
 use Rattle.walrus_model.specs.Kept.{Kept}
 use Rattle.walrus_items.specs.declared.error.Error.{Error}
-use Rattle.walrus_tools.specs.Choice.{Choice}
+use Rattle.walrus_sections.specs.Choice.{Choice}
 use Rattle.walrus_tools.specs.ChosenModule.{KeepsChosen, RefusesChosen}
 use Rattle.walrus_tools.specs.Edited.{Edited, edited_view}
 use Rattle.walrus_tools.specs.Edits.{RefusesEdit}
 use Rattle.walrus_tools.specs.Ends.{Answers}
 use Rattle.walrus_tools.specs.FunctionList.{IsLong, ListedFunction, function_names, listed_bytes, listed_seen}
-use Rattle.walrus_tools.specs.Parts.{Part, SectionPart, FunctionPart, SegmentPart, HasParts}
+use Rattle.walrus_sections.specs.Parts.{Part, SectionPart, FunctionPart, SegmentPart, HasParts}
 use Rattle.walrus_tools.specs.Spelled.{AreLong, AreSpelled}
 use Rattle.walrus_tools.specs.Those.{AreThose}
-use Rattle.walrus_tools.specs.declared.parts.Item.{Item}
+use Rattle.walrus_sections.specs.declared.parts.Item.{Item}
 use Rattle.walrus_tools.specs.declared.tool.list.Listed.{Listed}
 
 -- the functions among these parts, in their order

@@ -9,12 +9,12 @@ use Rattle.walrus_model.specs.Config.{Config}
 use Rattle.walrus_items.specs.Exports.{ExportValue, exports}
 use Rattle.walrus_items.specs.Kinds.{exported}
 use Rattle.walrus_items.specs.declared.error.Error.{Error}
-use Rattle.walrus_tools.specs.Choice.{Choice}
+use Rattle.walrus_sections.specs.Choice.{Choice}
 use Rattle.walrus_tools.specs.ChosenModule.{KeepsChosen, RefusesChosen}
 use Rattle.walrus_tools.specs.Edited.{Edited}
 use Rattle.walrus_tools.specs.Edits.{RefusesEdit}
 use Rattle.walrus_tools.specs.Ends.{Answers}
-use Rattle.walrus_tools.specs.Numbers.{no_name, number_bytes}
+use Rattle.walrus_sections.specs.Numbers.{no_name, number_bytes}
 use Rattle.walrus_tools.specs.Spelled.{AreLong, AreSpelled}
 use Rattle.walrus_tools.specs.declared.tool.exports.Exported.{Exported}
 

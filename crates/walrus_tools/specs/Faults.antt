@@ -9,9 +9,9 @@ use Rattle.walrus_reading.specs.declared.faults.Fault.{Fault}
 use Rattle.walrus_reading.specs.declared.faults.Fault.TheVariants.{Body, Header, Rule, Section}
 use Rattle.walrus_theorem.specs.Features.{features_of}
 use Rattle.walrus_theorem.specs.Headline.{Accepts}
-use Rattle.walrus_tools.specs.Beginnings.{BeginsAs, beginning_number, beginning_text}
+use Rattle.walrus_sections.specs.Beginnings.{BeginsAs, beginning_number, beginning_text}
 use Rattle.walrus_tools.specs.FunctionList.{number_bytes}
-use Rattle.walrus_tools.specs.declared.beginnings.Beginning.{Beginning}
+use Rattle.walrus_sections.specs.declared.beginnings.Beginning.{Beginning}
 use Rattle.wasm_wire.specs.declared.rules.broken.BrokenRule.{BrokenRule}
 use Rattle.wasm_wire.specs.declared.rules.broken.BrokenRule.TheVariants as rules
 

@@ -10,7 +10,7 @@ use Rattle.walrus_items.specs.Functions.{FunctionValue}
 use Rattle.walrus_items.specs.declared.function_kind.FunctionKind.{FunctionKind}
 use Rattle.walrus_items.specs.declared.function_kind.FunctionKind.TheVariants.{Import, Local, Uninitialized}
 use Rattle.walrus_items.specs.declared.function_kind.ImportedFunction.{ImportedFunction}
-use Rattle.walrus_tools.specs.Fits.{Fits}
+use Rattle.walrus_sections.specs.Fits.{Fits}
 use Rattle.walrus_tools.specs.FunctionNames.{function_called}
 use Rattle.walrus_tools.specs.declared.function_meaning.Meant.{Meant}
 

@@ -12,7 +12,7 @@ use Rattle.walrus_contents.specs.declared.parts.Contents.{Contents}
 use Rattle.walrus.specs.Why.{Explains}
 use Rattle.walrus_tools.specs.Alone.{IsAlone}
 use Rattle.walrus_tools.specs.Callers.{AreCallers}
-use Rattle.walrus_tools.specs.Choice.{Choice}
+use Rattle.walrus_sections.specs.Choice.{Choice}
 use Rattle.walrus_tools.specs.ChosenModule.{KeepsChosen, RefusesChosen}
 use Rattle.walrus_tools.specs.Edits.{EditsTo, RefusesEdit, with_customs}
 use Rattle.walrus_tools.specs.Ends.{Answers, IfNotFound, LeavesLarge}

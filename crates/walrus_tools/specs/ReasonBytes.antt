@@ -6,7 +6,7 @@ use Rattle.walrus_model.specs.Abstract.{Name}
 use Rattle.walrus_items.specs.Items.{space_number}
 use Rattle.walrus_tools.specs.ExportList.{text_bytes}
 use Rattle.walrus_tools.specs.Links.{LinkTold, links_in}
-use Rattle.walrus_tools.specs.Numbers.{IsLongName, name_bytes, no_name, number_bytes}
+use Rattle.walrus_sections.specs.Numbers.{IsLongName, name_bytes, no_name, number_bytes}
 use Rattle.walrus_tools.specs.Spelled.{HasLong}
 use Rattle.walrus_tools.specs.declared.goers.Alone.{Alone}
 use Rattle.walrus_tools.specs.declared.reasons.Reason.{Reason}

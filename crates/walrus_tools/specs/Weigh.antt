@@ -9,12 +9,12 @@ use Rattle.walrus_model.specs.Live.{IsLive}
 use Rattle.walrus_items.specs.declared.error.Error.{Error}
 use Rattle.walrus_contents.specs.declared.parts.Contents.{Contents}
 use Rattle.wasm_wire.specs.ModuleSpelling.{is_debug_name}
-use Rattle.walrus_tools.specs.Choice.{Choice}
+use Rattle.walrus_sections.specs.Choice.{Choice}
 use Rattle.walrus_tools.specs.ChosenModule.{KeepsChosen, RefusesChosen}
 use Rattle.walrus_tools.specs.Edits.{EditsTo, RefusesEdit, with_customs}
 use Rattle.walrus_tools.specs.Ends.{Answers, LeavesLarge, LeavesWritten}
 use Rattle.walrus_tools.specs.Kinds.{CountsKinds}
-use Rattle.walrus_tools.specs.Parts.{FunctionPart, HasParts, Part, SectionPart, SegmentPart}
+use Rattle.walrus_sections.specs.Parts.{FunctionPart, HasParts, Part, SectionPart, SegmentPart}
 use Rattle.walrus_tools.specs.declared.weigh.Smaller.{Smaller}
 use Rattle.walrus_tools.specs.declared.weigh.Weighed.{Weighed}
 

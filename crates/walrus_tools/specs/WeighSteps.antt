@@ -14,11 +14,11 @@ use Rattle.walrus_module.specs.declared.entry.SectionEntry.{SectionEntry}
 use Rattle.walrus_module.specs.declared.module.Module.{Module}
 use Rattle.walrus_tools.specs.Ends.{LeavesLarge, LeavesWritten, LeftOf}
 use Rattle.walrus_tools.specs.Kinds.{CountsKinds}
-use Rattle.walrus_tools.specs.PartList.{AnswersParts}
-use Rattle.walrus_tools.specs.Parts.{HasParts, Part, part_record}
+use Rattle.walrus_sections.specs.PartList.{AnswersParts}
+use Rattle.walrus_sections.specs.Parts.{HasParts, Part, part_record}
 use Rattle.walrus_tools.specs.Weigh.{IsWeighed, bytes_of, is_debug, is_dropped, part_size}
 use Rattle.walrus_tools.specs.declared.kinds.Kinds.{Kinds}
-use Rattle.walrus_tools.specs.declared.parts.Part.{Part as RawPart}
+use Rattle.walrus_sections.specs.declared.parts.Part.{Part as RawPart}
 use Rattle.walrus_tools.specs.declared.weigh.Smaller.{Smaller}
 use Rattle.walrus_tools.specs.declared.weigh.Weighed.{Weighed}
 

@@ -9,7 +9,6 @@ ghost use Rattle.walrus_items.specs.Seen.{text_of};
 ghost use Rattle.walrus_tools.specs.MarkSteps.{AreMarks, HasPlaces, IsExported, IsFit, IsNamed, MarksFitting, MarksOne, MarksText, Meets, RefusesMarks};
 ghost use Rattle.walrus_tools.specs.FunctionMeaning.{FitsExport, FitsName, has_body, has_star, is_local, texts};
 
-use crate::fits::fits;
 use crate::functions::{function_at, function_called};
 use crate::marks::{Marking, meet};
 use std::alloc::Global;
@@ -17,6 +16,7 @@ use walrus::{
     Error, ExportId, ExportItem, FunctionId, FunctionKey, FunctionKind, Marks, ModuleExports,
     ModuleFunctions, Result,
 };
+use walrus_sections::fits;
 
 /// A text that means functions of a module.
 #[derive(Clone, Copy, Debug, PartialEq, Eq)]

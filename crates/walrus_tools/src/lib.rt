@@ -7,14 +7,10 @@
 //! Main clause: `gc` in `src/tool/gc.rt`, with `RunsOn` (walrus): what a run makes of known bytes, or why it refuses them.
 #![tactic(auto)]
 
-mod beginnings;
 mod calls;
-mod choice;
-mod chooser;
 mod examples;
 mod export_groups;
 mod finish;
-mod fits;
 mod function_meaning;
 mod functions;
 mod goers;
@@ -27,10 +23,7 @@ mod law;
 mod lines;
 mod links;
 mod marks;
-mod name_lists;
 mod named_exports;
-mod numbers;
-mod parts;
 mod reasons;
 mod referrers;
 mod roots;
@@ -42,8 +35,6 @@ mod traps;
 mod wanted;
 mod weigh;
 
-pub use beginnings::{Beginning, beginning_of, has_one_beginning};
-pub use choice::{Choice, all_go, are_choices, goes, read_choices};
 pub use examples::count_calls::count_calls;
 pub use examples::keep_listed::keep_listed;
 pub use examples::moves::moves;
@@ -61,8 +52,6 @@ pub use kinds::Kinds;
 pub use law::moves_once;
 pub use lines::{Chain, chain_lines, item_index, item_word};
 pub use links::Link;
-pub use numbers::NO_NAME;
-pub use parts::{Item, Part, one_part_list};
 pub use reasons::Reason;
 pub use roots::Root;
 pub use tool::callers::callers;
@@ -77,11 +66,8 @@ pub use tool::list::{Listed, function_list, list};
 pub use tool::reason_list::{caller_list, reason_list};
 pub use tool::report::report;
 pub use tool::report_lines::{report_lines, rest_of};
-pub use tool::section_parts::{part_list, section_parts};
-pub use tool::sections::{section_list, sections};
 pub use tool::snip_counted::snip_counted;
 pub use tool::snip_functions::snip_functions;
-pub use tool::strip::strip;
 pub use tool::stub_counted::stub_counted;
 pub use tool::stub_matching::stub_matching;
 pub use tool::unfit::unfit;
@@ -92,6 +78,5 @@ pub use walrus::tool::{
 pub use walrus::{Error, ErrorKind, ItemId, Result};
 pub use walrus_reading::Fault;
 pub use wanted::Wanted;
-pub use wasm_frames::{Pieced, RawPiece};
 pub use wasm_wire::BrokenRule;
 pub use weigh::{Smaller, Weighed};

@@ -13,14 +13,15 @@ ghost use Rattle.walrus_tools.specs.Faults.{
 };
 ghost use Rattle.walrus_tools.specs.Wanted.{config_wanted};
 
-use crate::beginnings::{Beginning, beginning_number, beginning_words, begins_as};
-use crate::numbers::{add_number, narrow};
 use crate::wanted::Wanted;
 use std::alloc::{AllocError, Global};
 use std::result;
 use walrus::Result;
 use walrus_bodies::Features;
 use walrus_reading::{Fault, first_fault};
+use walrus_sections::{
+    Beginning, add_number, beginning_number, beginning_words, begins_as, narrow,
+};
 use wasm_wire::BrokenRule;
 
 /// What is wrong with the bytes, or none exactly where they are accepted. Which of several faults is told isn't promised. What is written of

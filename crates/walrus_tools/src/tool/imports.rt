@@ -5,13 +5,11 @@ ghost use Rattle.walrus_base.specs.Arena.{items};
 ghost use Rattle.walrus_code.specs.Code.{item_of};
 ghost use Rattle.walrus_items.specs.Imports.{import_value, imports};
 ghost use Rattle.walrus_items.specs.Kinds.{imported};
-ghost use Rattle.walrus_tools.specs.Choice.{choices_seen};
+ghost use Rattle.walrus_sections.specs.Choice.{choices_seen};
 ghost use Rattle.walrus_tools.specs.ImportList.{AnswersImportList, AnswersImports, ImportedItem, IsLongImport, import_told, imported_bytes, imported_seen};
 ghost use Rattle.walrus_tools.specs.Wanted.{config_wanted};
 
-use crate::choice::Choice;
 use crate::keep::keep_chosen;
-use crate::numbers::add_text;
 use crate::spelled::{Told, add_item, spelled};
 use crate::wanted::Wanted;
 use std::alloc::{AllocError, Global};
@@ -19,6 +17,7 @@ use std::result;
 use walrus::passes::gc;
 use walrus::{ItemId, ModuleConfig, ModuleImports, Result};
 use walrus_items::{Import, ImportKind};
+use walrus_sections::{Choice, add_text};
 
 /// An import.
 #[derive(Drop)]

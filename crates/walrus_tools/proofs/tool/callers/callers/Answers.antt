@@ -6,7 +6,7 @@ use Rattle.walrus_model.specs.Abstract.{Abstract}
 use Rattle.walrus_contents.specs.Named.{items_in}
 use Rattle.walrus_items.specs.Transform.{range_of, transform_of}
 use Rattle.walrus_module.specs.Flags.{Flags, config_of, flags}
-use Rattle.walrus_tools.specs.Choice.{choices_seen}
+use Rattle.walrus_sections.specs.Choice.{choices_seen}
 use Rattle.walrus_tools.specs.ReasonAnswers.{AnswersCallers}
 use Rattle.walrus_module.specs.View.{held_view}
 use Rattle.walrus_tools.specs.LinkSteps.{AreRising}

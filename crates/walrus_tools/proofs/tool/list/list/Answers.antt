@@ -7,7 +7,7 @@ use Rattle.walrus_module.specs.Customs.{sections}
 use Rattle.walrus_module.specs.Flags.{Flags, config_of, flags}
 use Rattle.walrus_module.specs.Settings.{settings}
 use Rattle.walrus_module.proofs.RawStays.{all_raw}
-use Rattle.walrus_tools.specs.Choice.{choices_seen}
+use Rattle.walrus_sections.specs.Choice.{choices_seen}
 use Rattle.walrus_tools.specs.ChosenModule.{KeepsChosen, RefusesChosen}
 use Rattle.walrus_tools.specs.FunctionList.{AnswersListed, names_in}
 use Rattle.walrus_tools.proofs.ChosenEnds.{bytes_refused, chosen_held, chosen_whole}

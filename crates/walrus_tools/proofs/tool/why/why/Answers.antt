@@ -9,7 +9,7 @@ use Rattle.walrus_contents.specs.Named.{items_in}
 use Rattle.walrus_items.specs.Transform.{range_of, transform_of}
 use Rattle.walrus_module.specs.Flags.{Flags, config_of, flags}
 use Rattle.walrus_module.specs.View.{view}
-use Rattle.walrus_tools.specs.Choice.{choices_seen}
+use Rattle.walrus_sections.specs.Choice.{choices_seen}
 use Rattle.walrus_tools.specs.ReasonAnswers.{AnswersWhy, TellsAlone}
 use Rattle.walrus_tools.specs.AloneSteps.{alone_in}
 use Rattle.walrus_tools.specs.Alone.{bytes_of}
