@@ -1,10 +1,11 @@
 -- Whether a choice of a kind fits a text, among those that were looked at.
-use Rattle.std.proofs.Common.{◌≡◌, ◌<◌, ◌≤◌, ◌+◌, ◌↔◌, ℕ, Bool, true, false, List, [], length, get_or, take, All, subst, arith}
-use Rattle.std.specs.Prelude.{Contains}
-use Rattle.std.proofs.lemmas.List.Elements.{All-map, All-contains, All-more, Contains-get_or}
-use Rattle.std.proofs.lemmas.List.{get_or-map, length-map, take_all}
+use Rattle.std.proofs.Common.{◌≡◌, ◌<◌, ◌≤◌, ◌+◌, ◌↔◌, ℕ, Bool, true, false, List, [], length, get_or, take, All, subst}
+use Rattle.std.proofs.lemmas.Bool.{false≢true as untrue}
+use Rattle.std.proofs.lemmas.List.Elements.{All-more}
+use Rattle.std.proofs.lemmas.List.{take_all}
 use Rattle.walrus_sections.specs.Choice.{FitsOne, Suits, choice_seen, choices_seen}
 use Rattle.walrus_sections.specs.declared.choice.Choice.{Choice as HeldChoice}
+use Rattle.walrus_sections.proofs.Among.{among, none_among}
 
 -- what a place behind the end of a list stands for
 abbrev pub no_choice : HeldChoice
@@ -17,18 +18,11 @@ NoneSuits is_kept text choices = All (λ choice. Suits is_kept text (choice_seen
 pub is_not : (r : Bool) (P : Type 0) → (r ≡ true) ↔ P → r ≡ false → P → ⊥
 is_not r P iff isnt h = let yes : r ≡ true = iff.1 h in absurd cc
 
-untrue : false ≡ true → ⊥
-untrue h = cc
-
 pub none_fits : (choices : List HeldChoice) (is_kept : Bool) (text : List ℕ) → NoneSuits is_kept text choices → FitsOne (choices_seen choices) is_kept text → ⊥
-none_fits choices is_kept text none found =
-    All-contains (λ choice. Suits is_kept text choice → ⊥) (choices_seen choices) found.0 (All-map (λ choice. Suits is_kept text choice → ⊥) choice_seen choices none) found.1 found.2
+none_fits choices is_kept text none found = none_among (Suits is_kept text) choice_seen choices none found.0 found.1 found.2
 
 pub one_fits : (choices : List HeldChoice) (is_kept : Bool) (text : List ℕ) (i : ℕ) (d : HeldChoice) → i < length choices → Suits is_kept text (choice_seen (get_or choices i d)) → FitsOne (choices_seen choices) is_kept text
-one_fits choices is_kept text i d below suits =
-    let short : length (choices_seen choices) ≡ length choices = length-map choices choice_seen in
-    let seen : get_or (choices_seen choices) i (choice_seen d) ≡ choice_seen (get_or choices i d) = get_or-map choice_seen choices i d (choice_seen d) below in
-    (choice_seen (get_or choices i d), subst (Contains (choices_seen choices)) seen (Contains-get_or (choices_seen choices) i (choice_seen d) (omega (arith, short, below))), suits)
+one_fits choices is_kept text i d below suits = (choice_seen (get_or choices i d), among choice_seen choices i d below, suits)
 
 pub none_more : (choices : List HeldChoice) (is_kept : Bool) (text : List ℕ) (i : ℕ) (d : HeldChoice) → i < length choices → (Suits is_kept text (choice_seen (get_or choices i d)) → ⊥)
     → NoneSuits is_kept text (take i choices) → NoneSuits is_kept text (take (i + 1) choices)

@@ -1,5 +1,6 @@
 -- Whether bytes are a list of choices, choice by choice.
 use Rattle.std.proofs.Common.{◌≡◌, ◌↔◌, ℕ, true, false, List, [], ◌∷◌, refl, subst}
+use Rattle.std.proofs.lemmas.Bool.{false≢true as untrue}
 use Rattle.walrus_sections.specs.Choice.{AreChoices, Choice, IsChoice, IsList}
 use Rattle.walrus_sections.proofs.Records.{no_front, one_choice}
 
@@ -15,15 +16,13 @@ list_next bytes left rest choice is so = (
   λ h. so.1 (choice ∷ h.0, (rest, is, h.1)),
 )
 
-none : (left : List ℕ) → (left ≡ [] → ⊥) → ((choice : Choice) (rest : List ℕ) → IsChoice left choice rest → ⊥) → (choices : List Choice) → AreChoices left choices → ⊥
-none left more first [] h = more h
-none left more first (choice ∷ choices) h = first choice h.0 h.1
-
-untrue : false ≡ true → ⊥
-untrue h = cc
+-- where something is left and no choice stands in front, no choices do
+pub none_left : (left : List ℕ) → (left ≡ [] → ⊥) → ((choice : Choice) (rest : List ℕ) → IsChoice left choice rest → ⊥) → (choices : List Choice) → AreChoices left choices → ⊥
+none_left left more first [] h = more h
+none_left left more first (choice ∷ choices) h = first choice h.0 h.1
 
 pub list_none : (bytes left : List ℕ) → IsList bytes ↔ IsList left → (left ≡ [] → ⊥) → ((choice : Choice) (rest : List ℕ) → IsChoice left choice rest → ⊥) → (false ≡ true) ↔ IsList bytes
-list_none bytes left so more first = (λ h. absurd (untrue h), λ h. let l = so.0 h in absurd (none left more first l.0 l.1))
+list_none bytes left so more first = (λ h. absurd (untrue h), λ h. let l = so.0 h in absurd (none_left left more first l.0 l.1))
 
 pub list_ends : (bytes left : List ℕ) → IsList bytes ↔ IsList left → left ≡ [] → (true ≡ true) ↔ IsList bytes
 list_ends bytes left so ends = (λ h. so.1 ([], ends), λ h. refl)

@@ -2,6 +2,7 @@
 use Rattle.std.proofs.Common.{◌≡◌, ◌↔◌, ◌⊎◌, ◌<◌, ◌≤◌, ◌+◌, ℕ, Bool, true, false, List, [], ◌∷◌, ◌++◌, length, get_or, take, All, refl, sym, ap, ◌∙◌, subst, inl, inr, ⊎_elim}
 use Rattle.std.specs.Prelude.{Contains, IsPermutation}
 use Rattle.std.specs.Borrow.{Bor}
+use Rattle.std.proofs.lemmas.Bool.{false≢true as untrue}
 use Rattle.std.proofs.lemmas.List.{map-append, map_more, take_all}
 use Rattle.std.proofs.lemmas.List.Elements.{All-contains, All-map, Contains-append_left, Contains-push, Contains-push_cases}
 use Rattle.std.proofs.lemmas.List.Sorted.{Contains-permutation, IsPermutation-map, IsPermutation-sym}
@@ -14,7 +15,7 @@ use Rattle.walrus_sections.specs.declared.choice.Choice.{Choice as HeldChoice}
 use Rattle.walrus_sections.specs.declared.chooser.Chooser.{Chooser}
 use Rattle.walrus_sections.specs.declared.chooser.Names.{Names}
 use Rattle.walrus_sections.proofs.Among.{among}
-use Rattle.walrus_sections.proofs.LookUps.{plain_fits, untrue}
+use Rattle.walrus_sections.proofs.LookUps.{plain_fits}
 
 abbrev Text : Type 0
 Text = Bor (List ℕ)

@@ -10,6 +10,7 @@ use Rattle.std.proofs.lemmas.Bool.Decides.{Decides-eqb}
 use Rattle.std.proofs.lemmas.List.{at_drop_more, length-append, take-append-drop}
 use Rattle.std.proofs.lemmas.List.Elements.{All-nil, All-cons, All-from_recursion, recursion_from_All}
 use Rattle.std.proofs.lemmas.Slice.Eq.{starts_is}
+use Rattle.walrus_base.proofs.Lookups.{heads}
 use Rattle.walrus_sections.specs.Beginnings.{Begins, HasVersion, IsText, OpensText, Stands, header, is_space}
 use Rattle.walrus_sections.specs.declared.beginnings.Beginning.{Beginning}
 use Rattle.walrus_sections.specs.declared.beginnings.Beginning.TheVariants.{Bitcode, Component, Cut, Elf, Empty, Gzip, Other, OtherVersion, Text}
@@ -63,11 +64,8 @@ version_decided r bytes long d = (λ t. to (d.0 t), λ h. d.1 (back h))
 abbrev White : ℕ → Type 0
 White byte = is_space byte ≡ true
 
-pub parts : (x y : ℕ) (xs ys : List ℕ) → x ∷ xs ≡ y ∷ ys → (x ≡ y) × (xs ≡ ys)
-parts x y xs ys e = (cc, cc)
-
 pub opens_apart : (b : ℕ) (bs : List ℕ) → OpensText (b ∷ bs) → is_space b ≡ false
-opens_apart b bs opens = ⊎_elim (λ f. ap is_space (parts b 0x28 bs f.0 f.1).0) (λ f. ap is_space (parts b 0x3B bs (0x3B ∷ f.0) f.1).0) opens
+opens_apart b bs opens = ⊎_elim (λ f. ap is_space (heads b 0x28 bs f.0 f.1).0) (λ f. ap is_space (heads b 0x3B bs (0x3B ∷ f.0) f.1).0) opens
 
 -- white space in front makes no difference
 text_behind : (b : ℕ) (bs : List ℕ) → is_space b ≡ true → IsText (b ∷ bs) → IsText bs
@@ -76,7 +74,7 @@ text_behind b bs white (space, text, e, all, opens) = by_space space e all
     by_space : (space : List ℕ) → b ∷ bs ≡ space ++ text → All White space → IsText bs
     by_space [] e all = absurd (untrue (sym (opens_apart b bs (subst OpensText (sym e) opens)) ∙ white))
     by_space (s ∷ ss) e all =
-        (ss, text, (parts b s bs (ss ++ text) e).1, All-from_recursion White ss (recursion_from_All White (s ∷ ss) all).1, opens)
+        (ss, text, (heads b s bs (ss ++ text) e).1, All-from_recursion White ss (recursion_from_All White (s ∷ ss) all).1, opens)
 
 text_before : (b : ℕ) (bs : List ℕ) → is_space b ≡ true → IsText bs → IsText (b ∷ bs)
 text_before b bs white (space, text, e, all, opens) = (b ∷ space, text, ap (λ l. b ∷ l) e, All-cons White b space white all, opens)
@@ -86,7 +84,7 @@ text_at_once b bs black (space, text, e, all, opens) = by_space space e all
   where
     by_space : (space : List ℕ) → b ∷ bs ≡ space ++ text → All White space → OpensText (b ∷ bs)
     by_space [] e all = subst OpensText (sym e) opens
-    by_space (s ∷ ss) e all = absurd (untrue (sym black ∙ ap is_space (parts b s bs (ss ++ text) e).0 ∙ (recursion_from_All White (s ∷ ss) all).0))
+    by_space (s ∷ ss) e all = absurd (untrue (sym black ∙ ap is_space (heads b s bs (ss ++ text) e).0 ∙ (recursion_from_All White (s ∷ ss) all).0))
 
 opened_text : (bytes : List ℕ) → OpensText bytes → IsText bytes
 opened_text bytes opens = ([], bytes, refl, All-nil White, opens)

@@ -1,7 +1,9 @@
 -- Whether bytes are a list of choices that all say that texts go, choice by choice.
 use Rattle.std.proofs.Common.{◌≡◌, ◌↔◌, ℕ, true, false, List, [], ◌∷◌, All, refl, sym, ap, ◌∙◌, subst}
 use Rattle.std.proofs.lemmas.List.Elements.{All-cons, All-nil, All-from_recursion, recursion_from_All}
+use Rattle.std.proofs.lemmas.Bool.{false≢true as untrue}
 use Rattle.walrus_sections.specs.Choice.{AllGo, AreChoices, Choice, IsChoice}
+use Rattle.walrus_sections.proofs.ChoiceLists.{none_left}
 use Rattle.walrus_sections.proofs.Records.{no_front, one_choice}
 
 -- what it says goes
@@ -29,21 +31,14 @@ going_next bytes left rest choice is goes so = (
   λ h. so.1 (choice ∷ h.0, (rest, is, h.1), All-cons Goes choice h.0 goes h.2),
 )
 
-untrue : false ≡ true → ⊥
-untrue h = cc
-
 pub going_kept : (bytes left rest : List ℕ) (choice : Choice) → IsChoice left choice rest → choice.is_kept ≡ true → AllGo bytes ↔ AllGo left → (false ≡ true) ↔ AllGo bytes
 going_kept bytes left rest choice is kept so = (
   λ h. absurd (untrue h),
   λ h. let l = so.0 h in absurd (untrue (sym (split left rest choice is l.0 l.1 l.2).is_kept ∙ kept)),
 )
 
-none : (left : List ℕ) → (left ≡ [] → ⊥) → ((choice : Choice) (rest : List ℕ) → IsChoice left choice rest → ⊥) → (choices : List Choice) → AreChoices left choices → ⊥
-none left more first [] h = more h
-none left more first (choice ∷ choices) h = first choice h.0 h.1
-
 pub going_none : (bytes left : List ℕ) → AllGo bytes ↔ AllGo left → (left ≡ [] → ⊥) → ((choice : Choice) (rest : List ℕ) → IsChoice left choice rest → ⊥) → (false ≡ true) ↔ AllGo bytes
-going_none bytes left so more first = (λ h. absurd (untrue h), λ h. let l = so.0 h in absurd (none left more first l.0 l.1))
+going_none bytes left so more first = (λ h. absurd (untrue h), λ h. let l = so.0 h in absurd (none_left left more first l.0 l.1))
 
 pub going_ends : (bytes left : List ℕ) → AllGo bytes ↔ AllGo left → left ≡ [] → (true ≡ true) ↔ AllGo bytes
 going_ends bytes left so ends = (λ h. so.1 ([], ends, All-nil Goes), λ h. refl)

@@ -4,7 +4,7 @@ mod ChoiceLists
 pub mod Choosers
 mod Fronts
 mod GoingLists
-pub mod LookUps
+mod LookUps
 mod OneBeginning
 mod PartItems
 mod PartListLemmas

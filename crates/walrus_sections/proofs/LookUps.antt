@@ -6,7 +6,7 @@ use Rattle.std.specs.List.Sorted.{IsBinarySearchResult, IsPartitionPoint, IsSear
 use Rattle.std.specs.Ordering.{is_eq}
 use Rattle.std.specs.declared.cmp.Ordering.{Ordering}
 use Rattle.std.specs.declared.cmp.Ordering.TheVariants.{Less, Equal, Greater}
-use Rattle.std.proofs.lemmas.Bool.{or_parts}
+use Rattle.std.proofs.lemmas.Bool.{or_parts, false≢true as untrue}
 use Rattle.std.proofs.lemmas.Cmp.{nat_list_cmp_total}
 use Rattle.std.proofs.lemmas.List.{get_or-map, length-map, take-map, take_all}
 use Rattle.std.proofs.lemmas.List.Elements.{All-contains, All-map, All-more}
@@ -23,9 +23,6 @@ use Rattle.walrus_sections.proofs.Among.{among, none_among}
 
 abbrev Text : Type 0
 Text = Bor (List ℕ)
-
-pub untrue : false ≡ true → ⊥
-untrue h = cc
 
 -- ---- a NAME without a star
 

@@ -1,32 +1,38 @@
 -- Reading functions and data segments one after another.
-use Rattle.std.proofs.Common.{◌≡◌, ℕ, zero, suc, ◌+◌, ◌-◌, ◌<◌, ◌^◌, Bool, true, false, List, [], ◌∷◌, ◌++◌, length, map, refl, ap, ◌∙◌, arith, length-append}
+use Rattle.std.proofs.Common.{◌≡◌, ℕ, zero, suc, ◌+◌, ◌-◌, ◌<◌, ◌≤◌, Bool, true, false, List, [], ◌∷◌, ◌++◌, length, map, refl, ap, ◌∙◌, arith, length-append}
 use Rattle.std.proofs.lemmas.List.{map-append}
 use Rattle.std.specs.Prelude.{Option, Some, None}
+use Rattle.wasm_forms.specs.Number.{IsU32}
 use Rattle.wasm_forms.specs.Reading.{◌>>=◌}
-use Rattle.wasm_forms.specs.Grammar.{Block, at}
+use Rattle.wasm_forms.specs.Grammar.{Is, Block, at}
 use Rattle.wasm_forms.proofs.Bind.{some_same, bind_some, bind_at}
 use Rattle.wasm_forms.proofs.Exact.{exact}
 use Rattle.wasm_entries.specs.Record.{Segment}
 use Rattle.wasm_entries.specs.Forms.{data_form}
-use Rattle.walrus_model.proofs.LeastLengths.{number_long}
 use Rattle.walrus_sections.specs.declared.parts.Part.{Part as RawPart}
 use Rattle.walrus_sections.specs.Parts.{Part, FunctionPart, SegmentPart, item, part_record}
 use Rattle.walrus_sections.specs.PartSteps.{item_at, items_from}
 
 -- what is read takes a byte at least
 
+pub count_long : (bytes : List ℕ) (n : ℕ) → IsU32 bytes n → 1 ≤ length bytes
+count_long [] n h = absurd h.spelled
+count_long (b ∷ bs) n h = omega arith
+
+pub data_long : (bytes : List ℕ) (d : Segment) → Is data_form bytes d → 1 ≤ length bytes
+unfolding data_form
+data_long bytes d i = omega (arith, ap length i.1.1.1.0, length-append i.1.0 i.1.1.0, count_long i.1.0 i.0 i.1.1.1.1)
+
 pub block_shorter : (bytes content rest : List ℕ) → at Block bytes ≡ Some (content, rest) → length content + length rest < length bytes
 block_shorter bytes content rest e =
     let u = (exact Block).takes bytes (content, rest) e in
     let count : List ℕ = u.1.1.0 in
-    omega (arith, ap length u.1.0, length-append u.0 rest, ap length u.1.1.1.0, length-append count content, number_long 5 (2 ^ 32) count (length content) u.1.1.1.1)
+    omega (arith, ap length u.1.0, length-append u.0 rest, ap length u.1.1.1.0, length-append count content, count_long count (length content) u.1.1.1.1)
 
 pub data_shorter : (bytes rest : List ℕ) (d : Segment) → at data_form bytes ≡ Some (d, rest) → length rest < length bytes
-unfolding data_form
 data_shorter bytes rest d e =
     let u = (exact data_form).takes bytes (d, rest) e in
-    let i = u.1.1 in
-    omega (arith, ap length u.1.0, length-append u.0 rest, ap length i.1.1.1.0, length-append i.1.0 i.1.1.0, number_long 5 (2 ^ 32) i.1.0 i.0 i.1.1.1.1)
+    omega (arith, ap length u.1.0, length-append u.0 rest, data_long u.0 d u.1.1)
 
 abbrev pub code_item : (index end : ℕ) → List ℕ → List ℕ × List ℕ → Option (Part × List ℕ)
 code_item index end bytes c = Some (FunctionPart (item index ((end - length bytes) + (length bytes - length c.1 - length c.0)) (length c.0)), c.1)

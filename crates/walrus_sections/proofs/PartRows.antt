@@ -21,10 +21,11 @@ use Rattle.wasm_frames.proofs.Modules.{behind_header, one_record_lem}
 use Rattle.wasm_frames.specs.PieceSteps.{piece_at}
 use Rattle.wasm_frames.proofs.PieceRows.{cut_short, module_has_pieces}
 use Rattle.wasm_frames.proofs.PieceText.{piece_exact}
-use Rattle.walrus_model.proofs.LeastLengths.{number_long}
+use Rattle.walrus_base.proofs.Lookups.{heads}
 use Rattle.walrus_sections.specs.Parts.{Part, SectionPart, brings_function, functions_imported, functions_in, segments_in, IsParted, AreParts, HasParts, FramesNothing, IsImported, HasOnePartList, ModuleHasParts, OnlyModulesHaveParts}
 use Rattle.walrus_sections.specs.PartSteps.{part_from}
-use Rattle.walrus_sections.proofs.PartText.{id_same, part_again, within_exists}
+use Rattle.walrus_sections.proofs.PartItems.{count_long, data_long}
+use Rattle.walrus_sections.proofs.PartText.{part_again, within_exists}
 
 -- ---- sections by their contents, and as they stand
 
@@ -38,15 +39,12 @@ Aligned place bytes (s ∷ ss) (p ∷ ps) =
 not_nil : (bytes front back rest : List ℕ) (id : ℕ) → bytes ≡ [] → bytes ≡ front ++ back → front ≡ id ∷ rest → ⊥
 not_nil bytes front back rest id none split front_is = omega (arith, ap length none, ap length split, length-append front back, ap length front_is)
 
-behind_first : (i j : ℕ) (xs ys : List ℕ) → i ∷ xs ≡ j ∷ ys → xs ≡ ys
-behind_first i j xs ys e = cc
-
 -- an id, a count and so many bytes are one front
 one_front : (i j : ℕ) (front back front' back' size content size' content' : List ℕ) → front ++ back ≡ front' ++ back'
     → front ≡ i ∷ (size ++ content) → front' ≡ j ∷ (size' ++ content') → IsU32 size (length content) → IsU32 size' (length content') → (front' ≡ front) × (back' ≡ back)
 one_front i j front back front' back' size content size' content' same is is' sized sized' =
     let split : i ∷ ((size ++ content) ++ back) ≡ j ∷ ((size' ++ content') ++ back') = sym (ap (λ l. l ++ back) is) ∙ same ∙ ap (λ l. l ++ back') is' in
-    let behind : (size ++ content) ++ back ≡ (size' ++ content') ++ back' = behind_first i j _ _ split in
+    let behind : (size ++ content) ++ back ≡ (size' ++ content') ++ back' = (heads i j _ _ split).1 in
     let backs : back ≡ back' = (one_reading Block (size ++ content) back (size' ++ content') back' content content' behind (size, (refl, sized)) (size', (refl, sized'))).1 in
     (append_cancel_right front' front back (ap (λ l. front' ++ l) backs ∙ sym same), sym backs)
 
@@ -88,20 +86,16 @@ bodies_few (b ∷ bs) place bytes row =
       length-append row.0 row.1.0,
       ap length body.spelled,
       length-append body.size b.bytes,
-      number_long 5 (2 ^ 32) body.size (length b.bytes) body.sized,
+      count_long body.size (length b.bytes) body.sized,
       bodies_few bs (place + length row.0) row.1.0 row.1.1.2,
     )
-
-data_long : (bytes : List ℕ) (d : Segment) → Is data_form bytes d → 1 ≤ length bytes
-unfolding data_form
-data_long bytes d i = omega (arith, ap length i.1.1.1.0, length-append i.1.0 i.1.1.0, number_long 5 (2 ^ 32) i.1.0 i.0 i.1.1.1.1)
 
 import_long : (bytes : List ℕ) (x : Import) → Is import_form bytes x → 1 ≤ length bytes
 unfolding import_form
 import_long bytes x i =
     let p = i.1.1 in
     let block = p.1.1.1.0 in
-    omega (arith, ap length p.1.1.0, length-append p.0 p.1.0, ap length block.1.0, length-append block.0 i.0.0, number_long 5 (2 ^ 32) block.0 (length i.0.0) block.1.1)
+    omega (arith, ap length p.1.1.0, length-append p.0 p.1.0, ap length block.1.0, length-append block.0 i.0.0, count_long block.0 (length i.0.0) block.1.1)
 
 vector_few : {A : Type 0} (f : Form A) → ((bytes : List ℕ) (x : A) → Is f bytes x → 1 ≤ length bytes) → (bytes : List ℕ) (xs : List A) → Is (Vector f) bytes xs → length xs ≤ length bytes
 vector_few f long bytes xs i = omega (arith, ap length i.1.1.1.0, length-append i.1.0 i.1.1.0, row_few f long i.1.1.0 xs i.1.1.1.2.0)
@@ -243,7 +237,7 @@ parts_next bytes functions segments p left so_far h = next_of h.sections h.stand
         };
         within = omega (arith, size, stands.starts, whole, h.reaches);
         functions_fit = λ is.
-            let code : id_of s ≡ 10 = id_same (id_of s) p.id (section.size ++ section.content) (stands.size ++ stands.content) (sym section.spelled ∙ stands.spelled) ∙ is in
+            let code : id_of s ≡ 10 = (heads (id_of s) p.id (section.size ++ section.content) (stands.size ++ stands.content) (sym section.spelled ∙ stands.spelled)).0 ∙ is in
             omega (arith, size, fit, whole, few_left, no_imports s code);
         segments_fit = omega (arith, size, h.segments_fit, whole);
       }

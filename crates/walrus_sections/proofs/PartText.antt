@@ -10,6 +10,7 @@ use Rattle.wasm_entries.specs.Record.{Segment}
 use Rattle.wasm_entries.specs.Forms.{data_form}
 use Rattle.wasm_frames.specs.Frames.{Section, Code, DataSegments, id_of, AreBodies, IsContent}
 use Rattle.wasm_frames.specs.Pieces.{Piece}
+use Rattle.walrus_base.proofs.Lookups.{heads}
 use Rattle.walrus_sections.specs.Parts.{Part, SectionPart, FunctionPart, SegmentPart, Body, item, functions_in, segments_in, function_parts, AreSegments, AreWithin, IsParted}
 use Rattle.walrus_sections.specs.PartSteps.{item_at, items_from, items_in, part_from}
 use Rattle.walrus_sections.proofs.PartItems.{code_item, data_item, then_items}
@@ -101,9 +102,6 @@ row_ends : (place id : ℕ) (bytes size content count row : List ℕ) → bytes 
     → place + length bytes ≡ ((place + 1 + length size) + length count) + length row
 row_ends place id bytes size content count row spelled split = omega (arith, ap length spelled, length-append size content, ap length split, length-append count row)
 
-pub id_same : (i j : ℕ) (xs ys : List ℕ) → i ∷ xs ≡ j ∷ ys → i ≡ j
-id_same i j xs ys e = cc
-
 abbrev with_segments : ℕ → List Part × ℕ → Option (List Part × (ℕ × ℕ))
 with_segments segments x = Some (x.0, (x.1, segments))
 
@@ -144,7 +142,7 @@ part_again (Code bs) functions segments place before inner bytes p h =
     let code = section.used in
     let front : List Part = before ++ SectionPart p ∷ [] in
     let spelled : p.bytes ≡ 10 ∷ (section.size ++ section.content) = h.stands.held ∙ section.spelled in
-    let is : p.id ≡ 10 = id_same p.id 10 (h.stands.size ++ h.stands.content) (section.size ++ section.content) (sym h.stands.spelled ∙ section.spelled) in
+    let is : p.id ≡ 10 = (heads p.id 10 (h.stands.size ++ h.stands.content) (section.size ++ section.content) (sym h.stands.spelled ∙ section.spelled)).0 in
     let ends : p.start + length p.bytes ≡ ((place + 1 + length section.size) + length code.count) + length code.row =
     ap (λ (n : ℕ). n + length p.bytes) h.stands.starts ∙ row_ends place 10 p.bytes section.size section.content code.count code.row spelled code.spelled in
     let d : segments ≡ segments + 0 = omega arith in
@@ -160,7 +158,7 @@ part_again (DataSegments ds) functions segments place before inner bytes p h =
     let row = h.within in
     let front : List Part = before ++ SectionPart p ∷ [] in
     let spelled : p.bytes ≡ 11 ∷ (section.size ++ section.content) = h.stands.held ∙ section.spelled in
-    let is : p.id ≡ 11 = id_same p.id 11 (h.stands.size ++ h.stands.content) (section.size ++ section.content) (sym h.stands.spelled ∙ section.spelled) in
+    let is : p.id ≡ 11 = (heads p.id 11 (h.stands.size ++ h.stands.content) (section.size ++ section.content) (sym h.stands.spelled ∙ section.spelled)).0 in
     let ends : p.start + length p.bytes ≡ ((place + 1 + length section.size) + length row.count) + length row.row =
     ap (λ (n : ℕ). n + length p.bytes) h.stands.starts ∙ row_ends place 11 p.bytes section.size section.content row.count row.row spelled row.spelled in
     let f : functions ≡ functions + 0 = omega arith in
@@ -172,7 +170,7 @@ part_again (DataSegments ds) functions segments place before inner bytes p h =
     ∙ ap (λ (n : ℕ). Some (before ++ SectionPart p ∷ inner, (n, segments + length ds))) f
 part_again s functions segments place before inner bytes p h =
     plain (id_of s) functions segments before inner p
-    (id_same p.id (id_of s) (h.stands.size ++ h.stands.content) (h.section.size ++ h.section.content) (sym h.stands.spelled ∙ h.section.spelled)) refl refl h.within
+    (heads p.id (id_of s) (h.stands.size ++ h.stands.content) (h.section.size ++ h.section.content) (sym h.stands.spelled ∙ h.section.spelled)).0 refl refl h.within
 
 -- ---- each section has its parts
 

@@ -1,16 +1,11 @@
 -- A NAME and a text, compared part by part, and what a star lets forget.
 use Rattle.std.proofs.Common.{◌≡◌, ◌≤◌, ◌↔◌, ◌⊎◌, ℕ, List, [], ◌∷◌, ◌++◌, length, refl, sym, ap, ◌∙◌, subst, append_assoc, inl, inr, arith}
 use Rattle.std.specs.List.{IsFirstAndRest}
+use Rattle.walrus_base.proofs.Lookups.{heads}
 use Rattle.walrus_sections.specs.Fits.{Part, any, byte, parts, FitParts, Fits, FitsBehind}
 use Rattle.walrus_sections.specs.FitSteps.{part_seen, BeginsWith, AtStar, Lessens}
 use Rattle.walrus_sections.specs.declared.tool.fits.Part.{Part as HeldPart}
 use Rattle.walrus_sections.specs.declared.tool.fits.Part.TheVariants.{Any, Byte}
-
-tail_is : {X : Type 0} (x y : X) (xs ys : List X) → x ∷ xs ≡ y ∷ ys → xs ≡ ys
-tail_is x y xs ys h = cc
-
-head_is : {X : Type 0} (x y : X) (xs ys : List X) → x ∷ xs ≡ y ∷ ys → x ≡ y
-head_is x y xs ys h = cc
 
 module _ (ps : List Part) where
   -- a star may take nothing
@@ -39,7 +34,7 @@ module _ (ps : List Part) where
     where
       at : (taken rest : List ℕ) → x ∷ t ≡ taken ++ rest → FitParts ps rest → FitParts ps (x ∷ t) ⊎ FitParts (any ∷ ps) t
       at [] rest e f = inl (subst (FitParts ps) (sym e) f)
-      at (y ∷ taken) rest e f = inr (taken, rest, tail_is x y t (taken ++ rest) e, f)
+      at (y ∷ taken) rest e f = inr (taken, rest, (heads x y t (taken ++ rest) e).1, f)
 
   module _ (x : ℕ) where
     -- behind a star, a byte that fits is one of the text
@@ -47,8 +42,8 @@ module _ (ps : List Part) where
     any_byte y t h = at h.0 h.1 h.3.0 h.2 h.3.1 h.3.2
       where
         at : (taken rest left : List ℕ) → y ∷ t ≡ taken ++ rest → rest ≡ x ∷ left → FitParts ps left → FitParts (any ∷ ps) t
-        at [] rest left e is f = ([], left, tail_is y x t left (e ∙ is), f)
-        at (z ∷ taken) rest left e is f = (taken ++ x ∷ [], left, tail_is y z t (taken ++ rest) e ∙ ap (λ l. taken ++ l) is ∙ sym (append_assoc taken (x ∷ []) left), f)
+        at [] rest left e is f = ([], left, (heads y x t left (e ∙ is)).1, f)
+        at (z ∷ taken) rest left e is f = (taken ++ x ∷ [], left, (heads y z t (taken ++ rest) e).1 ∙ ap (λ l. taken ++ l) is ∙ sym (append_assoc taken (x ∷ []) left), f)
 
     -- and none fits an empty text
     pub any_byte_empty : FitParts (any ∷ byte x ∷ ps) [] → ⊥
@@ -59,10 +54,10 @@ module _ (ps : List Part) where
         at (z ∷ taken) rest left e is = absurd cc
 
     pub byte_differs : (y : ℕ) (t : List ℕ) → (y ≡ x → ⊥) → FitParts (byte x ∷ ps) (y ∷ t) → ⊥
-    byte_differs y t not h = not (head_is y x t h.0 h.1)
+    byte_differs y t not h = not ((heads y x t h.0 h.1).0)
 
     pub byte_same : (y : ℕ) (t : List ℕ) → y ≡ x → FitParts (byte x ∷ ps) (y ∷ t) ↔ FitParts ps t
-    byte_same y t is = (λ h. subst (FitParts ps) (sym (tail_is y x t h.0 h.1)) h.2, λ f. (t, ap (λ z. z ∷ t) is, f))
+    byte_same y t is = (λ h. subst (FitParts ps) (sym ((heads y x t h.0 h.1).1)) h.2, λ f. (t, ap (λ z. z ∷ t) is, f))
 
 -- ---- from the front of a NAME to its first star
 

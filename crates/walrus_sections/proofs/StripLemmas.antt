@@ -1,5 +1,6 @@
 -- Which sections stay and which choices are met, among those that were looked at.
 use Rattle.std.proofs.Common.{◌≡◌, ◌<◌, ◌≤◌, ◌+◌, ◌↔◌, inl, inr, ℕ, Bool, true, false, List, [], ◌∷◌, ◌++◌, length, get_or, map, take, All, flat_map, refl, sym, ap, ◌∙◌, subst, append_assoc}
+use Rattle.std.proofs.lemmas.Bool.{false≢true as untrue}
 use Rattle.std.proofs.lemmas.Grind.{flat_map-append}
 use Rattle.std.proofs.lemmas.List.Elements.{All-map, All-contains, All-more}
 use Rattle.std.proofs.lemmas.List.{append-nil, map_more, take_all}
@@ -15,9 +16,6 @@ use Rattle.walrus_sections.specs.StripAnswers.{AllFit, AreLeft, FitsName, FitsSe
 use Rattle.walrus_sections.specs.StripSteps.{IsLeftOf, IsMet}
 use Rattle.walrus_sections.specs.declared.choice.Choice.{Choice as HeldChoice}
 use Rattle.walrus_sections.proofs.Among.{among, none_among}
-
-pub untrue : false ≡ true → ⊥
-untrue h = cc
 
 -- ---- one choice over all sections
 

@@ -22,7 +22,7 @@ use Rattle.walrus_sections.specs.declared.chooser.Chooser.{Chooser}
 use Rattle.walrus_sections.proofs.Choosers.{picked}
 use Rattle.walrus_tools.proofs.EditEnds.{plain_read}
 use Rattle.walrus_tools.proofs.KeptWhole.{kept_whole}
-use Rattle.walrus_sections.proofs.LookUps.{untrue}
+use Rattle.std.proofs.lemmas.Bool.{false≢true as untrue}
 use Rattle.walrus_tools.proofs.NamedExports.{keeps_alike}
 
 -- ---- whether each choice fits

@@ -10,7 +10,7 @@ use Rattle.walrus_tools.specs.FunctionList.{ListedFunction}
 use Rattle.walrus_sections.specs.Parts.{Part, SectionPart, FunctionPart, SegmentPart}
 use Rattle.walrus_tools.specs.Those.{AreThose}
 use Rattle.walrus_sections.specs.declared.parts.Item.{Item}
-use Rattle.walrus_sections.proofs.LookUps.{untrue}
+use Rattle.std.proofs.lemmas.Bool.{false≢true as untrue}
 
 -- ---- of parts
 

@@ -1,6 +1,7 @@
 use Rattle.std.proofs.Common.{◌≤◌, length, refl, arith}
 use Rattle.walrus_sections.specs.NameLists.{texts}
-use Rattle.walrus_sections.proofs.LookUps.{met_all, met_more, unfit_at, untrue}
+use Rattle.std.proofs.lemmas.Bool.{false≢true as untrue}
+use Rattle.walrus_sections.proofs.LookUps.{met_all, met_more, unfit_at}
 use Rattle.walrus_sections.proofs.name_lists.first_unfit.Goals as goal
 
 pub returns-then-not-fits_text : goal.returns-then-not-fits_text

@@ -2,7 +2,7 @@ use Rattle.std.proofs.Common.{◌≡◌, ◌∙◌, ℕ, Some, None, slice_set, 
 use Rattle.walrus_base.specs.Arena.{item_at}
 use Rattle.walrus_items.specs.Exports.{export_value, exports}
 use Rattle.walrus_sections.specs.NameLists.{IsPicked}
-use Rattle.walrus_sections.proofs.LookUps.{untrue}
+use Rattle.std.proofs.lemmas.Bool.{false≢true as untrue}
 use Rattle.walrus_tools.proofs.NamedExports.{goes_there, stays_there}
 use Rattle.walrus_tools.proofs.named_exports.drop_at.Goals as goal
 

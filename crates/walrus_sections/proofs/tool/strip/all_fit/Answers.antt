@@ -1,5 +1,6 @@
 use Rattle.std.proofs.Common.{refl}
-use Rattle.walrus_sections.proofs.StripLemmas.{all_met, met_more, one_unmet, untrue}
+use Rattle.std.proofs.lemmas.Bool.{false≢true as untrue}
+use Rattle.walrus_sections.proofs.StripLemmas.{all_met, met_more, one_unmet}
 use Rattle.walrus_sections.proofs.tool.strip.all_fit.Goals as goal
 
 pub loop-choice-preserved : goal.loop-choice-preserved
