@@ -3,15 +3,15 @@ use Rattle.std.proofs.Common.{◌≡◌, ℕ, List, Option, Some, None, refl, ap
 use Rattle.std.specs.Prelude.{bytes_eq, option_and_then}
 use Rattle.std.proofs.lemmas.Bool.{and_parts as both}
 use Rattle.std.proofs.lemmas.Slice.Eq.{bytes_eq-Decides}
-use Rattle.walrus_base.specs.Arena.{item_at}
-use Rattle.walrus_base.specs.declared.id.Id.{Id}
-use Rattle.walrus_base.specs.declared.keys.FunctionKey.{FunctionKey}
-use Rattle.walrus_base.proofs.SearchFound.{found-item, found-passes}
-use Rattle.walrus_items.specs.Exports.{ExportValue, exported_function, function_named, is_function, is_function_named}
-use Rattle.walrus_items.specs.Searches.{first}
-use Rattle.walrus_items.specs.declared.kinds.ExportItem.{ExportItem}
-use Rattle.walrus_items.specs.declared.kinds.ExportItem.TheVariants as kinds
-use Rattle.walrus_theorem.proofs.EditKept.{none_isnt, some_is}
+use Rattle.walrus.specs.Base.Arena.{item_at}
+use Rattle.walrus.specs.Base.IdValue.{Id}
+use Rattle.walrus.specs.Base.FunctionKey.{FunctionKey}
+use Rattle.walrus.proofs.Base.SearchFound.{found-item, found-passes}
+use Rattle.walrus.specs.Items.Exports.{ExportValue, exported_function, function_named, is_function, is_function_named}
+use Rattle.walrus.specs.Items.Searches.{first}
+use Rattle.walrus.specs.Items.ExportItem.{ExportItem}
+use Rattle.walrus.specs.Items.ExportItem.TheVariants as kinds
+use Rattle.walrus.proofs.Theorem.EditKept.{none_isnt, some_is}
 
 the_function : (k : ExportItem) (id : Id FunctionKey) → exported_function k ≡ Some id → k ≡ kinds.Function id
 the_function (kinds.Function f) id e = ap kinds.Function (some_is e)

@@ -1,13 +1,13 @@
 -- Where the operators of a body stand ("Binary Format > Instructions > Expressions").
 use Rattle.std.specs.Prelude.{ℕ, ◌+◌, List, ◌++◌, length, ◌≡◌}
-use Rattle.wasm_forms.specs.declared.types.RawVal.{RawVal}
-use Rattle.wasm_forms.specs.Grammar.{Is, IsRow}
-use Rattle.wasm_operators.specs.Operators as operators
-use Rattle.wasm_operators.specs.Forms.{operator}
-use Rattle.wasm_frames.specs.Record as wire
-use Rattle.walrus_base.specs.Operators.{Op}
-use Rattle.walrus_code.specs.FromRaw.{op_of}
-use Rattle.walrus_bodies.specs.Body.{declarations}
+use Rattle.walrus.specs.Forms.RawVal.{RawVal}
+use Rattle.walrus.specs.Forms.Grammar.{Is, IsRow}
+use Rattle.walrus.specs.Operators.Operators as operators
+use Rattle.walrus.specs.Operators.Forms.{operator}
+use Rattle.walrus.specs.Frames.Record as wire
+use Rattle.walrus.specs.Base.Operators.{Op}
+use Rattle.walrus.specs.Code.FromRaw.{op_of}
+use Rattle.walrus.specs.Modules.Body.{declarations}
 
 -- The bytes of a body begin with declarations of locals; behind these stand k operators, and then this one. Its first byte has this place
 -- among the bytes of the module ("Binary Format > Instructions > Expressions").

@@ -1,7 +1,7 @@
 //! A function by its index, or by a name.
 
-ghost use Rattle.walrus_items.specs.Exports.{exports};
-ghost use Rattle.walrus_items.specs.Functions.{functions};
+ghost use Rattle.walrus.specs.Items.Exports.{exports};
+ghost use Rattle.walrus.specs.Items.Functions.{functions};
 ghost use Rattle.walrus_tools.specs.FunctionNames.{FindsCalled};
 ghost use Rattle.walrus_tools.specs.Reasons.{FindsFunction};
 

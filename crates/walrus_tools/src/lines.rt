@@ -1,9 +1,9 @@
 //! The lines of a report on a function: a chain of references, and what functions cost.
 
 ghost use Rattle.std.specs.Prelude.{◌≡◌, ◌++◌, IfOk, OnOk, codes, decimal, flat_map, map, string_bytes};
-ghost use Rattle.walrus_base.specs.Id.{place};
-ghost use Rattle.walrus_code.specs.Code.{item_of};
-ghost use Rattle.walrus_items.specs.Transform.{range_of, transform_of};
+ghost use Rattle.walrus.specs.Base.Id.{place};
+ghost use Rattle.walrus.specs.Code.Code.{item_of};
+ghost use Rattle.walrus.specs.Items.Transform.{range_of, transform_of};
 ghost use Rattle.walrus_tools.specs.Reasons.{chain_seen, chain_text, item_line, item_text, report_text, size_line, size_text, word_of};
 
 use std::alloc::{AllocError, Global};

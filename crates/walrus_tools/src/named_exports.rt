@@ -1,18 +1,15 @@
 //! Exports, by their names.
 
 ghost use Rattle.std.specs.Prelude.{◌≡◌, IfOk, map};
-ghost use Rattle.walrus_items.specs.Exports.{exports};
-ghost use Rattle.walrus_tools.specs.Choice.{choices_seen};
-ghost use Rattle.walrus_tools.specs.ExportChoice.{TellsUnfit};
+ghost use Rattle.walrus.specs.Items.Exports.{exports};
+ghost use Rattle.walrus_sections.specs.Choice.{choices_seen};
+ghost use Rattle.walrus_sections.specs.ExportChoice.{TellsUnfit};
 ghost use Rattle.walrus_tools.specs.KeptExports.{KeepsAt, KeepsNamed, export_names};
-ghost use Rattle.walrus_tools.specs.NameLists.{IsInOrder, IsPicked, texts};
+ghost use Rattle.walrus_sections.specs.NameLists.{IsInOrder, IsPicked, texts};
 
-use crate::choice::Choice;
-use crate::chooser::{Chooser, is_chosen};
-use crate::name_lists::first_unfit;
 use std::alloc::{AllocError, Global};
-use walrus_base::ExportId;
-use walrus_items::ModuleExports;
+use walrus::{ExportId, ModuleExports};
+use walrus_sections::{Choice, Chooser, first_unfit, is_chosen};
 
 // The names under which something is exported, by rising id.
 fn export_names(alloc: Global, all: &ModuleExports) -> Result<Vec<&[u8]>, AllocError>

@@ -1,6 +1,6 @@
 //! An import whose function traps from now on.
 
-ghost use Rattle.walrus_module.specs.Replaced.{ReplacesImport};
+ghost use Rattle.walrus.specs.Modules.Replaced.{ReplacesImport};
 ghost use Rattle.walrus_tools.specs.StubAnswers.{PutsTrap};
 
 use crate::traps::put_trap;

@@ -1,9 +1,9 @@
 //! A body that traps.
 
 ghost use Rattle.std.specs.Prelude.{◌≡◌, ◌++◌, ◌∷◌, [], MatchResult};
-ghost use Rattle.walrus_ir.specs.Instructions.{unreachable_op};
-ghost use Rattle.walrus_ir.specs.Sequence.{built};
-ghost use Rattle.walrus_items.specs.Errors.{out_of_memory};
+ghost use Rattle.walrus.specs.Ir.Instructions.{unreachable_op};
+ghost use Rattle.walrus.specs.Ir.Sequence.{built};
+ghost use Rattle.walrus.specs.Items.Errors.{out_of_memory};
 
 use walrus::{InstrSeqBuilder, Result};
 
