@@ -13,7 +13,7 @@ use Rattle.walrus_code.specs.declared.items.ItemId.{ItemId}
 use Rattle.walrus_code.specs.declared.items.ItemId.TheVariants as items_of_kinds
 use Rattle.walrus_base.proofs.Lists.{Contains-map, Contains-none}
 use Rattle.walrus_base.proofs.SearchFound.{found-item, found-passes}
-use Rattle.walrus_model.specs.Abstract.{Abstract, DataSegment, Element, Export, ActiveElements, DeclaredElements, PassiveElements, ElementKind, DataKind}
+use Rattle.walrus_model.specs.Abstract.{Abstract, DataSegment, Element, Export, ActiveElements, DeclaredElements, PassiveElements, ElementKind}
 use Rattle.walrus_model.specs.Roots.{IsRoot, IsRootData, IsRootElement, exported, start, data_segment, element_segment, asked_for}
 use Rattle.walrus_model.proofs.Reach.{Contains-unmap}
 use Rattle.walrus_model.proofs.Slots.{entry_in}
