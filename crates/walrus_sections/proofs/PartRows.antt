@@ -1,5 +1,5 @@
 -- The parts of whole modules: each module has one list of them, and its sections are read one after another.
-use Rattle.std.proofs.Common.{◌≡◌, ℕ, suc, ◌+◌, ◌<◌, ◌≤◌, ◌^◌, Bool, true, false, List, [], ◌∷◌, ◌++◌, length, map, filter, drop, get_or, refl, sym, ap, subst, ◌∙◌, arith, Vec, Global, append_assoc, append-nil, length-append, drop-cons, drop_of_length-le}
+use Rattle.std.proofs.Common.{◌≡◌, ℕ, suc, ◌+◌, ◌<◌, ◌≤◌, Bool, true, false, List, [], ◌∷◌, ◌++◌, length, map, filter, drop, get_or, refl, sym, ap, subst, ◌∙◌, arith, Vec, Global, append_assoc, append-nil, length-append, drop-cons, drop_of_length-le}
 use Rattle.std.proofs.lemmas.List.{append_cancel_right}
 use Rattle.std.specs.Prelude.{Option, Some, None, Result, Err, if◌then◌else◌}
 use Rattle.wasm_forms.specs.declared.error.WireError.{WireError}
@@ -9,7 +9,7 @@ use Rattle.wasm_forms.specs.Number.{IsU32}
 use Rattle.wasm_forms.specs.Grammar.{Form, Is, IsRow, Block, Vector}
 use Rattle.wasm_forms.proofs.Bind.{some_same, some_not_none}
 use Rattle.wasm_forms.proofs.Exact.{one_reading}
-use Rattle.wasm_entries.specs.Record.{Import, Segment}
+use Rattle.wasm_entries.specs.Record.{Import}
 use Rattle.wasm_entries.specs.Forms.{import_form, data_form}
 use Rattle.wasm_frames.specs.Frames.{Section, Imports, Code, DataSegments, id_of, AreBodies, IsSection, AreSections, with_section, gathered, gathered_onto, Frames}
 use Rattle.wasm_frames.specs.Record.{Body, Module, no_sections}

@@ -1,6 +1,6 @@
 //! Texts in order, among which a NAME finds one that it fits.
 
-ghost use Rattle.std.specs.Prelude.{◌≡◌, ◌↔◌, Contains, IsSorted, MatchOption, true};
+ghost use Rattle.std.specs.Prelude.{◌≡◌, ◌↔◌, Contains, IsSorted, true};
 ghost use Rattle.wasm_wire.specs.Names.{by_bytes};
 ghost use Rattle.walrus_sections.specs.Choice.{choices_seen};
 ghost use Rattle.walrus_sections.specs.ExportChoice.{FitsText, TellsUnfit};

@@ -13,7 +13,7 @@ use Rattle.walrus.specs.Code.ItemId.{ItemId}
 use Rattle.walrus.specs.Code.ItemId.TheVariants as items_of_kinds
 use Rattle.walrus.proofs.Base.Lists.{Contains-map, Contains-none}
 use Rattle.walrus.proofs.Base.SearchFound.{found-item, found-passes}
-use Rattle.walrus.specs.Model.Abstract.{Abstract, DataSegment, Element, Export, ActiveElements, DeclaredElements, PassiveElements, ElementKind, DataKind}
+use Rattle.walrus.specs.Model.Abstract.{Abstract, DataSegment, Element, Export, ActiveElements, DeclaredElements, PassiveElements, ElementKind}
 use Rattle.walrus.specs.Model.Roots.{IsRoot, IsRootData, IsRootElement, exported, start, data_segment, element_segment, asked_for}
 use Rattle.walrus.proofs.Model.Reach.{Contains-unmap}
 use Rattle.walrus.proofs.Model.Slots.{entry_in}

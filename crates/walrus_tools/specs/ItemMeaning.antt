@@ -1,6 +1,6 @@
 -- Which item of a module a text means: by an index, by its own name, or by the name of an export ("Structure > Modules > Indices", "Structure > Modules
 -- > Exports").
-use Rattle.std.specs.Prelude.{ℕ, List, Option, Some, None, Result, Ok, Err, option_map, ◌≡◌}
+use Rattle.std.specs.Prelude.{ℕ, List, Option, Some, Result, Ok, Err, option_map, ◌≡◌}
 use Rattle.walrus.specs.Base.Arena.{IsLive}
 use Rattle.walrus.specs.Base.Operators.{Item, function_item}
 use Rattle.walrus.specs.Code.Code.{item_of}

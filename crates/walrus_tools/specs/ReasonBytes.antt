@@ -1,5 +1,5 @@
 -- What is told of an item and of why it stays, as bytes.
-use Rattle.std.specs.Prelude.{ℕ, ◌^◌, ◌≤◌, ◌⊎◌, List, [], ◌∷◌, ◌++◌, Contains, Option, Some, None, flat_map, length, option_map, map}
+use Rattle.std.specs.Prelude.{ℕ, ◌^◌, ◌≤◌, ◌⊎◌, List, [], ◌∷◌, ◌++◌, Option, Some, None, flat_map, length}
 use Rattle.walrus.specs.Base.Operators.{Item}
 use Rattle.walrus.specs.Code.Code.{item_of}
 use Rattle.walrus.specs.Model.Abstract.{Name}

@@ -7,7 +7,6 @@ use Rattle.walrus.specs.Base.Id.{place}
 use Rattle.walrus.specs.Base.IdValue.{Id}
 use Rattle.walrus.specs.Base.FunctionKey.{FunctionKey}
 use Rattle.walrus.specs.Base.Operators.{Space, Types, Functions, Tables, Memories, Tags, Globals, Elements, DataSegments, Item, function_item}
-use Rattle.walrus.specs.Code.Code.{item_of}
 use Rattle.walrus.specs.Code.Transform.{Transform}
 use Rattle.walrus.specs.Model.Abstract.{Abstract}
 use Rattle.walrus.specs.Model.Config.{Config}

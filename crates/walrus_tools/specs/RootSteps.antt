@@ -1,5 +1,5 @@
 -- What makes an item a root, kind by kind.
-use Rattle.std.specs.Prelude.{◌≡◌, ℕ, List, [], ◌∷◌, Option, Some, None, MatchOption, nat_eq, if◌then◌else◌}
+use Rattle.std.specs.Prelude.{◌≡◌, ℕ, List, [], ◌∷◌, Option, Some, None, nat_eq, if◌then◌else◌}
 use Rattle.walrus.specs.Base.Id.{place}
 use Rattle.walrus.specs.Base.Operators.{Item}
 use Rattle.walrus.specs.Base.IdValue.{Id}

@@ -1,7 +1,6 @@
 //! The item that a text means: by an index, by its own name, or by the name of an export.
 
 ghost use Rattle.std.specs.Prelude.{◌≡◌, option_map};
-ghost use Rattle.walrus.specs.Code.Code.{item_of};
 ghost use Rattle.walrus.specs.Items.Exports.{exports};
 ghost use Rattle.walrus.specs.Items.Functions.{functions};
 ghost use Rattle.walrus.specs.Items.Kinds.{exported};

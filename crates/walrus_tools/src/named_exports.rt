@@ -1,6 +1,6 @@
 //! Exports, by their names.
 
-ghost use Rattle.std.specs.Prelude.{◌≡◌, IfOk, map};
+ghost use Rattle.std.specs.Prelude.{◌≡◌, IfOk};
 ghost use Rattle.walrus.specs.Items.Exports.{exports};
 ghost use Rattle.walrus_sections.specs.Choice.{choices_seen};
 ghost use Rattle.walrus_sections.specs.ExportChoice.{TellsUnfit};

@@ -1,6 +1,6 @@
 //! What a developer asks of a module whatever its sections hold: which sections it has, where, and how large.
 
-ghost use Rattle.std.specs.Prelude.{◌≡◌, ◌++◌, ◌∷◌, [], IfErr, IfOk, OnOk, flat_map, map, option_map};
+ghost use Rattle.std.specs.Prelude.{◌≡◌, ◌++◌, IfErr, IfOk, OnOk, flat_map, map, option_map};
 ghost use Rattle.wasm_frames.specs.Pieces.{piece_record};
 ghost use Rattle.walrus_sections.specs.Numbers.{IsLongName, RefusesIf, name_bytes};
 ghost use Rattle.walrus_sections.specs.Sections.{AnswersPieced, AnswersSections, HasLongSection, IsLongList, IsLongSection, bit, count_of, is_counted, list_bytes, names_of, section_bytes};

@@ -1,7 +1,6 @@
 //! What a developer asks of bytes that are refused: what is wrong with them.
 
 ghost use Rattle.std.specs.Prelude.{◌≡◌, IfOk, string_bytes};
-ghost use Rattle.walrus.specs.Modules.Faults.{FindsFault};
 ghost use Rattle.walrus_tools.specs.Faults.{
   AnswersFault,
   Diagnoses,

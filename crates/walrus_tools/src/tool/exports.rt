@@ -1,8 +1,7 @@
 //! What a developer asks of a module's interface: what it hands out, of which only what is chosen is left.
 
-ghost use Rattle.std.specs.Prelude.{◌≡◌, ◌++◌, IfErr, IfOk, OnOk, map};
+ghost use Rattle.std.specs.Prelude.{◌≡◌, IfOk, map};
 ghost use Rattle.walrus.specs.Base.Arena.{items};
-ghost use Rattle.walrus.specs.Code.Code.{item_of};
 ghost use Rattle.walrus.specs.Items.Exports.{export_value, exports};
 ghost use Rattle.walrus_sections.specs.Choice.{choices_seen};
 ghost use Rattle.walrus_tools.specs.ExportList.{AnswersExportList, AnswersExports, ExportedItem, IsLongExport, export_told, exported_bytes, exported_seen};

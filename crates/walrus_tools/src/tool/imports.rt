@@ -1,6 +1,6 @@
 //! What a developer asks of a module's interface: what it still needs where what nothing reaches goes.
 
-ghost use Rattle.std.specs.Prelude.{◌≡◌, ◌++◌, IfErr, IfOk, OnOk, map};
+ghost use Rattle.std.specs.Prelude.{◌≡◌, IfOk, map};
 ghost use Rattle.walrus.specs.Base.Arena.{items};
 ghost use Rattle.walrus.specs.Code.Code.{item_of};
 ghost use Rattle.walrus.specs.Items.Imports.{import_value, imports};

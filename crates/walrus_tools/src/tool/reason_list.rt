@@ -1,6 +1,6 @@
 //! Why an item stays, and what refers to it, as bytes for callers of other languages.
 
-ghost use Rattle.std.specs.Prelude.{◌≡◌, ◌++◌, ◌<◌, ◌^◌, ◌≤◌, IfErr, IfOk, OnOk, flat_map, map, string_bytes};
+ghost use Rattle.std.specs.Prelude.{◌≡◌, ◌++◌, ◌<◌, ◌^◌, ◌≤◌, IfErr, IfOk, OnOk, flat_map, string_bytes};
 ghost use Rattle.walrus.specs.Code.Code.{item_of};
 ghost use Rattle.walrus.specs.Model.Abstract.{Name};
 ghost use Rattle.walrus_sections.specs.Choice.{choices_seen};

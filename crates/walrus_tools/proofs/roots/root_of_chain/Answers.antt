@@ -1,4 +1,4 @@
-use Rattle.std.proofs.Common.{List, Option, ap, map, subst, sym, ◌∙◌}
+use Rattle.std.proofs.Common.{List, Option, ap, subst, sym, ◌∙◌}
 use Rattle.std.specs.Global.{Vec}
 use Rattle.std.specs.Prelude.{option_map, slice_get}
 use Rattle.walrus.specs.Code.ItemId.{ItemId}
