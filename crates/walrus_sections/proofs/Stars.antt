@@ -1,11 +1,21 @@
 -- A NAME and a text, compared part by part, and what a star lets forget.
-use Rattle.std.proofs.Common.{◌≡◌, ◌≤◌, ◌↔◌, ◌⊎◌, ℕ, List, [], ◌∷◌, ◌++◌, length, refl, sym, ap, ◌∙◌, subst, append_assoc, inl, inr, arith}
+use Rattle.std.proofs.Common.{◌≡◌, ◌<◌, ◌≤◌, ◌↔◌, ◌⊎◌, ℕ, List, [], ◌∷◌, ◌++◌, length, refl, sym, ap, ◌∙◌, subst, append_assoc, inl, inr, arith}
 use Rattle.std.specs.List.{IsFirstAndRest}
+use Rattle.std.proofs.lemmas.List.{append-nil}
 use Rattle.walrus_base.proofs.Lookups.{heads}
 use Rattle.walrus_sections.specs.Fits.{Part, any, byte, parts, FitParts, Fits, FitsBehind}
 use Rattle.walrus_sections.specs.FitSteps.{part_seen, BeginsWith, AtStar, Lessens}
 use Rattle.walrus_sections.specs.declared.tool.fits.Part.{Part as HeldPart}
 use Rattle.walrus_sections.specs.declared.tool.fits.Part.TheVariants.{Any, Byte}
+
+-- a star takes all of a text
+takes_all : (t : List ℕ) → FitParts (any ∷ []) t
+takes_all t = (t, [], sym (append-nil t), refl)
+
+-- a star and an empty NAME fit each text
+pub fits_all : (name t : List ℕ) → length name < 1 → FitsBehind name t
+fits_all [] t empty = takes_all t
+fits_all (x ∷ name) t empty = absurd (omega (arith, empty))
 
 module _ (ps : List Part) where
   -- a star may take nothing

@@ -1,4 +1,4 @@
-//! Texts in order, among which a NAME finds one that it fits.
+//! Texts, among which a NAME finds one that it fits.
 
 ghost use Rattle.std.specs.Prelude.{◌≡◌, ◌↔◌, Contains, IsSorted, true};
 ghost use Rattle.wasm_wire.specs.Names.{by_bytes};
@@ -36,26 +36,25 @@ fn fits_any(all: &[&[u8]], name: &[u8]) -> bool
     false
 }
 
-// Whether the NAME fits one of these texts, which stand in order.
-fn fits_text(all: &[&[u8]], name: &[u8]) -> bool
-    requires { IsSorted by_bytes all.now }
+// Whether the NAME fits one of these texts. Where they stand in order, one without a star is looked up.
+fn fits_text(all: &[&[u8]], name: &[u8], in_order: bool) -> bool
+    requires { in_order ≡ true → IsSorted by_bytes all.now }
     ensures { (result ≡ true) ↔ FitsText (texts all.now) name.now }
 {
-    if has_star(name) {
-        fits_any(all, name)
-    } else {
-        is_among(all, name)
+    if in_order && !has_star(name) {
+        return is_among(all, name);
     }
+    fits_any(all, name)
 }
 
-/// The number of the first choice, from 0, that fits none of these texts, which stand in the order of their bytes; or none where each fits one.
-/// Takes no memory.
-pub fn first_unfit(all: &[&[u8]], choices: &[Choice<'_>]) -> Option<usize>
-    requires { IsSorted by_bytes all.now }
+/// The number of the first choice, from 0, that fits none of these texts; or none where each fits one. A choice without a star is looked up where
+/// the texts stand in the order of their bytes, as is said by `in_order`; each other one takes a walk over the texts. Takes no memory.
+pub fn first_unfit(all: &[&[u8]], choices: &[Choice<'_>], in_order: bool) -> Option<usize>
+    requires { in_order ≡ true → IsSorted by_bytes all.now }
     ensures { TellsUnfit (texts all.now) (choices_seen choices.now) result }
 {
     'choices: for number in 0..choices.len() {
-        if !fits_text(all, choices[number].name) {
+        if !fits_text(all, choices[number].name, in_order) {
             return Some(number);
         }
     }
