@@ -4,7 +4,7 @@ use Rattle.walrus_model.specs.Abstract.{Abstract, Custom}
 use Rattle.walrus_model.specs.Config.{Config}
 use Rattle.walrus_contents.specs.declared.parts.Contents.{Contents}
 use Rattle.walrus_module.specs.Parsed.{IsParsed}
-use Rattle.walrus_tools.specs.Edits.{with_customs}
+use Rattle.walrus.specs.Edits.{with_customs}
 
 -- the bytes were parsed, and what was parsed was edited so
 pub record Edited (Edits : Contents → Contents → Type 0) (c : Config) (bytes : List ℕ) : Type 0 where

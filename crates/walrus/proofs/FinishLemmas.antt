@@ -33,8 +33,8 @@ use Rattle.walrus_module.specs.declared.module.Module.{Module}
 use Rattle.walrus.specs.Marked.{ReachesUnsound}
 use Rattle.walrus.specs.Used.{RefusesSearch}
 use Rattle.walrus_module.proofs.RawStays.{leaves_whole, plain_well}
-use Rattle.walrus_tools.specs.Ends.{Answers, Finishes, LeavesLarge, LeavesWritten, LeftOf}
-use Rattle.walrus_tools.specs.ListSteps.{IsReady}
+use Rattle.walrus.specs.Ends.{Answers, Finishes, LeavesLarge, LeavesWritten, LeftOf}
+use Rattle.walrus.specs.Ready.{IsReady}
 
 -- where what is left so is left as another says, the answer is one of bytes that were read
 module _ (Left More : Abstract → Type 0) (c : Config) (bytes : List ℕ) (Refuses : Error → Type 0) (more : (u : Abstract) → Left u → More u) where

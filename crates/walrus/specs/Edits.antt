@@ -12,7 +12,7 @@ use Rattle.walrus_theorem.specs.WellMade.{IsWellMade}
 use Rattle.walrus_module.specs.Parsed.{IsParsed}
 use Rattle.walrus_module.specs.View.{held_view}
 use Rattle.walrus_module.specs.declared.module.Module.{Module}
-use Rattle.walrus_tools.specs.Ends.{Answers, LeavesLarge, LeavesWritten, LeftOf}
+use Rattle.walrus.specs.Ends.{Answers, LeavesLarge, LeavesWritten, LeftOf}
 
 -- the module is well made, and what is reached is there
 pub record IsWhole {S : Type 0} (c : Config) (m : Module S) : Type 0 where

@@ -33,10 +33,10 @@ use Rattle.walrus_module.specs.declared.customs.ModuleCustomSections.{ModuleCust
 use Rattle.walrus_module.specs.declared.entry.SectionEntry.{SectionEntry}
 use Rattle.walrus_module.specs.declared.module.Module.{Module}
 use Rattle.walrus_module.proofs.KeptRaw.{none_refuses}
-use Rattle.walrus_tools.specs.Edits.{AnswersEdited, EditsTo, IsWhole, RefusesEdit, with_customs}
-use Rattle.walrus_tools.specs.Ends.{Finishes, LeftOf}
-use Rattle.walrus_tools.specs.ListSteps.{FinishesReady, IsReady}
-use Rattle.walrus_tools.proofs.FinishLemmas.{answered}
+use Rattle.walrus.specs.Edits.{AnswersEdited, EditsTo, IsWhole, RefusesEdit, with_customs}
+use Rattle.walrus.specs.Ends.{Finishes, LeftOf}
+use Rattle.walrus.specs.Ready.{FinishesReady, IsReady}
+use Rattle.walrus.proofs.FinishLemmas.{answered}
 
 -- where memory ran out nothing is asked
 pub memory_refused : (Edits : Contents → Contents → Type 0) (Refuses : Contents → Error → Type 0) (c : Config) (bytes : List ℕ) (e : Error) → e ≡ out_of_memory → AnswersEdited Edits Refuses c bytes (Err e)

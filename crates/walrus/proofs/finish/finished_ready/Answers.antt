@@ -2,8 +2,8 @@ use Rattle.std.proofs.Common.{ap, ◌∙◌}
 use Rattle.std.proofs.lemmas.Result.{err_from_is_err_and}
 use Rattle.walrus_module.specs.Flags.{Flags}
 use Rattle.walrus_module.specs.Settings.{settings}
-use Rattle.walrus_tools.proofs.FinishLemmas.{finished, none_dead, search_refused, sections_stay}
-use Rattle.walrus_tools.proofs.finish.finished_ready.Goals as goal
+use Rattle.walrus.proofs.FinishLemmas.{finished, none_dead, search_refused, sections_stay}
+use Rattle.walrus.proofs.finish.finished_ready.Goals as goal
 
 pub returns-in_err-run : goal.returns-in_err-run
 returns-in_err-run g c = λ ready.
