@@ -27,6 +27,7 @@ use wasm_frames::RawBody;
 
 /// What stands in front of what an import brings, and of what the module defines.
 const BROUGHT: u8 = 1;
+
 const DEFINED: u8 = 0;
 
 /// Puts a constant expression behind the bytes, its size first.
@@ -148,11 +149,7 @@ impl<'a> Tells for DefinedFunction<'a> {
 }
 
 /// Puts the initialiser of a table behind the bytes, where it has one.
-fn write_initial(
-    alloc: Global,
-    to: &mut Vec<u8>,
-    table: &RawTable,
-) -> result::Result<(), WireError>
+fn write_initial(alloc: Global, to: &mut Vec<u8>, table: &RawTable) -> result::Result<(), WireError>
     ensures { Adds result to.old.items to.new.items (initial_bytes (table_entry table.now).initial)
         (InitialFits (table_entry table.now).initial) }
 {
