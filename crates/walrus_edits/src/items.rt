@@ -6,6 +6,7 @@ ghost use Rattle.wasm_forms.specs.Writing.{Adds, EachFits};
 ghost use Rattle.wasm_entries.specs.Record.{group, import_entry};
 ghost use Rattle.wasm_frames.specs.Record.{body_record, sections};
 ghost use Rattle.walrus_contents.specs.View.{lent};
+ghost use Rattle.walrus_module.specs.View.{contents_of};
 ghost use Rattle.walrus.specs.Wanted.{config_wanted};
 ghost use Rattle.walrus_edits.specs.ItemRecords.{TheStart, ToldFits, told_bytes};
 ghost use Rattle.walrus_edits.specs.ItemValues.{brings_function, functions_in, imports_in, sections_in};
@@ -20,7 +21,7 @@ use crate::section_records::{DefinedFunction, Start};
 use crate::type_records::type_groups;
 use std::alloc::Global;
 use std::result;
-use walrus::{ModuleConfig, Result, Wanted};
+use walrus::{Module, ModuleConfig, Result, Wanted};
 use walrus_contents::Parts;
 use wasm_entries::{RawDesc, RawGroup, RawImport};
 use wasm_forms::WireError;
@@ -138,6 +139,28 @@ fn listed(
     Ok(list)
 }
 
+/// What a module holds but its custom sections, lent.
+fn parts_of<S>(module: &Module<S>) -> Parts<'_>
+    ensures { lent result ≡ contents_of «module».now }
+{
+    Parts {
+        types: &module.types,
+        locals: &module.locals,
+        imports: &module.imports,
+        funcs: &module.funcs,
+        tables: &module.tables,
+        memories: &module.memories,
+        tags: &module.tags,
+        globals: &module.globals,
+        elements: &module.elements,
+        data_: &module.data_,
+        exports: &module.exports,
+        start: module.start,
+        producers: &module.producers,
+        name: &module.name,
+    }
+}
+
 /// The items of a module, as a list of records: a byte, a size and so many bytes each. docs/FORMATS.md has their forms.
 ///
 /// # Errors
@@ -151,6 +174,6 @@ pub fn items(alloc: Global, bytes: &[u8], wanted: Wanted) -> Result<Vec<u8>>
     let module = config.parse(alloc, bytes)?;
     let raw = read_module(alloc, bytes)?;
     let groups = type_groups(alloc, &module.types)?;
-    let list = listed(alloc, &raw, &groups, module.parts())?;
+    let list = listed(alloc, &raw, &groups, parts_of(&module))?;
     Ok(list)
 }

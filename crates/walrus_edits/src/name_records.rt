@@ -24,6 +24,7 @@ use walrus_items::{Data, Element, Function, Item, Items, Memory, Table, Tag};
 use wasm_forms::{WireError, write_name, write_u64};
 
 /// A name, what it is the name of, and that one's place.
+#[derive(Clone, Copy)]
 struct NameOf<'a> {
     what: u8,
     place: usize,

@@ -19,6 +19,7 @@ use wasm_frames::RawCustom;
 use wasm_wire::{CustomGroup, is_debug};
 
 /// A producer: its field, its name, and its version.
+#[derive(Clone, Copy)]
 struct Producer<'a> {
     field: &'a str,
     name: &'a str,
@@ -80,6 +81,7 @@ pub(crate) fn tell_producers(
 }
 
 /// A custom section and its id.
+#[derive(Clone, Copy)]
 struct CustomWithId<'a> {
     id: usize,
     custom: RawCustom<'a>,

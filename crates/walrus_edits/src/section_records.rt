@@ -228,6 +228,7 @@ impl<'a> Tells for RawExport<'a> {
 }
 
 /// The start function, by its index.
+#[derive(Clone, Copy)]
 pub(crate) struct Start(pub(crate) u32);
 
 impl Tells for Start {
