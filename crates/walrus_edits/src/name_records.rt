@@ -1,17 +1,25 @@
 //! What is told of the names of items.
 
-ghost use Rattle.std.specs.Prelude.{List, Option, ℕ, ◌≡◌, map};
+ghost use Rattle.std.specs.Prelude.{List, Option, ℕ, ◌≡◌};
 ghost use Rattle.wasm_forms.specs.Spelling.{row_bytes};
 ghost use Rattle.wasm_forms.specs.Writing.{Adds, EachFits};
 ghost use Rattle.walrus_base.specs.Arena.{entries, live_places};
 ghost use Rattle.walrus_base.specs.ModuleTypes.{type_names, type_slots};
 ghost use Rattle.walrus_items.specs.Held.{held};
 ghost use Rattle.walrus_items.specs.Seen.{text_of};
+ghost use Rattle.walrus_items.specs.Data.{data_segments};
+ghost use Rattle.walrus_items.specs.Elements.{elements};
+ghost use Rattle.walrus_items.specs.Functions.{functions};
+ghost use Rattle.walrus_items.specs.Globals.{globals};
+ghost use Rattle.walrus_items.specs.Memories.{memories};
+ghost use Rattle.walrus_items.specs.Tables.{tables};
+ghost use Rattle.walrus_items.specs.Tags.{tags};
+ghost use Rattle.walrus_edit_list.specs.declared.numbers.TheConstants.{OF_DATA, OF_ELEMENT, OF_FUNCTION, OF_GLOBAL, OF_MEMORY, OF_TABLE, OF_TAG};
 ghost use Rattle.walrus_contents.specs.View.{lent};
 ghost use Rattle.walrus_edits.specs.ItemRecords.{AName, ToldFits, told_bytes};
 ghost use Rattle.walrus_edits.specs.ItemValues.{all_names, named, names_in, type_names_in};
 
-use crate::records::{Tells, tell};
+use crate::records::{Tells, put_byte, put_number, tell};
 use std::alloc::Global;
 use std::result;
 use walrus_base::ModuleTypes;
@@ -20,8 +28,11 @@ use walrus_edit_list::numbers::{
     NAME, OF_DATA, OF_ELEMENT, OF_FUNCTION, OF_GLOBAL, OF_MEMORY, OF_MODULE, OF_TABLE, OF_TAG,
     OF_TYPE,
 };
-use walrus_items::{Data, Element, Function, Item, Items, Memory, Table, Tag};
-use wasm_forms::{WireError, write_name, write_u64};
+use walrus_items::{
+    Data, Element, Function, Item, Items, Memory, ModuleData, ModuleElements, ModuleFunctions,
+    ModuleGlobals, ModuleMemories, ModuleTables, ModuleTags, Table, Tag,
+};
+use wasm_forms::{WireError, write_name};
 
 /// A name, what it is the name of, and that one's place.
 #[derive(Clone, Copy)]
@@ -39,8 +50,8 @@ impl<'a> Tells for NameOf<'a> {
     }
 
     fn write_payload(&self, _alloc: Global, to: &mut Vec<u8>) -> result::Result<(), WireError> {
-        to.push(self.what)?;
-        write_u64(to, self.place as u64)?;
+        put_byte(to, self.what)?;
+        put_number(to, self.place as u64)?;
         write_name(to, self.name)
     }
 }
@@ -70,17 +81,17 @@ fn tell_name(
     }
 }
 
-/// An item that may have a name; contracts see of it `name_of`.
+/// An item that may have a name: `own`.
 trait MayHaveName: Item {
-    ghost name_of: { Self.Seen → Option (List ℕ) };
+    ghost own: { Self → Option (List ℕ) };
 
     /// Its name, if it has one.
     fn own_name(&self) -> &Option<String>
-        ensures { text_of result.now ≡ name_of (Self.value self.now) };
+        ensures { text_of result.now ≡ own self.now };
 }
 
 impl MayHaveName for Function {
-    ghost name_of = { λ f. f.name };
+    ghost own = { λ f. text_of f.name };
 
     fn own_name(&self) -> &Option<String> {
         &self.name
@@ -88,7 +99,7 @@ impl MayHaveName for Function {
 }
 
 impl MayHaveName for Table {
-    ghost name_of = { λ t. t.name };
+    ghost own = { λ t. text_of t.name };
 
     fn own_name(&self) -> &Option<String> {
         &self.name
@@ -96,7 +107,7 @@ impl MayHaveName for Table {
 }
 
 impl MayHaveName for Memory {
-    ghost name_of = { λ m. m.name };
+    ghost own = { λ m. text_of m.name };
 
     fn own_name(&self) -> &Option<String> {
         &self.name
@@ -104,7 +115,7 @@ impl MayHaveName for Memory {
 }
 
 impl MayHaveName for Tag {
-    ghost name_of = { λ t. t.name };
+    ghost own = { λ t. text_of t.name };
 
     fn own_name(&self) -> &Option<String> {
         &self.name
@@ -112,7 +123,7 @@ impl MayHaveName for Tag {
 }
 
 impl MayHaveName for walrus_items::Global {
-    ghost name_of = { λ g. g.name };
+    ghost own = { λ g. text_of g.name };
 
     fn own_name(&self) -> &Option<String> {
         &self.name
@@ -120,7 +131,7 @@ impl MayHaveName for walrus_items::Global {
 }
 
 impl MayHaveName for Element {
-    ghost name_of = { λ e. e.name };
+    ghost own = { λ e. text_of e.name };
 
     fn own_name(&self) -> &Option<String> {
         &self.name
@@ -128,7 +139,7 @@ impl MayHaveName for Element {
 }
 
 impl MayHaveName for Data {
-    ghost name_of = { λ d. d.name };
+    ghost own = { λ d. text_of d.name };
 
     fn own_name(&self) -> &Option<String> {
         &self.name
@@ -142,14 +153,94 @@ fn tell_names<K, T: MayHaveName>(
     what: u8,
     all: &Items<K, T>,
 ) -> result::Result<(), WireError>
-    ensures { Adds result to.old.items to.new.items
-        (row_bytes told_bytes (names_in what T.name_of (entries (held T.value all.now))))
-        (EachFits ToldFits (names_in what T.name_of (entries (held T.value all.now)))) }
+    ensures { (name_of : T.Seen → Option (List ℕ)) → ((x : T) → T.own x ≡ name_of (T.value x))
+        → Adds result to.old.items to.new.items
+        (row_bytes told_bytes (names_in what name_of (entries (held T.value all.now))))
+        (EachFits ToldFits (names_in what name_of (entries (held T.value all.now)))) }
 {
     'items: for (id, item) in all.iter_entries() {
         tell_name(alloc, to, what, id.index(), item.own_name())?;
     }
     Ok(())
+}
+
+/// Tells the names of functions.
+fn tell_functions(
+    alloc: Global,
+    to: &mut Vec<u8>,
+    all: &ModuleFunctions,
+) -> result::Result<(), WireError>
+    ensures { Adds result to.old.items to.new.items
+        (row_bytes told_bytes (names_in OF_FUNCTION (λ f. f.name) (entries (functions all.now))))
+        (EachFits ToldFits (names_in OF_FUNCTION (λ f. f.name) (entries (functions all.now)))) }
+{
+    tell_names(alloc, to, OF_FUNCTION, all)
+}
+
+/// Tells the names of tables.
+fn tell_tables(alloc: Global, to: &mut Vec<u8>, all: &ModuleTables) -> result::Result<(), WireError>
+    ensures { Adds result to.old.items to.new.items
+        (row_bytes told_bytes (names_in OF_TABLE (λ t. t.name) (entries (tables all.now))))
+        (EachFits ToldFits (names_in OF_TABLE (λ t. t.name) (entries (tables all.now)))) }
+{
+    tell_names(alloc, to, OF_TABLE, all)
+}
+
+/// Tells the names of memories.
+fn tell_memories(
+    alloc: Global,
+    to: &mut Vec<u8>,
+    all: &ModuleMemories,
+) -> result::Result<(), WireError>
+    ensures { Adds result to.old.items to.new.items
+        (row_bytes told_bytes (names_in OF_MEMORY (λ m. m.name) (entries (memories all.now))))
+        (EachFits ToldFits (names_in OF_MEMORY (λ m. m.name) (entries (memories all.now)))) }
+{
+    tell_names(alloc, to, OF_MEMORY, all)
+}
+
+/// Tells the names of globals.
+fn tell_globals(
+    alloc: Global,
+    to: &mut Vec<u8>,
+    all: &ModuleGlobals,
+) -> result::Result<(), WireError>
+    ensures { Adds result to.old.items to.new.items
+        (row_bytes told_bytes (names_in OF_GLOBAL (λ g. g.name) (entries (globals all.now))))
+        (EachFits ToldFits (names_in OF_GLOBAL (λ g. g.name) (entries (globals all.now)))) }
+{
+    tell_names(alloc, to, OF_GLOBAL, all)
+}
+
+/// Tells the names of tags.
+fn tell_tags(alloc: Global, to: &mut Vec<u8>, all: &ModuleTags) -> result::Result<(), WireError>
+    ensures { Adds result to.old.items to.new.items
+        (row_bytes told_bytes (names_in OF_TAG (λ t. t.name) (entries (tags all.now))))
+        (EachFits ToldFits (names_in OF_TAG (λ t. t.name) (entries (tags all.now)))) }
+{
+    tell_names(alloc, to, OF_TAG, all)
+}
+
+/// Tells the names of segments of elements.
+fn tell_elements(
+    alloc: Global,
+    to: &mut Vec<u8>,
+    all: &ModuleElements,
+) -> result::Result<(), WireError>
+    ensures { Adds result to.old.items to.new.items
+        (row_bytes told_bytes (names_in OF_ELEMENT (λ e. e.name) (entries (elements all.now))))
+        (EachFits ToldFits (names_in OF_ELEMENT (λ e. e.name) (entries (elements all.now)))) }
+{
+    tell_names(alloc, to, OF_ELEMENT, all)
+}
+
+/// Tells the names of segments of data.
+fn tell_data(alloc: Global, to: &mut Vec<u8>, all: &ModuleData) -> result::Result<(), WireError>
+    ensures { Adds result to.old.items to.new.items
+        (row_bytes told_bytes (names_in OF_DATA (λ d. d.name) (entries (data_segments all.now))))
+        (EachFits ToldFits (names_in OF_DATA (λ d. d.name) (entries (data_segments all.now)))) }
+{
+    tell_names(alloc, to, OF_DATA, all)
 }
 
 /// Tells the names of types, by rising id.
@@ -180,11 +271,11 @@ pub(crate) fn tell_all_names(
 {
     tell_name(alloc, to, OF_MODULE, 0, parts.name)?;
     tell_type_names(alloc, to, parts.types)?;
-    tell_names(alloc, to, OF_FUNCTION, parts.funcs)?;
-    tell_names(alloc, to, OF_TABLE, parts.tables)?;
-    tell_names(alloc, to, OF_MEMORY, parts.memories)?;
-    tell_names(alloc, to, OF_GLOBAL, parts.globals)?;
-    tell_names(alloc, to, OF_TAG, parts.tags)?;
-    tell_names(alloc, to, OF_ELEMENT, parts.elements)?;
-    tell_names(alloc, to, OF_DATA, parts.data_)
+    tell_functions(alloc, to, parts.funcs)?;
+    tell_tables(alloc, to, parts.tables)?;
+    tell_memories(alloc, to, parts.memories)?;
+    tell_globals(alloc, to, parts.globals)?;
+    tell_tags(alloc, to, parts.tags)?;
+    tell_elements(alloc, to, parts.elements)?;
+    tell_data(alloc, to, parts.data_)
 }

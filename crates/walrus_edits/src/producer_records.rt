@@ -9,12 +9,12 @@ ghost use Rattle.walrus_producers.specs.Seen.{fields_seen, field_seen, values_se
 ghost use Rattle.walrus_edits.specs.ItemRecords.{ACustom, AProducer, ToldFits, told_bytes};
 ghost use Rattle.walrus_edits.specs.ItemValues.{customs_from, producers_in, producers_of, with_ids};
 
-use crate::records::{Tells, tell};
+use crate::records::{Tells, put_number, tell};
 use std::alloc::{AllocError, Global};
 use std::result;
 use walrus_edit_list::numbers::{OF_CUSTOM, PRODUCER};
 use walrus_producers::{ProducerField, ProducerValue};
-use wasm_forms::{WireError, write_name, write_u64};
+use wasm_forms::{WireError, write_name};
 use wasm_frames::RawCustom;
 use wasm_wire::{CustomGroup, is_debug};
 
@@ -95,7 +95,7 @@ impl<'a> Tells for CustomWithId<'a> {
     }
 
     fn write_payload(&self, _alloc: Global, to: &mut Vec<u8>) -> result::Result<(), WireError> {
-        write_u64(to, self.id as u64)?;
+        put_number(to, self.id as u64)?;
         write_name(to, self.custom.name)?;
         to.extend_from_slice(self.custom.bytes)?;
         Ok(())

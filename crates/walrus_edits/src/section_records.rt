@@ -7,7 +7,7 @@ ghost use Rattle.wasm_entries.specs.Record.{data_entry, data_mode, element_entry
 ghost use Rattle.wasm_frames.specs.Record.{body_record};
 ghost use Rattle.walrus_edits.specs.ItemRecords.{ACustom, AFunction, AGlobal, AGroup, AMemory, ASegment, ATable, ATag, AnElement, AnExport, AnImport, Brought, DataModeFits, ElementModeFits, ElementsFit, InitialFits, SizedFits, TheStart, data_mode_bytes, element_mode_bytes, elements_bytes, initial_bytes, sized, table_of};
 
-use crate::records::Tells;
+use crate::records::{Tells, put_byte, put_number};
 use std::alloc::Global;
 use std::result;
 use walrus_edit_list::numbers::{
@@ -19,10 +19,7 @@ use wasm_entries::{
     RawGroup, RawImport, RawItems, RawLimits, RawTable, write_expression, write_global_type,
     write_group, write_limits, write_table_type,
 };
-use wasm_forms::{
-    WireError, Written, write_block, write_name, write_reference_type, write_u32, write_u64,
-    write_vector,
-};
+use wasm_forms::{WireError, Written, write_block, write_name, write_reference_type, write_vector};
 use wasm_frames::RawBody;
 
 /// What stands in front of what an import brings, and of what the module defines.
@@ -71,7 +68,7 @@ fn write_all_sized(
     let Ok(count) = u32::try_from(all.len()) else {
         return Err(WireError::TooLarge);
     };
-    write_u32(to, count)?;
+    put_number(to, u64::from(count))?;
     write_each_sized(alloc, to, all)
 }
 
@@ -115,9 +112,9 @@ impl Tells for RawDesc {
     }
 
     fn write_payload(&self, _alloc: Global, to: &mut Vec<u8>) -> result::Result<(), WireError> {
-        to.push(BROUGHT)?;
+        put_byte(to, BROUGHT)?;
         match self {
-            RawDesc::Function(ty) | RawDesc::Tag(ty) => Ok(write_u32(to, *ty)?),
+            RawDesc::Function(ty) | RawDesc::Tag(ty) => put_number(to, u64::from(*ty)),
             RawDesc::Table(ty) => write_table_type(to, ty),
             RawDesc::Memory(limits) => write_limits(to, limits),
             RawDesc::Global(ty) => write_global_type(to, ty),
@@ -140,11 +137,10 @@ impl<'a> Tells for DefinedFunction<'a> {
     }
 
     fn write_payload(&self, _alloc: Global, to: &mut Vec<u8>) -> result::Result<(), WireError> {
-        to.push(DEFINED)?;
-        write_u32(to, self.ty)?;
-        write_u64(to, self.body.start as u64)?;
-        write_u64(to, self.body.bytes.len() as u64)?;
-        Ok(())
+        put_byte(to, DEFINED)?;
+        put_number(to, u64::from(self.ty))?;
+        put_number(to, self.body.start as u64)?;
+        put_number(to, self.body.bytes.len() as u64)
     }
 }
 
@@ -167,7 +163,7 @@ impl Tells for RawTable {
     }
 
     fn write_payload(&self, alloc: Global, to: &mut Vec<u8>) -> result::Result<(), WireError> {
-        to.push(DEFINED)?;
+        put_byte(to, DEFINED)?;
         write_table_type(to, &self.ty)?;
         write_initial(alloc, to, self)
     }
@@ -182,7 +178,7 @@ impl Tells for RawLimits {
     }
 
     fn write_payload(&self, _alloc: Global, to: &mut Vec<u8>) -> result::Result<(), WireError> {
-        to.push(DEFINED)?;
+        put_byte(to, DEFINED)?;
         write_limits(to, self)
     }
 }
@@ -196,8 +192,8 @@ impl Tells for u32 {
     }
 
     fn write_payload(&self, _alloc: Global, to: &mut Vec<u8>) -> result::Result<(), WireError> {
-        to.push(DEFINED)?;
-        Ok(write_u32(to, *self)?)
+        put_byte(to, DEFINED)?;
+        put_number(to, u64::from(*self))
     }
 }
 
@@ -209,7 +205,7 @@ impl Tells for RawGlobal {
     }
 
     fn write_payload(&self, alloc: Global, to: &mut Vec<u8>) -> result::Result<(), WireError> {
-        to.push(DEFINED)?;
+        put_byte(to, DEFINED)?;
         write_global_type(to, &self.ty)?;
         write_sized(alloc, to, &self.initial)
     }
@@ -239,7 +235,7 @@ impl Tells for Start {
     }
 
     fn write_payload(&self, _alloc: Global, to: &mut Vec<u8>) -> result::Result<(), WireError> {
-        Ok(write_u32(to, self.0)?)
+        put_number(to, u64::from(self.0))
     }
 }
 
@@ -254,12 +250,12 @@ fn write_element_mode(
 {
     match mode {
         RawElementMode::Active(table, offset) => {
-            to.push(0)?;
-            write_u32(to, table.unwrap_or(0))?;
+            put_byte(to, 0)?;
+            put_number(to, u64::from(table.unwrap_or(0)))?;
             write_sized(alloc, to, offset)
         }
-        RawElementMode::Passive => Ok(to.push(1)?),
-        RawElementMode::Declared => Ok(to.push(2)?),
+        RawElementMode::Passive => put_byte(to, 1),
+        RawElementMode::Declared => put_byte(to, 2),
     }
 }
 
@@ -274,11 +270,11 @@ fn write_elements(
 {
     match items {
         RawItems::Functions(functions) => {
-            to.push(0)?;
+            put_byte(to, 0)?;
             write_vector(to, functions)
         }
         RawItems::Expressions(ty, expressions) => {
-            to.push(1)?;
+            put_byte(to, 1)?;
             write_reference_type(to, ty)?;
             write_all_sized(alloc, to, expressions)
         }
@@ -309,11 +305,11 @@ fn write_data_mode(
 {
     match mode {
         RawDataMode::Active(memory, offset) => {
-            to.push(0)?;
-            write_u32(to, *memory)?;
+            put_byte(to, 0)?;
+            put_number(to, u64::from(*memory))?;
             write_sized(alloc, to, offset)
         }
-        RawDataMode::Passive => Ok(to.push(1)?),
+        RawDataMode::Passive => put_byte(to, 1),
     }
 }
 
