@@ -1,5 +1,6 @@
 //! An edit as its bytes say it: a byte, a size and so many bytes, read whole before anything is changed.
 
+ghost use Rattle.std.specs.Prelude.{◌≡◌};
 ghost use Rattle.wasm_forms.specs.Grammar.{at};
 ghost use Rattle.wasm_forms.specs.Reading.{Gives};
 ghost use Rattle.wasm_frames.specs.Steps.{content_at, section_record};
