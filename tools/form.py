@@ -209,11 +209,12 @@ def wrong_in_ways():
 
 
 def handed_on():
-    """What a Lib.antt hands on: crate, part and name, each with the crate, the part and the file that it comes from."""
+    """What a file of specs or proofs hands on: crate, part and name, behind the file's own where it isn't Lib, each with where it comes from."""
     handed = {}
-    for lib in [*CRATES.glob("*/specs/Lib.antt"), *CRATES.glob("*/proofs/Lib.antt")]:
-        for crate, part, way, name in re.findall(r"(?m)^pub use Rattle\.(\w+)\.(specs|proofs)\.([\w.]+)(?: as (\w+))?$", lib.read_text(encoding="utf-8")):
-            handed[lib.parts[-3], lib.parts[-2], name or way.split(".")[-1]] = crate, part, way.split(".")[0]
+    for file in [*CRATES.glob("*/specs/*.antt"), *CRATES.glob("*/proofs/*.antt")]:
+        for crate, part, way, name in re.findall(r"(?m)^pub use Rattle\.(\w+)\.(specs|proofs)\.([\w.]+)(?: as (\w+))?$", file.read_text(encoding="utf-8")):
+            inner = name or way.split(".")[-1]
+            handed[file.parts[-3], file.parts[-2], inner if file.stem == "Lib" else f"{file.stem}.{inner}"] = crate, part, way.split(".")[0]
     return handed
 
 
@@ -229,7 +230,8 @@ def wrong_in_lemmas():
     @functools.cache
     def spoken_of(key):
         found = set()
-        for place in re.findall(r"Rattle\.(\w+)\.(specs|proofs)\.(\w+)", files[key]):
+        for crate, part, way in re.findall(r"Rattle\.(\w+)\.(specs|proofs)\.(\w+(?:\.\w+)?)", files[key]):
+            place = crate, part, way if (crate, part, way) in handed else way.split(".")[0]
             while place in handed:
                 place = handed[place]
             crate, part, file = place

@@ -7,7 +7,7 @@ use Rattle.walrus_tools.specs.ChosenModule.{AnswersUnfit, TellsOfParsed}
 use Rattle.walrus_tools.specs.Facade.{Config, Error, InvalidWasm, Memory, NotFound, TooLarge}
 use Rattle.walrus_tools.specs.Wanted.{config_wanted}
 use Rattle.walrus_tools.specs.declared.choice.Choice.{Choice as HeldChoice}
-use Rattle.walrus_tools.specs.declared.wanted.Wanted.{Wanted}
+use Rattle.walrus_tools.specs.WantedValue.{Wanted}
 use Rattle.walrus_tools.proofs.Records.{one_list}
 use Rattle.mulkavesh_c.specs.Answer.{Answer, Puts}
 use Rattle.mulkavesh_c.specs.ChosenRoots.{AreAsked, GivesChosen, IsNumbered, IsUnfit, MakesChosen, NumbersUnfit, is_missing}

@@ -178,3 +178,5 @@ pub use walrus_items::TagKind;
 pub use walrus_producers::ModuleProducers;
 pub use walrus_producers::ProducerField;
 pub use walrus_producers::ProducerValue;
+pub use walrus_reading::Fault;
+pub use walrus_reading::first_fault;

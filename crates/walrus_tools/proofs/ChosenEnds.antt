@@ -15,12 +15,12 @@ use Rattle.walrus_module.specs.declared.module.Module.{Module}
 use Rattle.walrus_tools.specs.Choice.{Choice}
 use Rattle.walrus_tools.specs.ExportChoice.{EachFits, IsChosen, OneFitsNone, TellsUnfit}
 use Rattle.walrus_tools.specs.ChosenModule.{AnswersChosen, AnswersUnfit, KeepsChosen, KeepsExports, KeepsIn, RefusesChosen}
-use Rattle.walrus_tools.specs.Edits.{IsWhole}
+use Rattle.walrus.specs.Edits.{IsWhole}
 use Rattle.walrus_tools.specs.KeptExports.{KeepsNamed, export_names}
 use Rattle.walrus_tools.specs.NameLists.{IsChooser, IsPicked}
 use Rattle.walrus_tools.specs.declared.chooser.Chooser.{Chooser}
 use Rattle.walrus_tools.proofs.Choosers.{picked}
-use Rattle.walrus_tools.proofs.EditEnds.{plain_read}
+use Rattle.walrus.proofs.EditEnds.{plain_read}
 use Rattle.walrus_tools.proofs.KeptWhole.{kept_whole}
 use Rattle.walrus_tools.proofs.LookUps.{untrue}
 use Rattle.walrus_tools.proofs.NamedExports.{keeps_alike}

@@ -34,13 +34,13 @@ use Rattle.walrus.specs.declared.passes.used.Used.{Used}
 use Rattle.walrus_tools.specs.Choice.{Choice}
 use Rattle.walrus_tools.specs.ChosenModule.{KeepsChosen, KeepsIn, RefusesChosen, RefusesExports}
 use Rattle.walrus_tools.specs.DroppedList.{AnswersDropped, dropped_of, functions_among}
-use Rattle.walrus_tools.specs.Edited.{Edited, edited_view}
-use Rattle.walrus_tools.specs.Edits.{IsWhole, RefusesEdit, with_customs}
-use Rattle.walrus_tools.specs.Ends.{Answers}
+use Rattle.walrus.specs.Edited.{Edited, edited_view}
+use Rattle.walrus.specs.Edits.{IsWhole, RefusesEdit, with_customs}
+use Rattle.walrus.specs.Ends.{Answers}
 use Rattle.walrus_tools.specs.ExportList.{AnswersExports, export_told, exported_seen}
 use Rattle.walrus_tools.specs.FunctionList.{listed_seen, names_in}
 use Rattle.walrus_tools.specs.ImportList.{AnswersImports, import_told, imported_seen}
-use Rattle.walrus_tools.specs.ListSteps.{IsReady}
+use Rattle.walrus.specs.Ready.{IsReady}
 use Rattle.walrus_tools.specs.PartList.{AnswersParts}
 use Rattle.walrus_tools.specs.Parts.{HasParts, part_record}
 use Rattle.walrus_tools.specs.Those.{AreThose}
@@ -50,8 +50,8 @@ use Rattle.walrus_tools.specs.declared.tool.exports.Exported.{Exported}
 use Rattle.walrus_tools.specs.declared.tool.imports.Imported.{Imported}
 use Rattle.walrus_tools.specs.declared.tool.list.Listed.{Listed}
 use Rattle.walrus_tools.proofs.ChosenEnds.{chosen_held, chosen_whole}
-use Rattle.walrus_tools.proofs.EditEnds.{parsed_whole, plain_edited, plain_read, ready}
-use Rattle.walrus_tools.proofs.FinishLemmas.{search_refused}
+use Rattle.walrus.proofs.EditEnds.{parsed_whole, plain_edited, plain_read, ready}
+use Rattle.walrus.proofs.FinishLemmas.{search_refused}
 use Rattle.walrus_tools.proofs.ThoseLemmas.{gone_of, those_left}
 
 -- ---- refusals

@@ -19,10 +19,10 @@ use Rattle.walrus_module.specs.declared.entry.SectionEntry.{SectionEntry}
 use Rattle.walrus_module.specs.declared.module.Module.{Module}
 use Rattle.walrus_tools.proofs.CountRead.{call_formed}
 use Rattle.walrus_tools.proofs.CountStep.{after, after_whole, types_kept}
-use Rattle.walrus_tools.proofs.EditEnds.{parsed_whole}
+use Rattle.walrus.proofs.EditEnds.{parsed_whole}
 use Rattle.walrus_tools.specs.Count.{SlotCalls}
 use Rattle.walrus_tools.specs.CountAnswers.{Counts, CountsAll, CountsHeld, ImportsTo}
-use Rattle.walrus_tools.specs.Edits.{ForMemory, IsWhole}
+use Rattle.walrus.specs.Edits.{ForMemory, IsWhole}
 
 -- both steps together
 pub both_steps : {S : Type 0} (from name : List ℕ) (old middle new : Module S) (called : Id FunctionKey) → ImportsTo from name old middle called → new ≡ record middle { funcs = new.funcs } → (result : Result (Unit {0}) Error)

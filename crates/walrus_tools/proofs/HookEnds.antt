@@ -22,11 +22,11 @@ use Rattle.walrus_module.specs.Settings.{settings}
 use Rattle.walrus_module.specs.View.{contents_of}
 use Rattle.walrus_module.specs.declared.entry.SectionEntry.{SectionEntry}
 use Rattle.walrus_module.specs.declared.module.Module.{Module}
-use Rattle.walrus_tools.proofs.EditEnds.{edit_finishes, edit_refused, parsed_whole}
+use Rattle.walrus.proofs.EditEnds.{edit_finishes, edit_refused, parsed_whole}
 use Rattle.walrus_tools.proofs.FunctionsThere.{none_at, one_at}
 use Rattle.walrus_tools.proofs.HookSteps.{export_whole}
-use Rattle.walrus_tools.specs.Edits.{AnswersEdited, IsWhole}
-use Rattle.walrus_tools.specs.ListSteps.{FinishesReady}
+use Rattle.walrus.specs.Edits.{AnswersEdited, IsWhole}
+use Rattle.walrus.specs.Ready.{FinishesReady}
 use Rattle.walrus_tools.specs.declared.examples.with_export.Exporting.{Exporting}
 use Rattle.walrus_tools.specs.ExportHook.{AnswersExport, ExportsHeld, ExportsIndexed, RefusesExport, RefusesIndexed}
 

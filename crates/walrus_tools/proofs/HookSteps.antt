@@ -28,7 +28,7 @@ use Rattle.walrus_module.proofs.EditedExports.{export_added}
 use Rattle.walrus_theorem.proofs.EditedKeeps.{kept_on}
 use Rattle.walrus_tools.proofs.ListedReached.{all_lead, keeps_live}
 use Rattle.walrus_tools.proofs.RenameSteps.{no_other}
-use Rattle.walrus_tools.specs.Edits.{IsWhole}
+use Rattle.walrus.specs.Edits.{IsWhole}
 use Rattle.walrus_tools.specs.ExportHook.{AddsExport, export_at}
 
 module _ {V : Type 0} {O : V → Type 0} (G : (v : V) → Ghosts (O v)) (c : Config) (bytes : List ℕ) (read : Module (SectionEntry V O)) (parsed : IsParsed c bytes (view G read)) (new : ModuleExports) where

@@ -1,6 +1,5 @@
 mod AloneEnds
 mod Among
-pub mod AnswerLemmas
 mod BodiesFit
 mod BodiesRise
 mod BodySearch
@@ -20,9 +19,7 @@ mod CountRead
 mod CountStep
 mod CountTurn
 mod EachMoves
-mod EditEnds
 mod FaultEnds
-mod FinishLemmas
 mod Fronts
 mod FunctionsThere
 mod GoingLists
@@ -92,5 +89,4 @@ mod TrapTurn
 mod TrapWhole
 mod WeighEnds
 mod WeighLines
-pub use Rattle.walrus.proofs.DeviceLemmas
 mod WhyEnds

@@ -43,8 +43,9 @@ use Rattle.walrus_module.proofs.KeptRaw.{none_refuses, raw_means}
 use Rattle.walrus_module.proofs.FirstRaw.{FoundRaw, IsFirstRaw, found, gone_at, mean_left}
 use Rattle.walrus_tools.proofs.ListedReached.{listed_made, reached_there}
 use Rattle.walrus_tools.proofs.ListedWritten.{lists_again}
-use Rattle.walrus_tools.specs.Ends.{Finishes, LeavesWritten, LeftOf}
-use Rattle.walrus_tools.specs.ListSteps.{FindsListed, IsReady, IsThere}
+use Rattle.walrus.specs.Ends.{Finishes, LeavesWritten, LeftOf}
+use Rattle.walrus.specs.Ready.{IsReady}
+use Rattle.walrus_tools.specs.ListSteps.{FindsListed, IsThere}
 use Rattle.walrus.specs.Listed.{found_bytes}
 use Rattle.walrus_tools.specs.ListSection.{AsksToKeep, HasFirst, HasNone, KeepsListed, Lists, ListsFunctions, listing}
 use Rattle.walrus_tools.specs.ListAnswers.{AnswersKeepListed, MayListAgain}

@@ -14,7 +14,7 @@ use Rattle.walrus_base.proofs.Lists.{Contains-head, Contains-map, Contains-tail}
 use Rattle.walrus_theorem.proofs.StepLeaves.{between}
 use Rattle.walrus_tools.proofs.SectionsWritten.{stands_among}
 use Rattle.walrus.specs.Listed.{found_bytes, list_bytes}
-use Rattle.walrus_tools.specs.Ends.{LeavesWritten, LeftOf}
+use Rattle.walrus.specs.Ends.{LeavesWritten, LeftOf}
 use Rattle.walrus_tools.specs.ListSection.{HasListing, listing}
 use Rattle.walrus_tools.specs.ListAnswers.{ListsAgain}
 use Rattle.walrus_tools.specs.Metadata.{section_of}

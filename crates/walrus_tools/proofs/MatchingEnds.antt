@@ -17,7 +17,7 @@ use Rattle.walrus_module.specs.Replaced.{ReplacesImport}
 use Rattle.walrus_module.specs.View.{contents_of}
 use Rattle.walrus_module.specs.declared.module.Module.{Module}
 use Rattle.walrus_tools.specs.Choice.{Choice}
-use Rattle.walrus_tools.specs.Edits.{IsWhole}
+use Rattle.walrus.specs.Edits.{IsWhole}
 use Rattle.walrus_tools.specs.Stub.{BringsFunction}
 use Rattle.walrus_tools.specs.StubMatching.{AreChosen, HitFunctions, RefusesChosen, StubsChosen, StubsHits, StubsMatching, StubsThose}
 use Rattle.walrus_tools.specs.StubAnswers.{PutsTrap, StubsSome}

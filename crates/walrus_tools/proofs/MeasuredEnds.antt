@@ -35,9 +35,9 @@ use Rattle.walrus_module.proofs.Emission.{left_refused, well_refused_too}
 use Rattle.walrus_writing.specs.Transform.{IsTransformOf}
 use Rattle.walrus.specs.Marked.{ReachesUnsound}
 use Rattle.walrus.specs.Used.{RefusesSearch}
-use Rattle.walrus_tools.proofs.EditEnds.{edit_finishes, edited_live, edited_to, edited_well}
-use Rattle.walrus_tools.proofs.FinishLemmas.{finished, search_refused}
-use Rattle.walrus_tools.specs.Edits.{AnswersEdited, IsWhole}
+use Rattle.walrus.proofs.EditEnds.{edit_finishes, edited_live, edited_to, edited_well}
+use Rattle.walrus.proofs.FinishLemmas.{finished, search_refused}
+use Rattle.walrus.specs.Edits.{AnswersEdited, IsWhole}
 use Rattle.walrus_tools.specs.Measures.{IsMeasured}
 
 module _ {V : Type 0} {O : V → Type 0} (G : (v : V) → Ghosts (O v)) (Edits : Contents → Contents → Type 0) (Refuses : Contents → Error → Type 0) (g : Flags) (plain : g.preserve_code_transform ≡ false) (bytes : List ℕ)

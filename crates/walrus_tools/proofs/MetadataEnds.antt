@@ -1,12 +1,11 @@
 -- What was parsed, given a raw section more, then written or refused: what the whole way comes to.
 use Rattle.std.proofs.Common.{◌≡◌, ℕ, false, List, [], ◌∷◌, ◌++◌, append-nil, Some, refl, sym, ap, ap₂, ◌∙◌, subst}
-use Rattle.std.specs.Prelude.{Contains, Result, Ok, Err, codes, ◌≢◌, ◌||◌, bytes_eq}
+use Rattle.std.specs.Prelude.{Contains, Result, Ok, Err}
 use Rattle.std.specs.Global.{Vec}
 use Rattle.std.specs.String.{string_bytes}
 use Rattle.std.proofs.lemmas.List.{map-append}
 use Rattle.walrus_model.specs.Abstract.{Abstract, Custom}
 use Rattle.walrus_model.specs.Config.{Config}
-use Rattle.walrus_model.specs.Customs.{is_debug_name}
 use Rattle.walrus_model.specs.Sections.{is_apart}
 use Rattle.walrus_base.proofs.Lists.{Contains-append_2, Contains-head}
 use Rattle.walrus_theorem.specs.Chain.{Leaves}
@@ -39,24 +38,11 @@ use Rattle.walrus_module.specs.declared.module.Module.{Module}
 use Rattle.walrus_module.proofs.EditedCustoms.{custom_added}
 use Rattle.walrus_module.proofs.KeptRaw.{none_asked_refuses}
 use Rattle.walrus_module.proofs.RawStays.{all_raw}
-use Rattle.walrus_model.proofs.Looked.{differs}
-use Rattle.walrus_tools.proofs.FinishLemmas.{emitted}
+use Rattle.walrus.proofs.FinishLemmas.{emitted}
+use Rattle.walrus.proofs.FreeNames.{no_debug, own_name}
 use Rattle.walrus_tools.proofs.SectionsWritten.{is_written}
-use Rattle.walrus_tools.specs.Ends.{Finishes, LeavesWritten}
+use Rattle.walrus.specs.Ends.{Finishes, LeavesWritten}
 use Rattle.walrus_tools.specs.Metadata.{CarriesMetadata, GainsSection, section_of, with_section}
-use Rattle.std.proofs.lemmas.Bool.{or_parts as or_left}
-
--- ---- names
-
-module _ (name : List ℕ) (free : is_apart name ≡ false) where
-  abbrev parts : (bytes_eq name (codes "name") ≡ false) × ((bytes_eq name (codes "producers") || is_debug_name name) ≡ false)
-  parts = or_left (bytes_eq name (codes "name")) (bytes_eq name (codes "producers") || is_debug_name name) free
-
-  pub no_debug : is_debug_name name ≡ false
-  no_debug = (or_left (bytes_eq name (codes "producers")) (is_debug_name name) parts.1).1
-
-  pub own_name : (name ≢ codes "name") × (name ≢ codes "producers")
-  own_name = (differs name (codes "name") parts.0, differs name (codes "producers") (or_left (bytes_eq name (codes "producers")) (is_debug_name name) parts.1).0)
 
 -- what is left of a module with such a section has it, and so has what is written
 module _ (c : Config) (bytes name payload : List ℕ) (free : is_apart name ≡ false) where

@@ -22,8 +22,8 @@ use Rattle.walrus_module.specs.Answered.{IsWellWritten}
 use Rattle.walrus.specs.Headline.{ComesOut}
 use Rattle.walrus_tools.specs.ExportChoice.{IsChosen}
 use Rattle.walrus_tools.specs.ChosenModule.{KeepsChosen, NoneChosen}
-use Rattle.walrus_tools.specs.Edits.{EditsTo, with_customs}
-use Rattle.walrus_tools.specs.Ends.{LeftOf}
+use Rattle.walrus.specs.Edits.{EditsTo, with_customs}
+use Rattle.walrus.specs.Ends.{LeftOf}
 use Rattle.walrus_tools.specs.KeptExports.{StaysIf}
 
 -- ---- all exports stay

@@ -49,9 +49,10 @@ use Rattle.walrus_module.proofs.OwnSections.{leaves_on}
 use Rattle.walrus.specs.Places.{pairs_state, moved_by, last_place}
 use Rattle.walrus.specs.PlacesLaws.{state_bytes}
 use Rattle.walrus.proofs.StateLemmas.{writes_by_state}
-use Rattle.walrus_tools.proofs.MetadataEnds.{no_debug, own_name, section_stands}
+use Rattle.walrus.proofs.FreeNames.{no_debug, own_name}
+use Rattle.walrus_tools.proofs.MetadataEnds.{section_stands}
 use Rattle.walrus_tools.proofs.PlacedSlots.{Behind, SaysPlaces, TypeSaysPlaces, as_custom, behind, it_says, of_its_kind}
-use Rattle.walrus_tools.specs.Ends.{LeavesWritten}
+use Rattle.walrus.specs.Ends.{LeavesWritten}
 use Rattle.walrus_tools.specs.Metadata.{GainsSection, with_section}
 use Rattle.walrus_tools.specs.PlacesSection.{CarriesPlaces, IsWithPlaces, carried, given}
 use Rattle.walrus_module.proofs.FollowedSlots.{by_turn as state_of}

@@ -17,8 +17,8 @@ use Rattle.walrus_module.specs.View.{contents_of, view}
 use Rattle.walrus_module.specs.declared.entry.SectionEntry.{SectionEntry}
 use Rattle.walrus_module.specs.declared.module.Module.{Module}
 use Rattle.walrus.specs.Why.{Explains}
-use Rattle.walrus_tools.proofs.EditEnds.{edit_refused, plain_read}
-use Rattle.walrus_tools.specs.Edits.{with_customs}
+use Rattle.walrus.proofs.EditEnds.{edit_refused, plain_read}
+use Rattle.walrus.specs.Edits.{with_customs}
 use Rattle.walrus_tools.specs.Measures.{IsMeasured, IsSame}
 use Rattle.walrus_tools.specs.Reasons.{AnswersReason, FindsFunction, LacksFunction, report_text}
 

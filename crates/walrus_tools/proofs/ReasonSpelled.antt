@@ -8,8 +8,8 @@ use Rattle.walrus_items.specs.declared.error.Error.{Error}
 use Rattle.walrus_items.specs.declared.error.Error.TheVariants as error
 use Rattle.walrus_tools.specs.Choice.{Choice}
 use Rattle.walrus_tools.specs.ChosenModule.{KeepsChosen}
-use Rattle.walrus_tools.specs.Edits.{EditsTo, RefusesEdit}
-use Rattle.walrus_tools.specs.Ends.{LeavesLarge}
+use Rattle.walrus.specs.Edits.{EditsTo, RefusesEdit}
+use Rattle.walrus.specs.Ends.{LeavesLarge}
 use Rattle.walrus_tools.specs.Links.{LinkTold, link_seen}
 use Rattle.walrus_tools.specs.Numbers.{RefusesIf}
 use Rattle.walrus_tools.specs.ReasonAnswers.{AnswersCallerList, AnswersCallers, AnswersReasonList, AnswersWhy, AreAsked, IsReasoned, RefusesText}

@@ -17,7 +17,7 @@ use Rattle.walrus_module.specs.View.{contents_of, held_view}
 use Rattle.walrus_module.specs.declared.module.Module.{Module}
 use Rattle.walrus_module.proofs.EditedExports.{export_deleted, export_set}
 use Rattle.walrus_tools.proofs.ImportMatches.{finds}
-use Rattle.walrus_tools.specs.Edits.{IsWhole}
+use Rattle.walrus.specs.Edits.{IsWhole}
 use Rattle.walrus_tools.specs.ExportNames.{Drops, Renames, RenamesIn, named, with_name}
 
 abbrev pub names : List ℕ → ℕ × ExportValue → Bool

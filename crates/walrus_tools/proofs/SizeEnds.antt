@@ -9,7 +9,7 @@ use Rattle.walrus_items.specs.declared.error.Error.{Error}
 use Rattle.walrus_items.specs.declared.error.Error.TheVariants as error
 use Rattle.walrus_tools.specs.Choice.{Choice}
 use Rattle.walrus_tools.specs.ChosenModule.{KeepsChosen, RefusesChosen}
-use Rattle.walrus_tools.specs.Edits.{AnswersEdited}
+use Rattle.walrus.specs.Edits.{AnswersEdited}
 use Rattle.walrus_tools.specs.FunctionList.{AnswersListed, function_names, listed_of, listed_seen}
 use Rattle.walrus_tools.specs.Measures.{IsMeasured}
 use Rattle.walrus_tools.specs.declared.tool.list.Listed.{Listed}

@@ -37,7 +37,7 @@ use Rattle.walrus_tools.proofs.ImportMatches.{finds}
 use Rattle.walrus_tools.proofs.SnipStep.{snip_whole}
 use Rattle.walrus_tools.proofs.StubCall.{traps}
 use Rattle.walrus_theorem.proofs.EditKept.{none_isnt, some_is}
-use Rattle.walrus_tools.specs.Edits.{IsWhole}
+use Rattle.walrus.specs.Edits.{IsWhole}
 use Rattle.walrus_tools.specs.Snip.{Exports, IsKept, NamedBefore, SnipsIn}
 use Rattle.walrus_tools.specs.SnipAnswers.{FindsNamed, IsNamedBefore, IsNamedFirst, RefusesSnip, Snips, SnipsHeld, first_named}
 use Rattle.walrus_tools.specs.StubAnswers.{PutsTrap}

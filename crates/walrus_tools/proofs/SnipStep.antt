@@ -29,7 +29,7 @@ use Rattle.walrus_module.proofs.CountedBodies.{held_counted}
 use Rattle.walrus_module.proofs.EditedReplaced.{gained, turned, with_new}
 use Rattle.walrus_reading.proofs.EditedSlots.{comes_behind}
 use Rattle.walrus_tools.proofs.TrapSound.{trap_leads, trap_sound}
-use Rattle.walrus_tools.specs.Edits.{IsWhole}
+use Rattle.walrus.specs.Edits.{IsWhole}
 use Rattle.walrus_tools.specs.StubAnswers.{PutsTrap}
 use Rattle.walrus_tools.specs.Trap.{trap_ops}
 

@@ -7,8 +7,8 @@ use Rattle.walrus_items.specs.declared.error.Error.{Error}
 use Rattle.walrus_tools.specs.Choice.{Choice}
 use Rattle.walrus_tools.specs.ChosenModule.{KeepsChosen, RefusesChosen}
 use Rattle.walrus_tools.specs.DroppedList.{AnswersDropped, AnswersDroppedList, IsDropped}
-use Rattle.walrus_tools.specs.Edits.{EditsTo, RefusesEdit}
-use Rattle.walrus_tools.specs.Ends.{LeavesLarge}
+use Rattle.walrus.specs.Edits.{EditsTo, RefusesEdit}
+use Rattle.walrus.specs.Ends.{LeavesLarge}
 use Rattle.walrus_tools.specs.ExportList.{AnswersExportList, AnswersExports, AreExports, IsLongExport, exported_bytes, exported_seen}
 use Rattle.walrus_tools.specs.FunctionList.{AnswersFunctions, AnswersListed, IsListed, IsLong, listed_bytes, listed_seen}
 use Rattle.walrus_tools.specs.ImportList.{AnswersImportList, AnswersImports, AreImports, IsLongImport, imported_bytes, imported_seen}

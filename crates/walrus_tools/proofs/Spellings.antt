@@ -6,7 +6,7 @@ use Rattle.walrus_model.specs.Config.{Config}
 use Rattle.walrus_items.specs.declared.error.Error.{Error}
 use Rattle.walrus_items.specs.declared.error.Error.TheVariants as error
 use Rattle.walrus_contents.proofs.NamedLemmas.{among, row_more}
-use Rattle.walrus_tools.specs.Ends.{Answers}
+use Rattle.walrus.specs.Ends.{Answers}
 use Rattle.walrus_tools.specs.Numbers.{RefusesIf}
 use Rattle.walrus_tools.specs.Spelled.{AreLong, AreSpelled, HasLong, NoneLong}
 use Rattle.walrus_tools.proofs.Among.{because}

@@ -33,7 +33,7 @@ use Rattle.walrus_tools.proofs.Places.{all_below, none_below, not_yet, now_hit, 
 use Rattle.walrus_tools.proofs.StubStep.{stub_whole}
 use Rattle.walrus_tools.proofs.StubTurn.{stubs_more, stubs_none}
 use Rattle.walrus_theorem.proofs.EditKept.{none_isnt, some_there}
-use Rattle.walrus_tools.specs.Edits.{IsWhole}
+use Rattle.walrus.specs.Edits.{IsWhole}
 use Rattle.walrus_tools.specs.Stub.{BringsFunction, comes_from, function_from}
 use Rattle.walrus_tools.specs.StubAnswers.{PutsTrap, Stubs, StubsAt, StubsHeld, StubsSome}
 use Rattle.walrus_tools.specs.Trap.{trap_ops}

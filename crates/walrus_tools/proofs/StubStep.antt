@@ -33,7 +33,7 @@ use Rattle.walrus_module.proofs.CountedBodies.{held_counted}
 use Rattle.walrus_module.proofs.EditedReplaced.{imported_local, imported_takes}
 use Rattle.walrus_reading.proofs.EditedSlots.{set_here}
 use Rattle.walrus_tools.proofs.TrapSound.{trap_refers, trap_sound}
-use Rattle.walrus_tools.specs.Edits.{IsWhole}
+use Rattle.walrus.specs.Edits.{IsWhole}
 use Rattle.walrus_tools.specs.StubAnswers.{PutsTrap}
 use Rattle.walrus_tools.specs.Trap.{trap_ops}
 

@@ -35,7 +35,7 @@ use Rattle.walrus_module.specs.View.{contents_of, held_view}
 use Rattle.walrus_module.specs.declared.module.Module.{Module}
 use Rattle.walrus_module.proofs.CountedBodies.{held_counted}
 use Rattle.walrus_module.proofs.EditedFunctions.{bodies_written}
-use Rattle.walrus_tools.specs.Edits.{IsWhole}
+use Rattle.walrus.specs.Edits.{IsWhole}
 use Rattle.walrus_tools.specs.MarkSteps.{AreMarks, RefusesMarks}
 use Rattle.walrus_tools.specs.FunctionMeaning.{AreMeant, Means, MeansBodiless, MeansImported, by_index, by_name, by_star, has_body}
 use Rattle.walrus_tools.specs.TrapEdit.{HitTrap, MeantTrap, RefusesMeant, SnipsMeant, Trapped, TrapsAll, TrapsMeant}

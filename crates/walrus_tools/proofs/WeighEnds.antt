@@ -26,16 +26,16 @@ use Rattle.walrus_module.specs.declared.module.Module.{Module}
 use Rattle.walrus.specs.Collected.{Collects}
 use Rattle.walrus_tools.specs.Choice.{Choice}
 use Rattle.walrus_tools.specs.ChosenModule.{KeepsChosen, RefusesChosen}
-use Rattle.walrus_tools.specs.Edits.{AnswersEdited, EditsTo, IsWhole, RefusesEdit, with_customs}
-use Rattle.walrus_tools.specs.Ends.{Finishes, LeavesLarge, LeavesWritten, LeftOf}
+use Rattle.walrus.specs.Edits.{AnswersEdited, EditsTo, IsWhole, RefusesEdit, with_customs}
+use Rattle.walrus.specs.Ends.{Finishes, LeavesLarge, LeavesWritten, LeftOf}
 use Rattle.walrus_tools.specs.Kinds.{CountsKinds, kinds_in}
 use Rattle.walrus_tools.specs.Weigh.{AnswersReport, AnswersWeighed, IsSmaller, IsWeighed}
 use Rattle.walrus_tools.specs.WeighSteps.{HasNoParts, IsInput, IsWeighedIn, WeighsReady, is_left}
 use Rattle.walrus_tools.specs.declared.kinds.Kinds.{Kinds}
 use Rattle.walrus_tools.specs.declared.weigh.Smaller.{Smaller}
 use Rattle.walrus_tools.specs.declared.weigh.Weighed.{Weighed}
-use Rattle.walrus_tools.proofs.AnswerLemmas.{refused_so}
-use Rattle.walrus_tools.proofs.EditEnds.{edited_to, plain_edited, plain_read}
+use Rattle.walrus.proofs.AnswerLemmas.{refused_so}
+use Rattle.walrus.proofs.EditEnds.{edited_to, plain_edited, plain_read}
 use Rattle.walrus_tools.proofs.KindLemmas.{all_kinds, kept_kinds, kept_live}
 
 module _ {V : Type 0} {O : V → Type 0} (G : (v : V) → Ghosts (O v)) (m kept : Module (SectionEntry V O)) where

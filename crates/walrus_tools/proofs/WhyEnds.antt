@@ -54,8 +54,8 @@ use Rattle.walrus_tools.specs.AloneSteps.{HoldsSame, alone_in}
 use Rattle.walrus_tools.specs.Callers.{AreCallers, HasUnsound}
 use Rattle.walrus_tools.specs.Choice.{Choice}
 use Rattle.walrus_tools.specs.ChosenModule.{KeepsChosen, KeepsIn, RefusesChosen}
-use Rattle.walrus_tools.specs.Edits.{AnswersEdited, IsWhole, with_customs}
-use Rattle.walrus_tools.specs.Ends.{LeftOf}
+use Rattle.walrus.specs.Edits.{AnswersEdited, IsWhole, with_customs}
+use Rattle.walrus.specs.Ends.{LeftOf}
 use Rattle.walrus_tools.specs.FunctionMeaning.{has_body, is_local}
 use Rattle.walrus_tools.specs.ItemMeaning.{FindsItem, MeansIn, MeansItem}
 use Rattle.walrus_tools.specs.LinkSteps.{AreRising}
@@ -71,7 +71,7 @@ use Rattle.walrus_tools.proofs.AloneEnds.{alone_told, back_again, never_dead, sa
 use Rattle.walrus_tools.proofs.BodiesFit.{bodies_fit}
 use Rattle.walrus_tools.proofs.CallersEnds.{callers_seen, left_sound}
 use Rattle.walrus_tools.proofs.ChosenEnds.{chosen_held, chosen_whole}
-use Rattle.walrus_tools.proofs.EditEnds.{edit_refused, memory_refused, parsed_whole, plain_edited}
+use Rattle.walrus.proofs.EditEnds.{edit_refused, memory_refused, parsed_whole, plain_edited}
 use Rattle.walrus_tools.proofs.MeasuredEnds.{emission_lacks, measured, search_lacks}
 use Rattle.walrus_tools.proofs.RootLemmas.{root_by}
 use Rattle.walrus_tools.proofs.TrapReached.{function_reached}

@@ -12,8 +12,8 @@ use Rattle.walrus_module.specs.declared.module.Module.{Module}
 use Rattle.walrus.specs.Headline.{RunsOn}
 use Rattle.walrus_tools.specs.Choice.{Choice}
 use Rattle.walrus_tools.specs.ExportChoice.{EachFits, IsChosen, OneFitsNone, TellsUnfit}
-use Rattle.walrus_tools.specs.Edits.{AnswersEdited, with_customs}
-use Rattle.walrus_tools.specs.Ends.{Answers}
+use Rattle.walrus.specs.Edits.{AnswersEdited, with_customs}
+use Rattle.walrus.specs.Ends.{Answers}
 use Rattle.walrus_tools.specs.KeptExports.{KeepsNamed, export_names}
 
 -- ---- of exports

@@ -13,7 +13,7 @@ use Rattle.walrus_items.specs.Imports.{imports}
 use Rattle.walrus_contents.specs.declared.parts.Contents.{Contents}
 use Rattle.walrus_module.specs.declared.module.Module.{Module}
 use Rattle.walrus_tools.specs.Count.{CountsIn, ImportsIn, SlotCalls}
-use Rattle.walrus_tools.specs.Edits.{AnswersEdited, ForMemory}
+use Rattle.walrus.specs.Edits.{AnswersEdited, ForMemory}
 
 -- ---- what a module holds
 

@@ -9,9 +9,9 @@ use Rattle.walrus_model.specs.Kept.{Kept}
 use Rattle.walrus_items.specs.declared.error.Error.{Error}
 use Rattle.walrus_tools.specs.Choice.{Choice}
 use Rattle.walrus_tools.specs.ChosenModule.{KeepsChosen, RefusesChosen}
-use Rattle.walrus_tools.specs.Edited.{Edited, edited_view}
-use Rattle.walrus_tools.specs.Edits.{RefusesEdit}
-use Rattle.walrus_tools.specs.Ends.{Answers}
+use Rattle.walrus.specs.Edited.{Edited, edited_view}
+use Rattle.walrus.specs.Edits.{RefusesEdit}
+use Rattle.walrus.specs.Ends.{Answers}
 use Rattle.walrus_tools.specs.FunctionList.{IsLong, ListedFunction, function_names, listed_bytes, listed_seen}
 use Rattle.walrus_tools.specs.Parts.{Part, SectionPart, FunctionPart, SegmentPart, HasParts}
 use Rattle.walrus_tools.specs.Spelled.{AreLong, AreSpelled}

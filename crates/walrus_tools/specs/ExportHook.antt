@@ -16,7 +16,7 @@ use Rattle.walrus_items.specs.Exports.{ExportValue, exports}
 use Rattle.walrus_items.specs.Functions.{FunctionValue, functions}
 use Rattle.walrus_contents.specs.declared.parts.Contents.{Contents}
 use Rattle.walrus_module.specs.declared.module.Module.{Module}
-use Rattle.walrus_tools.specs.Edits.{AnswersEdited}
+use Rattle.walrus.specs.Edits.{AnswersEdited}
 use Rattle.walrus_tools.specs.ExportNames.{named}
 
 -- ---- exports

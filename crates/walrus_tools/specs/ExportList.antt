@@ -11,9 +11,9 @@ use Rattle.walrus_items.specs.Kinds.{exported}
 use Rattle.walrus_items.specs.declared.error.Error.{Error}
 use Rattle.walrus_tools.specs.Choice.{Choice}
 use Rattle.walrus_tools.specs.ChosenModule.{KeepsChosen, RefusesChosen}
-use Rattle.walrus_tools.specs.Edited.{Edited}
-use Rattle.walrus_tools.specs.Edits.{RefusesEdit}
-use Rattle.walrus_tools.specs.Ends.{Answers}
+use Rattle.walrus.specs.Edited.{Edited}
+use Rattle.walrus.specs.Edits.{RefusesEdit}
+use Rattle.walrus.specs.Ends.{Answers}
 use Rattle.walrus_tools.specs.Numbers.{no_name, number_bytes}
 use Rattle.walrus_tools.specs.Spelled.{AreLong, AreSpelled}
 use Rattle.walrus_tools.specs.declared.tool.exports.Exported.{Exported}

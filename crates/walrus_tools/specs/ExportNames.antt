@@ -7,7 +7,7 @@ use Rattle.walrus_items.specs.declared.error.Error.TheVariants.{Caller, Memory, 
 use Rattle.walrus_items.specs.Exports.{ExportValue, ModuleExports, exports, is_named}
 use Rattle.walrus_items.specs.Searches.{first}
 use Rattle.walrus_contents.specs.declared.parts.Contents.{Contents}
-use Rattle.walrus_tools.specs.Edits.{AnswersEdited}
+use Rattle.walrus.specs.Edits.{AnswersEdited}
 
 -- the first export of this name, with its place
 abbrev pub named : List ℕ → List (Option ExportValue) → Option (ℕ × ExportValue)

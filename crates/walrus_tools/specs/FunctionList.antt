@@ -14,8 +14,8 @@ use Rattle.walrus_items.specs.Seen.{text_of}
 use Rattle.walrus_items.specs.declared.error.Error.{Error}
 use Rattle.walrus_tools.specs.Choice.{Choice}
 use Rattle.walrus_tools.specs.ChosenModule.{KeepsChosen, RefusesChosen}
-use Rattle.walrus_tools.specs.Edits.{EditsTo, RefusesEdit}
-use Rattle.walrus_tools.specs.Ends.{Answers, LeavesLarge}
+use Rattle.walrus.specs.Edits.{EditsTo, RefusesEdit}
+use Rattle.walrus.specs.Ends.{Answers, LeavesLarge}
 pub use Rattle.walrus_tools.specs.Numbers.{IsLongName, RefusesIf, name_bytes, no_name, number_bytes}
 use Rattle.walrus_tools.specs.Measures.{IsMeasured}
 use Rattle.walrus_tools.specs.Spelled.{AreLong, AreSpelled}

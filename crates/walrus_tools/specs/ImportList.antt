@@ -12,9 +12,9 @@ use Rattle.walrus_items.specs.Kinds.{imported}
 use Rattle.walrus_items.specs.declared.error.Error.{Error}
 use Rattle.walrus_tools.specs.Choice.{Choice}
 use Rattle.walrus_tools.specs.ChosenModule.{KeepsChosen, RefusesChosen}
-use Rattle.walrus_tools.specs.Edited.{Edited, edited_view}
-use Rattle.walrus_tools.specs.Edits.{RefusesEdit}
-use Rattle.walrus_tools.specs.Ends.{Answers}
+use Rattle.walrus.specs.Edited.{Edited, edited_view}
+use Rattle.walrus.specs.Edits.{RefusesEdit}
+use Rattle.walrus.specs.Ends.{Answers}
 use Rattle.walrus_tools.specs.ExportList.{item_bytes, text_bytes}
 use Rattle.walrus_tools.specs.Numbers.{no_name}
 use Rattle.walrus_tools.specs.Spelled.{AreLong, AreSpelled}

@@ -7,9 +7,7 @@ pub mod ChosenModule
 pub mod Count
 pub mod CountAnswers
 pub mod DroppedList
-pub mod Edited
-pub mod Edits
-pub mod Ends
+pub use Rattle.walrus.specs.Ends
 pub mod ExportChoice
 pub mod ExportHook
 pub mod ExportList
@@ -57,7 +55,8 @@ pub mod StubMatching
 pub mod Those
 pub mod Trap
 pub mod TrapEdit
-pub mod Wanted
+pub use Rattle.walrus.specs.Wanted
+pub use Rattle.walrus.specs.declared.wanted.Wanted as WantedValue
 pub mod Weigh
 pub mod WeighSteps
 pub mod WeighText

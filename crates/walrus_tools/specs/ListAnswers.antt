@@ -7,7 +7,7 @@ use Rattle.walrus_model.specs.Config.{Config}
 use Rattle.walrus_model.specs.Kept.{Kept}
 use Rattle.walrus_items.specs.declared.error.Error.{Error}
 use Rattle.walrus_module.specs.Parsed.{IsParsed}
-use Rattle.walrus_tools.specs.Ends.{Answers, IfNotFound, LeavesLarge, LeavesWritten, LeftOf}
+use Rattle.walrus.specs.Ends.{Answers, IfNotFound, LeavesLarge, LeavesWritten, LeftOf}
 use Rattle.walrus_tools.specs.ListSection.{HasListing, KeepsListed, ListsNone}
 
 -- the functions that w was to keep stay, and the output lists them by their new indices

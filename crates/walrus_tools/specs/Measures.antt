@@ -6,7 +6,7 @@ use Rattle.walrus_model.specs.Config.{Config}
 use Rattle.walrus_contents.specs.declared.parts.Contents.{Contents}
 use Rattle.walrus_module.specs.Answered.{IsWellWritten}
 use Rattle.walrus_writing.specs.Transform.{IsTransformOf}
-use Rattle.walrus_tools.specs.Edits.{EditsTo}
+use Rattle.walrus.specs.Edits.{EditsTo}
 
 -- nothing is edited
 abbrev pub IsSame : Contents → Contents → Type 0

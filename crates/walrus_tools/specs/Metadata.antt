@@ -7,7 +7,7 @@ use Rattle.walrus_model.specs.Sections.{is_apart}
 use Rattle.walrus_theorem.specs.Chain.{Leaves}
 use Rattle.walrus_items.specs.declared.error.Error.{Error}
 use Rattle.walrus_module.specs.Parsed.{IsParsed}
-use Rattle.walrus_tools.specs.Ends.{Answers, IfCaller, LeavesLarge, LeavesWritten}
+use Rattle.walrus.specs.Ends.{Answers, IfCaller, LeavesLarge, LeavesWritten}
 
 -- a section of this name, whose data is the same under all indices
 abbrev pub section_of : (name payload : List ℕ) → Custom

@@ -13,7 +13,7 @@ use Rattle.walrus_module.specs.Located.{IsPlace}
 use Rattle.walrus_module.specs.Parsed.{AreLocated}
 use Rattle.walrus.specs.Places.{last_place, moved_by, new_pair, written_pairs}
 use Rattle.walrus.specs.declared.sections.places.PlacedPair.{PlacedPair}
-use Rattle.walrus_tools.specs.Ends.{Answers, IfCaller, LeavesLarge, LeavesWritten}
+use Rattle.walrus.specs.Ends.{Answers, IfCaller, LeavesLarge, LeavesWritten}
 use Rattle.walrus_tools.specs.Metadata.{GainsSection, section_of}
 
 -- pairs as a section of places is given them

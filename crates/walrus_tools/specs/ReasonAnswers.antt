@@ -14,8 +14,8 @@ use Rattle.walrus_tools.specs.Alone.{IsAlone}
 use Rattle.walrus_tools.specs.Callers.{AreCallers}
 use Rattle.walrus_tools.specs.Choice.{Choice}
 use Rattle.walrus_tools.specs.ChosenModule.{KeepsChosen, RefusesChosen}
-use Rattle.walrus_tools.specs.Edits.{EditsTo, RefusesEdit, with_customs}
-use Rattle.walrus_tools.specs.Ends.{Answers, IfNotFound, LeavesLarge}
+use Rattle.walrus.specs.Edits.{EditsTo, RefusesEdit, with_customs}
+use Rattle.walrus.specs.Ends.{Answers, IfNotFound, LeavesLarge}
 use Rattle.walrus_tools.specs.ItemMeaning.{MeansIn}
 use Rattle.walrus_tools.specs.Links.{LinkTold, TellsRoot, link_of, links_seen}
 use Rattle.walrus_tools.specs.Measures.{IsMeasured}

@@ -17,8 +17,8 @@ use Rattle.walrus_items.specs.Functions.{FunctionValue, functions}
 use Rattle.walrus_contents.specs.Named.{items_in}
 use Rattle.walrus_contents.specs.declared.parts.Contents.{Contents}
 use Rattle.walrus.specs.Why.{Explains}
-use Rattle.walrus_tools.specs.Edits.{AnswersEdited, with_customs}
-use Rattle.walrus_tools.specs.Ends.{IfNotFound}
+use Rattle.walrus.specs.Edits.{AnswersEdited, with_customs}
+use Rattle.walrus.specs.Ends.{IfNotFound}
 use Rattle.walrus_tools.specs.Measures.{IsMeasured, IsSame}
 use Rattle.walrus_tools.specs.declared.lines.Chain.{Chain}
 

@@ -14,7 +14,7 @@ use Rattle.walrus_items.specs.Searches.{first}
 use Rattle.walrus_contents.specs.declared.parts.Contents.{Contents}
 use Rattle.walrus_module.specs.View.{contents_of}
 use Rattle.walrus_module.specs.declared.module.Module.{Module}
-use Rattle.walrus_tools.specs.Edits.{AnswersEdited, IsWhole}
+use Rattle.walrus.specs.Edits.{AnswersEdited, IsWhole}
 use Rattle.walrus_tools.specs.Snip.{Exports, IsKept, NamedBefore, SnipsIn}
 
 -- ---- which function is exported

@@ -13,7 +13,7 @@ use Rattle.walrus_items.specs.Imports.{imports}
 use Rattle.walrus_contents.specs.declared.parts.Contents.{Contents}
 use Rattle.walrus_module.specs.Replaced.{Builds}
 use Rattle.walrus_module.specs.declared.module.Module.{Module}
-use Rattle.walrus_tools.specs.Edits.{AnswersEdited, ForMemory, IsWhole}
+use Rattle.walrus.specs.Edits.{AnswersEdited, ForMemory, IsWhole}
 use Rattle.walrus_tools.specs.Stub.{StubsWhere, comes_from}
 
 -- what a closure does that puts a trap behind what was built, unless memory runs out

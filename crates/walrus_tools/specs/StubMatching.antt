@@ -16,7 +16,7 @@ use Rattle.walrus_items.specs.Imports.{ImportValue, imported_function, imports}
 use Rattle.walrus_contents.specs.declared.parts.Contents.{Contents}
 use Rattle.walrus_module.specs.declared.module.Module.{Module}
 use Rattle.walrus_tools.specs.Choice.{Choice, Goes}
-use Rattle.walrus_tools.specs.Edits.{AnswersEdited, IsWhole}
+use Rattle.walrus.specs.Edits.{AnswersEdited, IsWhole}
 use Rattle.walrus_tools.specs.Stub.{BringsFunction, StubsWhere}
 use Rattle.walrus_tools.specs.StubAnswers.{StubsAt, StubsSome}
 

@@ -14,7 +14,7 @@ use Rattle.walrus_items.specs.declared.function_kind.FunctionKind.TheVariants.{I
 use Rattle.walrus_contents.specs.declared.parts.Contents.{Contents}
 use Rattle.walrus_module.specs.View.{contents_of}
 use Rattle.walrus_module.specs.declared.module.Module.{Module}
-use Rattle.walrus_tools.specs.Edits.{AnswersEdited, IsWhole}
+use Rattle.walrus.specs.Edits.{AnswersEdited, IsWhole}
 use Rattle.walrus_tools.specs.FunctionMeaning.{AreMeant, IsFirst, MeansBodies, MeansImported, MeansNone}
 use Rattle.walrus_tools.specs.Trap.{trap_ops}
 

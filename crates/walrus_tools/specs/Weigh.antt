@@ -11,8 +11,8 @@ use Rattle.walrus_contents.specs.declared.parts.Contents.{Contents}
 use Rattle.wasm_wire.specs.ModuleSpelling.{is_debug_name}
 use Rattle.walrus_tools.specs.Choice.{Choice}
 use Rattle.walrus_tools.specs.ChosenModule.{KeepsChosen, RefusesChosen}
-use Rattle.walrus_tools.specs.Edits.{EditsTo, RefusesEdit, with_customs}
-use Rattle.walrus_tools.specs.Ends.{Answers, LeavesLarge, LeavesWritten}
+use Rattle.walrus.specs.Edits.{EditsTo, RefusesEdit, with_customs}
+use Rattle.walrus.specs.Ends.{Answers, LeavesLarge, LeavesWritten}
 use Rattle.walrus_tools.specs.Kinds.{CountsKinds}
 use Rattle.walrus_tools.specs.Parts.{FunctionPart, HasParts, Part, SectionPart, SegmentPart}
 use Rattle.walrus_tools.specs.declared.weigh.Smaller.{Smaller}

@@ -12,7 +12,7 @@ use Rattle.walrus_module.specs.Settings.{settings}
 use Rattle.walrus_module.specs.View.{view}
 use Rattle.walrus_module.specs.declared.entry.SectionEntry.{SectionEntry}
 use Rattle.walrus_module.specs.declared.module.Module.{Module}
-use Rattle.walrus_tools.specs.Ends.{LeavesLarge, LeavesWritten, LeftOf}
+use Rattle.walrus.specs.Ends.{LeavesLarge, LeavesWritten, LeftOf}
 use Rattle.walrus_tools.specs.Kinds.{CountsKinds}
 use Rattle.walrus_tools.specs.PartList.{AnswersParts}
 use Rattle.walrus_tools.specs.Parts.{HasParts, Part, part_record}

@@ -13,7 +13,6 @@ mod choice;
 mod chooser;
 mod examples;
 mod export_groups;
-mod finish;
 mod fits;
 mod function_meaning;
 mod functions;
@@ -39,7 +38,6 @@ mod tool;
 mod trap_bodies;
 mod trap_import;
 mod traps;
-mod wanted;
 mod weigh;
 
 pub use beginnings::{Beginning, beginning_of, has_one_beginning};
@@ -89,9 +87,8 @@ pub use tool::why::why;
 pub use walrus::tool::{
     DeviceFailed, FromWrite, ReadAllError, Sink, Source, ToolError, read_all, write_all,
 };
-pub use walrus::{Error, ErrorKind, ItemId, Result};
+pub use walrus::{Error, ErrorKind, ItemId, Result, Wanted};
 pub use walrus_reading::Fault;
-pub use wanted::Wanted;
 pub use wasm_frames::{Pieced, RawPiece};
 pub use wasm_wire::BrokenRule;
 pub use weigh::{Smaller, Weighed};

@@ -4,7 +4,7 @@ ghost use Rattle.std.specs.Prelude.{◌≡◌, ◌<◌, ◌^◌};
 ghost use Rattle.walrus_items.specs.Functions.{functions};
 ghost use Rattle.walrus_tools.specs.Parts.{part_record};
 ghost use Rattle.walrus_tools.specs.Weigh.{is_debug, is_dropped};
-ghost use Rattle.walrus_tools.specs.ListSteps.{IsReady};
+ghost use Rattle.walrus.specs.Ready.{IsReady};
 ghost use Rattle.walrus_tools.specs.WeighSteps.{WeighsInput, WeighsReady, is_left, size_if, sizes};
 
 use crate::kinds::{Kinds, kinds_of};

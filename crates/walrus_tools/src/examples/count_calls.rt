@@ -11,9 +11,8 @@ ghost use Rattle.walrus_tools.specs.Count.{PlaceCalls, SlotCalls};
 ghost use Rattle.walrus_tools.specs.CountAnswers.{AnswersCounted, CountsAll, ImportsOne};
 
 use crate::calls::call_first;
-use crate::finish::finished;
 use std::alloc::Global;
-use walrus::{FunctionId, Module, ModuleFunctions, Result};
+use walrus::{FunctionId, Module, ModuleFunctions, Result, finished};
 
 // The function of this id begins with a call, if it is there and has a body.
 fn call_at(

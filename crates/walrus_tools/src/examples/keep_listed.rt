@@ -6,11 +6,10 @@ ghost use Rattle.walrus_module.specs.Flags.{config_of, defaults};
 ghost use Rattle.walrus_tools.specs.ListSteps.{FindsFirst, FindsListed};
 ghost use Rattle.walrus_tools.specs.ListAnswers.{AnswersKeepListed};
 
-use crate::finish::finished;
 use std::alloc::Global;
 use walrus::{
     Error, FunctionId, ListedSection, Module, ModuleFunctions, RawCustomSection, Result,
-    SectionEntry,
+    SectionEntry, finished,
 };
 
 // The function whose index stands first in the bytes, and the bytes behind it.

@@ -6,9 +6,8 @@ ghost use Rattle.walrus_items.specs.Exports.{exports};
 ghost use Rattle.walrus_module.specs.Flags.{config_of, defaults};
 ghost use Rattle.walrus_tools.specs.ExportNames.{AnswersRenamed, EditsExports, named};
 
-use crate::finish::finished;
 use std::alloc::Global;
-use walrus::{Error, ExportId, Module, ModuleExports, Result};
+use walrus::{Error, ExportId, Module, ModuleExports, Result, finished};
 
 // The id of the first export of this name.
 fn find(all: &ModuleExports, name: &str) -> Option<ExportId>

@@ -10,10 +10,11 @@ ghost use Rattle.walrus_module.specs.Replaced.{ReplacesExported};
 ghost use Rattle.walrus_tools.specs.SnipAnswers.{AnswersSnipped, FindsNamed, SnipsExport, first_named};
 ghost use Rattle.walrus_tools.specs.StubAnswers.{PutsTrap};
 
-use crate::finish::finished;
 use crate::traps::put_trap;
 use std::alloc::Global;
-use walrus::{Error, FunctionId, InstrSeqBuilder, LocalId, Module, ModuleExports, Result};
+use walrus::{
+    Error, FunctionId, InstrSeqBuilder, LocalId, Module, ModuleExports, Result, finished,
+};
 
 // Whether the function's first export has this name.
 fn is_named_first(all: &ModuleExports, id: FunctionId, name: &str) -> bool

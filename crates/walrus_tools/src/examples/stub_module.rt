@@ -8,10 +8,9 @@ ghost use Rattle.walrus_module.specs.Flags.{config_of, defaults};
 ghost use Rattle.walrus_tools.specs.Stub.{comes_from};
 ghost use Rattle.walrus_tools.specs.StubAnswers.{AnswersStubbed, StubsAll, StubsOne};
 
-use crate::finish::finished;
 use crate::trap_import::trap_import;
 use std::alloc::Global;
-use walrus::{ImportId, ImportKind, Module, ModuleImports, Result};
+use walrus::{ImportId, ImportKind, Module, ModuleImports, Result, finished};
 
 // Whether the import of this id is there, comes from this module and brings a function.
 fn is_from(all: &ModuleImports, at: ImportId, from: &str) -> bool

@@ -7,11 +7,10 @@ ghost use Rattle.walrus_module.specs.Flags.{config_of, defaults};
 ghost use Rattle.walrus_tools.specs.ExportHook.{AddsExport, AnswersExport, ExportsIndexed, RefusesName};
 
 use crate::examples::rename_export::is_taken;
-use crate::finish::finished;
 use std::alloc::Global;
 use walrus::{
     Error, ExportItem, FunctionId, IndicesToIds, Module, ModuleConfig, ModuleExports, ParseHook,
-    Result,
+    Result, finished,
 };
 
 // The function is exported under this name, which no other export has.

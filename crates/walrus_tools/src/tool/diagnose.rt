@@ -11,14 +11,13 @@ ghost use Rattle.walrus_tools.specs.Faults.{
   rule_number,
   rule_text,
 };
-ghost use Rattle.walrus_tools.specs.Wanted.{config_wanted};
+ghost use Rattle.walrus.specs.Wanted.{config_wanted};
 
 use crate::beginnings::{Beginning, beginning_number, beginning_words, begins_as};
 use crate::numbers::{add_number, narrow};
-use crate::wanted::Wanted;
 use std::alloc::{AllocError, Global};
 use std::result;
-use walrus::Result;
+use walrus::{Result, Wanted};
 use walrus_bodies::Features;
 use walrus_reading::{Fault, first_fault};
 use wasm_wire::BrokenRule;

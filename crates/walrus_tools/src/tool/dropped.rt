@@ -7,7 +7,7 @@ ghost use Rattle.walrus_tools.specs.Choice.{choices_seen};
 ghost use Rattle.walrus_tools.specs.DroppedList.{AnswersDropped, AnswersDroppedList, dropped_of};
 ghost use Rattle.walrus_tools.specs.FunctionList.{listed_seen, names_in};
 ghost use Rattle.walrus_tools.specs.Parts.{part_record};
-ghost use Rattle.walrus_tools.specs.Wanted.{config_wanted};
+ghost use Rattle.walrus.specs.Wanted.{config_wanted};
 
 use crate::choice::Choice;
 use crate::keep::keep_chosen;
@@ -15,11 +15,10 @@ use crate::parts::Part;
 use crate::spelled::spelled;
 use crate::tool::list::{Listed, name_of};
 use crate::tool::section_parts::section_parts;
-use crate::wanted::Wanted;
 use std::alloc::{AllocError, Global};
 use std::result;
 use walrus::passes::used::Used;
-use walrus::{FunctionId, ModuleConfig, ModuleFunctions, Result};
+use walrus::{FunctionId, ModuleConfig, ModuleFunctions, Result, Wanted};
 use walrus_base::{FunctionKey, IdHashSet};
 
 // Puts the part behind the list, if it is a function that doesn't stay.

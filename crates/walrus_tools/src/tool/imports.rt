@@ -7,17 +7,16 @@ ghost use Rattle.walrus_items.specs.Imports.{import_value, imports};
 ghost use Rattle.walrus_items.specs.Kinds.{imported};
 ghost use Rattle.walrus_tools.specs.Choice.{choices_seen};
 ghost use Rattle.walrus_tools.specs.ImportList.{AnswersImportList, AnswersImports, ImportedItem, IsLongImport, import_told, imported_bytes, imported_seen};
-ghost use Rattle.walrus_tools.specs.Wanted.{config_wanted};
+ghost use Rattle.walrus.specs.Wanted.{config_wanted};
 
 use crate::choice::Choice;
 use crate::keep::keep_chosen;
 use crate::numbers::add_text;
 use crate::spelled::{Told, add_item, spelled};
-use crate::wanted::Wanted;
 use std::alloc::{AllocError, Global};
 use std::result;
 use walrus::passes::gc;
-use walrus::{ItemId, ModuleConfig, ModuleImports, Result};
+use walrus::{ItemId, ModuleConfig, ModuleImports, Result, Wanted};
 use walrus_items::{Import, ImportKind};
 
 /// An import.

@@ -8,18 +8,17 @@ ghost use Rattle.walrus_items.specs.Seen.{text_of};
 ghost use Rattle.walrus_items.specs.Transform.{range_of};
 ghost use Rattle.walrus_tools.specs.Choice.{choices_seen};
 ghost use Rattle.walrus_tools.specs.FunctionList.{AnswersFunctions, AnswersListed, IsLong, IsLongName, ListedFunction, RefusesIf, listed_bytes, listed_of, listed_seen, name_bytes, names_in};
-ghost use Rattle.walrus_tools.specs.Wanted.{config_wanted};
+ghost use Rattle.walrus.specs.Wanted.{config_wanted};
 
 use crate::choice::Choice;
 use crate::keep::keep_chosen;
 use crate::numbers::{NO_NAME, add_number, add_text, narrow};
 use crate::spelled::{Told, spelled};
-use crate::wanted::Wanted;
 use std::alloc::{AllocError, Global};
 use std::ops::Range;
 use std::result;
 use walrus::passes::gc;
-use walrus::{FunctionId, ModuleConfig, ModuleFunctions, Result};
+use walrus::{FunctionId, ModuleConfig, ModuleFunctions, Result, Wanted};
 
 /// A function with a body that stays, or that goes.
 #[derive(Drop)]

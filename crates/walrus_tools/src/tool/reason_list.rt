@@ -10,7 +10,7 @@ ghost use Rattle.walrus_tools.specs.Numbers.{RefusesIf};
 ghost use Rattle.walrus_tools.specs.ReasonAnswers.{AnswersCallerList, AnswersReasonList};
 ghost use Rattle.walrus_tools.specs.ReasonBytes.{IsLongAlone, IsLongLink, IsLongReason, IsLongSize, IsLongText, alone_bytes, chain_links, item_bytes, link_bytes, reason_bytes, reason_seen, root_number, size_bytes};
 ghost use Rattle.walrus_tools.specs.Spelled.{HasLong};
-ghost use Rattle.walrus_tools.specs.Wanted.{config_wanted};
+ghost use Rattle.walrus.specs.Wanted.{config_wanted};
 
 use crate::choice::Choice;
 use crate::export_groups::kind_number;
@@ -24,9 +24,8 @@ use crate::spelled::{Told, add_all, spelled};
 use crate::tool::callers::callers;
 use crate::tool::list::add_name;
 use crate::tool::why::why;
-use crate::wanted::Wanted;
 use std::alloc::Global;
-use walrus::{Error, ItemId, Result};
+use walrus::{Error, ItemId, Result, Wanted};
 
 // ---- a link
 

@@ -2,16 +2,15 @@
 
 ghost use Rattle.walrus_tools.specs.Choice.{choices_seen};
 ghost use Rattle.walrus_tools.specs.StubMatching.{RefusesMatching, StubsMatching};
-ghost use Rattle.walrus_tools.specs.Wanted.{config_wanted};
+ghost use Rattle.walrus.specs.Wanted.{config_wanted};
 ghost use Rattle.walrus_tools.specs.Weigh.{AnswersWeighed};
 
 use crate::choice::Choice;
 use crate::kinds::kinds_of;
 use crate::tool::stub_matching::stub_chosen;
-use crate::wanted::Wanted;
 use crate::weigh::{Smaller, finished_weighed};
 use std::alloc::Global;
-use walrus::{ModuleConfig, Result};
+use walrus::{ModuleConfig, Result, Wanted};
 
 /// The bytes that [`stub_matching`](crate::stub_matching) makes, and what is told of them: how many items and bytes were read, and how many are
 /// left.

@@ -2,9 +2,9 @@ use Rattle.std.proofs.Common.{refl, ◌∙◌}
 use Rattle.std.proofs.lemmas.Result.{err_from_is_err_and}
 use Rattle.walrus_module.specs.Flags.{config_of, defaults}
 use Rattle.walrus_tools.proofs.CountEnds.{count_whole, counts_held, same_customs, same_settings}
-use Rattle.walrus_tools.proofs.EditEnds.{edit_finishes, memory_refused}
+use Rattle.walrus.proofs.EditEnds.{edit_finishes, memory_refused}
 use Rattle.walrus_tools.specs.CountAnswers.{CountsHeld}
-use Rattle.walrus_tools.specs.Edits.{ForMemory}
+use Rattle.walrus.specs.Edits.{ForMemory}
 use Rattle.walrus_tools.proofs.examples.count_calls.count_calls.Goals as goal
 
 pub returns-in_err-count_all : goal.returns-in_err-count_all

@@ -1,7 +1,7 @@
 use Rattle.std.proofs.Common.{refl}
 use Rattle.std.proofs.lemmas.Result.{err_from_is_err_and}
 use Rattle.walrus_module.specs.Flags.{config_of, defaults}
-use Rattle.walrus_tools.proofs.EditEnds.{edit_finishes, edit_refused, parsed_whole}
+use Rattle.walrus.proofs.EditEnds.{edit_finishes, edit_refused, parsed_whole}
 use Rattle.walrus_tools.proofs.RenameSteps.{rename_whole}
 use Rattle.walrus_tools.specs.ExportNames.{RefusesRename, RenamesHeld}
 use Rattle.walrus_tools.proofs.examples.rename_export.rename_export.Goals as goal

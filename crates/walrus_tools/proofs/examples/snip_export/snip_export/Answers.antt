@@ -2,7 +2,7 @@ use Rattle.std.proofs.Common.{ap, refl, ◌∙◌}
 use Rattle.std.proofs.lemmas.Result.{err_from_is_err_and}
 use Rattle.walrus_module.specs.Flags.{config_of, defaults}
 use Rattle.walrus_module.specs.Settings.{settings}
-use Rattle.walrus_tools.proofs.EditEnds.{edit_finishes, edit_refused, parsed_whole}
+use Rattle.walrus.proofs.EditEnds.{edit_finishes, edit_refused, parsed_whole}
 use Rattle.walrus_tools.proofs.SnipCall.{snips_held}
 use Rattle.walrus_tools.specs.SnipAnswers.{RefusesSnip, SnipsHeld}
 use Rattle.walrus_tools.proofs.examples.snip_export.snip_export.Goals as goal

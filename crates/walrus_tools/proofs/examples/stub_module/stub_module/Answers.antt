@@ -2,9 +2,9 @@ use Rattle.std.proofs.Common.{ap, refl, ◌∙◌}
 use Rattle.std.proofs.lemmas.Result.{err_from_is_err_and}
 use Rattle.walrus_module.specs.Flags.{config_of, defaults}
 use Rattle.walrus_module.specs.Settings.{settings}
-use Rattle.walrus_tools.proofs.EditEnds.{edit_finishes, memory_refused, parsed_whole}
+use Rattle.walrus.proofs.EditEnds.{edit_finishes, memory_refused, parsed_whole}
 use Rattle.walrus_tools.proofs.StubCall.{stubs_held}
-use Rattle.walrus_tools.specs.Edits.{ForMemory}
+use Rattle.walrus.specs.Edits.{ForMemory}
 use Rattle.walrus_tools.specs.StubAnswers.{StubsHeld}
 use Rattle.walrus_tools.proofs.examples.stub_module.stub_module.Goals as goal
 

@@ -1,7 +1,7 @@
 use Rattle.std.proofs.Common.{◌≡◌, length}
 use Rattle.walrus_items.specs.Imports.{imports}
 use Rattle.walrus_model.specs.Config.{Config}
-use Rattle.walrus_tools.specs.Edits.{IsWhole}
+use Rattle.walrus.specs.Edits.{IsWhole}
 use Rattle.walrus_tools.specs.Stub.{comes_from}
 use Rattle.walrus_tools.specs.StubAnswers.{StubsSome}
 use Rattle.walrus_tools.proofs.examples.stub_module.trap_all.Given as goal

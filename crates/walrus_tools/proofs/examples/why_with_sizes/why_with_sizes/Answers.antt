@@ -7,7 +7,7 @@ use Rattle.walrus_base.specs.Id.{place}
 use Rattle.walrus_module.specs.Customs.{sections}
 use Rattle.walrus_module.specs.Flags.{config_of, defaults}
 use Rattle.walrus_module.specs.Settings.{settings}
-use Rattle.walrus_tools.proofs.EditEnds.{parsed_whole}
+use Rattle.walrus.proofs.EditEnds.{parsed_whole}
 use Rattle.walrus_tools.proofs.MeasuredEnds.{emission_lacks, measured, search_lacks}
 use Rattle.walrus_tools.proofs.ReasonEnds.{function_lacks, reason_told}
 use Rattle.walrus_tools.specs.Measures.{IsSame}

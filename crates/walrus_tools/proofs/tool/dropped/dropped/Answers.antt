@@ -7,7 +7,7 @@ use Rattle.walrus_module.specs.Flags.{Flags, config_of, flags}
 use Rattle.walrus_tools.specs.Choice.{Choice, choices_seen}
 use Rattle.walrus_tools.specs.ChosenModule.{RefusesChosen}
 use Rattle.walrus_tools.specs.DroppedList.{AnswersDropped, IsDropped}
-use Rattle.walrus_tools.specs.Edits.{RefusesEdit}
+use Rattle.walrus.specs.Edits.{RefusesEdit}
 use Rattle.walrus_tools.specs.FunctionList.{listed_seen}
 use Rattle.walrus_tools.specs.Parts.{HasParts, part_record}
 use Rattle.walrus_tools.specs.declared.parts.Part.{Part as RawPart}

@@ -7,7 +7,7 @@ use Rattle.walrus_module.specs.Flags.{Flags, config_of, flags}
 use Rattle.walrus_tools.specs.Choice.{Choice, choices_seen}
 use Rattle.walrus_tools.specs.ChosenModule.{RefusesChosen}
 use Rattle.walrus_tools.specs.ExportList.{AnswersExports, AreExports, exported_seen}
-use Rattle.walrus_tools.specs.Edits.{RefusesEdit}
+use Rattle.walrus.specs.Edits.{RefusesEdit}
 use Rattle.walrus_tools.specs.declared.tool.exports.Exported.{Exported}
 use Rattle.walrus_tools.proofs.ChosenListed.{exports_told, unchosen, unread}
 use Rattle.walrus_tools.proofs.tool.exports.exports.Goals as goal

@@ -7,7 +7,7 @@ use Rattle.walrus_tools.specs.Choice.{choices_seen}
 use Rattle.walrus_tools.specs.ChosenModule.{KeepsChosen, RefusesChosen}
 use Rattle.walrus_tools.specs.Weigh.{AnswersWeighed}
 use Rattle.walrus_tools.proofs.ChosenEnds.{chosen_held, chosen_whole}
-use Rattle.walrus_tools.proofs.EditEnds.{edit_refused, parsed_whole, ready}
+use Rattle.walrus.proofs.EditEnds.{edit_refused, parsed_whole, ready}
 use Rattle.walrus_tools.proofs.WeighEnds.{edit_weighs, refused_weighed}
 use Rattle.walrus_tools.proofs.tool.gc_counted.gc_counted.Goals as goal
 

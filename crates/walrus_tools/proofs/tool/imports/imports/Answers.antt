@@ -7,7 +7,7 @@ use Rattle.walrus_module.specs.Flags.{Flags, config_of, flags}
 use Rattle.walrus_tools.specs.Choice.{Choice, choices_seen}
 use Rattle.walrus_tools.specs.ChosenModule.{RefusesChosen}
 use Rattle.walrus_tools.specs.ImportList.{AnswersImports, AreImports, imported_seen}
-use Rattle.walrus_tools.specs.Edits.{RefusesEdit}
+use Rattle.walrus.specs.Edits.{RefusesEdit}
 use Rattle.walrus_tools.specs.declared.tool.imports.Imported.{Imported}
 use Rattle.walrus_tools.proofs.ChosenListed.{chosen_ready, imports_told, unchosen, unread, unsearched}
 use Rattle.walrus_tools.proofs.tool.imports.imports.Goals as goal

@@ -11,7 +11,7 @@ use Rattle.walrus_tools.specs.Choice.{choices_seen}
 use Rattle.walrus_tools.specs.ChosenModule.{KeepsChosen, RefusesChosen}
 use Rattle.walrus_tools.specs.FunctionList.{AnswersListed, names_in}
 use Rattle.walrus_tools.proofs.ChosenEnds.{bytes_refused, chosen_held, chosen_whole}
-use Rattle.walrus_tools.proofs.EditEnds.{edit_refused, parsed_whole}
+use Rattle.walrus.proofs.EditEnds.{edit_refused, parsed_whole}
 use Rattle.walrus_tools.proofs.MeasuredEnds.{emission_lacks, measured, search_lacks}
 use Rattle.walrus_tools.proofs.SizeEnds.{list_told, way_refused}
 use Rattle.walrus_tools.proofs.tool.list.list.Goals as goal

@@ -6,7 +6,7 @@ use Rattle.walrus_module.specs.Settings.{settings}
 use Rattle.walrus_tools.specs.FunctionMeaning.{texts}
 use Rattle.walrus_tools.specs.TrapEdit.{RefusesMeant, SnipsMeant}
 use Rattle.walrus_tools.specs.Weigh.{AnswersWeighed}
-use Rattle.walrus_tools.proofs.EditEnds.{edit_refused, parsed_whole, ready}
+use Rattle.walrus.proofs.EditEnds.{edit_refused, parsed_whole, ready}
 use Rattle.walrus_tools.proofs.TrapWhole.{snips_meant}
 use Rattle.walrus_tools.proofs.WeighEnds.{edit_weighs, refused_weighed}
 use Rattle.walrus_tools.proofs.tool.snip_counted.snip_counted.Goals as goal

@@ -5,7 +5,7 @@ use Rattle.walrus_module.specs.Flags.{Flags, config_of, flags}
 use Rattle.walrus_module.specs.Settings.{settings}
 use Rattle.walrus_tools.specs.FunctionMeaning.{texts}
 use Rattle.walrus_tools.specs.TrapEdit.{AnswersMeant, RefusesMeant, SnipsMeant}
-use Rattle.walrus_tools.proofs.EditEnds.{edit_finishes, edit_refused, parsed_whole, ready}
+use Rattle.walrus.proofs.EditEnds.{edit_finishes, edit_refused, parsed_whole, ready}
 use Rattle.walrus_tools.proofs.TrapWhole.{snips_meant}
 use Rattle.walrus_tools.proofs.tool.snip_functions.snip_functions.Goals as goal
 

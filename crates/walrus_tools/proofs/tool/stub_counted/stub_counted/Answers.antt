@@ -6,7 +6,7 @@ use Rattle.walrus_module.specs.Settings.{settings}
 use Rattle.walrus_tools.specs.Choice.{choices_seen}
 use Rattle.walrus_tools.specs.StubMatching.{RefusesMatching, StubsMatching}
 use Rattle.walrus_tools.specs.Weigh.{AnswersWeighed}
-use Rattle.walrus_tools.proofs.EditEnds.{edit_refused, parsed_whole, ready}
+use Rattle.walrus.proofs.EditEnds.{edit_refused, parsed_whole, ready}
 use Rattle.walrus_tools.proofs.MatchingEnds.{matching_held}
 use Rattle.walrus_tools.proofs.WeighEnds.{edit_weighs, refused_weighed}
 use Rattle.walrus_tools.proofs.tool.stub_counted.stub_counted.Goals as goal

@@ -5,7 +5,7 @@ use Rattle.walrus_module.specs.Flags.{Flags, config_of, flags}
 use Rattle.walrus_module.specs.Settings.{settings}
 use Rattle.walrus_tools.specs.Choice.{choices_seen}
 use Rattle.walrus_tools.specs.StubMatching.{AnswersMatching, RefusesMatching, StubsMatching}
-use Rattle.walrus_tools.proofs.EditEnds.{edit_finishes, edit_refused, parsed_whole, ready}
+use Rattle.walrus.proofs.EditEnds.{edit_finishes, edit_refused, parsed_whole, ready}
 use Rattle.walrus_tools.proofs.MatchingEnds.{matching_held}
 use Rattle.walrus_tools.proofs.tool.stub_matching.stub_matching.Goals as goal
 

@@ -1,0 +1,6 @@
+pub mod ItemRecords
+pub mod ItemValues
+pub mod LocalNames
+pub mod TypeRecords
+pub mod ItemSteps
+pub mod Items
