@@ -3,6 +3,7 @@ pub mod Constants
 pub mod Customs
 pub mod Data
 pub mod Edits
+pub mod Fine
 pub mod Elements
 pub mod Exports
 pub mod Fronts
