@@ -1,7 +1,7 @@
 use Rattle.std.proofs.lemmas.Result.{err_from_is_err_and}
 use Rattle.walrus_module.specs.View.{held_view}
 use Rattle.walrus_module.proofs.Checked.{flaw_refused}
-use Rattle.walrus_module.proofs.check.Module.check.Goals as goal
+use Rattle.walrus_module.proofs.module.Module.check.Goals as goal
 
 pub returns-in_err-diagnose : goal.returns-in_err-diagnose
 returns-in_err-diagnose g c =
