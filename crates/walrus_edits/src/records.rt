@@ -50,8 +50,8 @@ fn write_record(to: &mut Vec<u8>, number: u8, held: &[u8]) -> result::Result<(),
     write_block(to, held)
 }
 
-/// Puts the record of an item behind the bytes.
-pub(crate) fn tell<T: Tells>(
+/// Puts the byte of an item, the size of what its record holds and that behind the bytes.
+pub(crate) fn write_told<T: Tells>(
     alloc: Global,
     to: &mut Vec<u8>,
     item: &T,
@@ -61,6 +61,18 @@ pub(crate) fn tell<T: Tells>(
     let mut held = Vec::new(alloc);
     item.write_payload(alloc, &mut held)?;
     write_record(to, item.number(), &held)
+}
+
+/// Puts the record of an item behind the bytes.
+pub(crate) fn tell<T: Tells>(
+    alloc: Global,
+    to: &mut Vec<u8>,
+    item: &T,
+) -> result::Result<(), WireError>
+    ensures { Adds result to.old.items to.new.items (row_bytes told_bytes (T.told item.now ∷ []))
+        (EachFits ToldFits (T.told item.now ∷ [])) }
+{
+    write_told(alloc, to, item)
 }
 
 /// Puts the records of items behind the bytes, one behind another.
