@@ -1,0 +1,4 @@
+pub mod FineItems
+mod FineSlots
+mod Places
+mod Turns

@@ -1,6 +1,7 @@
 pub mod Customs
 pub mod Edits
 pub mod Exports
+pub mod Fine
 pub mod Held
 pub mod Ids
 pub mod Imports
