@@ -1,1 +1,5 @@
 pub mod EditRows
+pub mod FineItems
+mod FineSlots
+mod Places
+mod Turns
