@@ -1,1 +1,3 @@
 pub mod EditRows
+mod SegmentSets
+mod Turns
