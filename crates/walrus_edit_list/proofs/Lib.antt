@@ -1,3 +1,7 @@
 pub mod EditRows
+pub mod FineSegments
+mod Found
+mod Ids
+mod Refusing
 mod SegmentSets
 mod Turns
