@@ -1,7 +1,7 @@
 pub mod EditRows
 pub mod FineSegments
 mod Found
-mod Ids
+mod Numbered
 mod Refusing
 mod SegmentSets
 mod Turns

@@ -1,11 +1,12 @@
 -- What stands at a place of a collection, and the sets of segments, once they are changed.
-use Rattle.std.proofs.Common.{◌≡◌, ℕ, zero, suc, Bool, true, false, List, [], ◌∷◌, map, refl, sym, ap, ◌∙◌, eqb-true}
+use Rattle.std.proofs.Common.{◌≡◌, ℕ, zero, suc, Bool, true, false, List, [], ◌∷◌, map, refl, sym, ap, subst, ◌∙◌, eqb-true}
 use Rattle.std.specs.Prelude.{◌≢◌, ◌==◌, if◌then◌else◌, Option, Some, None, option_map, slice_set}
 use Rattle.std.proofs.lemmas.Bool.{eqb-false}
 use Rattle.std.proofs.lemmas.List.{map-set}
 use mathlib.Core.Path.{fun_ext}
 use Rattle.walrus_base.specs.Arena.{IsLive, item_at}
 use Rattle.walrus_base.specs.IdSet.{Adds, Removes, has_id}
+use Rattle.walrus_base.proofs.Standing.{some_of}
 use Rattle.walrus_base.specs.declared.set.IdHashSet.{IdHashSet}
 use Rattle.walrus_edit_list.specs.SegmentSets.{with_segment}
 
@@ -25,6 +26,16 @@ none_there change [] at dead = refl
 none_there change (None ∷ rest) zero dead = refl
 none_there change (Some v ∷ rest) zero dead = absurd (dead refl)
 none_there {V} change (slot ∷ rest) (suc at) dead = ap (λ (l : List (Option V)). slot ∷ l) (none_there change rest at dead)
+
+-- where an item is there, it stands at the place of its id
+pub stood : {V : Type 0} (slots : List (Option V)) (i at : ℕ) → i ≡ at → IsLive slots i → (was : V) × (item_at slots at ≡ Some was)
+stood {V} slots i at same live = subst (λ (n : ℕ). (was : V) × (item_at slots n ≡ Some was)) same (some_of (item_at slots i) live)
+
+-- what is changed at the place of its id is what stood there, changed
+pub set_so : {V : Type 0} (change : V → V) (slots new : List (Option V)) (i at : ℕ) (was : V) → i ≡ at → item_at slots at ≡ Some was
+    → new ≡ slice_set slots i (option_map change (item_at slots i)) → new ≡ slice_set slots at (Some (change was))
+set_so {V} change slots new i at was same there is =
+    is ∙ ap (λ (n : ℕ). slice_set slots n (option_map change (item_at slots n))) same ∙ ap (λ (o : Option V). slice_set slots at (option_map change o)) there
 
 -- ---- sets of ids
 
