@@ -1,1 +1,7 @@
 pub mod EditRows
+pub mod FineSegments
+mod Found
+mod Numbered
+mod Refusing
+mod SegmentSets
+mod Turns

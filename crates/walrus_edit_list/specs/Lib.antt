@@ -12,7 +12,6 @@ pub mod Globals
 pub mod Held
 pub mod Ids
 pub mod Imports
-pub mod InTurn
 pub mod Memories
 pub mod Naming
 pub mod Places
