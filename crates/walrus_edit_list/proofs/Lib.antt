@@ -5,3 +5,6 @@ mod Numbered
 mod Refusing
 mod SegmentSets
 mod Turns
+mod Counting
+mod Refusing
+pub mod RefusingBodies

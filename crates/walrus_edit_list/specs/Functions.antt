@@ -1,6 +1,6 @@
 -- Functions whose bodies are given in the binary format, with ids as indices ("Binary Format > Modules > Code Section").
-use Rattle.std.specs.Prelude.{ℕ, ◌+◌, ◌<◌, ◌≤◌, true, false, List, [], ◌∷◌, ◌++◌, length, map, sum, Option, Some, None, option_map, slice_set, ◌≡◌, ◌⊎◌, ⊤}
-use Rattle.wasm_forms.specs.Grammar.{at}
+use Rattle.std.specs.Prelude.{ℕ, ◌+◌, ◌<◌, ◌≤◌, true, false, List, [], ◌∷◌, ◌++◌, length, Option, Some, None, option_map, slice_set, ◌≡◌, ◌⊎◌, ⊤}
+use Rattle.wasm_forms.specs.Grammar.{Is, at}
 use Rattle.wasm_forms.specs.declared.types.RawVal.{RawVal}
 use Rattle.walrus_base.specs.Arena.{item_at}
 use Rattle.walrus_base.specs.Id.{place}
@@ -16,6 +16,7 @@ use Rattle.walrus_bodies.specs.declared.features.Features.{Features}
 use Rattle.walrus_code.specs.Names.{Lookup}
 use Rattle.walrus_contents.specs.declared.parts.Contents.{Contents}
 use Rattle.walrus_functions.specs.Handlers.{params_of}
+use Rattle.walrus_functions.specs.Plain.{total}
 use Rattle.walrus_functions.specs.ReadFunction.{FunctionIsRead, StaysInFront, locals_from}
 use Rattle.walrus_functions.specs.Signatures.{slots_of}
 use Rattle.walrus_items.specs.FunctionKinds.{kind_type}
@@ -33,23 +34,27 @@ use Rattle.walrus_edit_list.specs.declared.functions.TheConstants.{MOST_LOCALS}
 
 -- ---- how many locals a body declares
 
--- how many locals these declare
-abbrev pub count_of : List (ℕ × RawVal) → ℕ
-count_of ds = sum (map (λ d. d.0) ds)
-
 abbrev pub count_in : Option (List (ℕ × RawVal) × List ℕ) → ℕ
 count_in None = 0
-count_in (Some read) = count_of read.0
+count_in (Some read) = total read.0
 
 -- how many locals the bytes of a body declare, where declarations stand in front of them
 abbrev pub declared_count : List ℕ → ℕ
 declared_count code = count_in (at declarations code)
 
--- these bytes declare more locals than engines take, or don't begin with declarations
-abbrev pub RefusesCounted : List ℕ → Error → Type 0
-RefusesCounted code (Memory e) = ⊤
-RefusesCounted code (InvalidWasm kind) = (MOST_LOCALS < declared_count code) ⊎ (at declarations code ≡ None)
-RefusesCounted code _ = ⊥
+-- memory ran out, or bytes aren't of a form
+abbrev pub RefusesForm : (malformed : Type 0) → Error → Type 0
+RefusesForm malformed (Memory e) = ⊤
+RefusesForm malformed (InvalidWasm kind) = malformed
+RefusesForm malformed _ = ⊥
+
+-- no declarations stand in front of the bytes
+abbrev pub HasNoDeclarations : List ℕ → Type 0
+HasNoDeclarations code = (front rest : List ℕ) (declared : List (ℕ × RawVal)) → code ≡ front ++ rest → Is declarations front declared → ⊥
+
+-- the bytes declare more locals than engines take, or no declarations stand in front of them
+abbrev pub DeclaresNone : List ℕ → Type 0
+DeclaresNone code = (MOST_LOCALS < declared_count code) ⊎ HasNoDeclarations code
 
 -- ---- a body among types and locals
 

@@ -6,11 +6,12 @@ ghost use Rattle.walrus_base.specs.Id.{place};
 ghost use Rattle.walrus_bodies.specs.Declarations.{declarations_of};
 ghost use Rattle.walrus_bodies.specs.FunctionTypes.{is_function_at};
 ghost use Rattle.walrus_code.specs.Indices.{ids_at};
+ghost use Rattle.walrus_functions.specs.Plain.{total};
 ghost use Rattle.walrus_functions.specs.Signatures.{tag_places};
 ghost use Rattle.walrus_items.specs.Functions.{functions};
 ghost use Rattle.walrus_items.specs.Imports.{imports};
 ghost use Rattle.walrus_module.specs.Replaced.{with_body};
-ghost use Rattle.walrus_edit_list.specs.Functions.{AddsFunction, IsBodyOf, RefusesBody, RefusesCounted, RefusesFunction, RefusesSetFunction, SetsFunction, brought_by, count_of, declared_count, without};
+ghost use Rattle.walrus_edit_list.specs.Functions.{AddsFunction, DeclaresNone, IsBodyOf, RefusesBody, RefusesForm, RefusesFunction, RefusesSetFunction, SetsFunction, brought_by, declared_count, without};
 ghost use Rattle.walrus_edit_list.specs.Held.{held};
 ghost use Rattle.walrus_edit_list.specs.Ids.{tag_types};
 
@@ -30,7 +31,7 @@ const MOST_LOCALS: u32 = 50_000;
 
 // Whether these declare no more locals than that.
 fn are_few(declarations: &[Declaration]) -> bool
-    ensures { result ≡ nat_le (count_of (declarations_of declarations.now)) 50_000 }
+    ensures { result ≡ nat_le (total (declarations_of declarations.now)) 50_000 }
 {
     let mut left = MOST_LOCALS;
     'declarations: for declaration in declarations {
@@ -44,7 +45,7 @@ fn are_few(declarations: &[Declaration]) -> bool
 
 // Refuses a body that declares more locals than that, before memory is taken for them.
 fn count_locals(alloc: Global, body: &[u8]) -> Result<()>
-    ensures { MatchResult result (λ _. declared_count body.now ≤ 50_000) (RefusesCounted body.now) }
+    ensures { MatchResult result (λ _. declared_count body.now ≤ 50_000) (RefusesForm (DeclaresNone body.now)) }
 {
     let (declared, _rest) = read_declarations(alloc, body)?;
     if !are_few(declared.as_slice()) {
