@@ -1,0 +1,6 @@
+mod LocalSteps
+mod NameSteps
+mod RowSteps
+mod TellSteps
+mod TypeSteps
+mod ZipSteps

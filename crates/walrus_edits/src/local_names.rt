@@ -7,10 +7,10 @@ ghost use Rattle.walrus_edits.specs.ItemRecords.{Told};
 ghost use Rattle.walrus_edits.specs.ItemValues.{local_named};
 ghost use Rattle.walrus_edits.specs.LocalNames.{AreLocalNames, local_told, name_payloads};
 
-use crate::records::{LOCAL_NAME, Tells};
+use crate::records::{LOCAL_NAME, Tells, put_number};
 use std::alloc::{AllocError, Global};
 use std::result;
-use wasm_forms::{WireError, write_name, write_u32};
+use wasm_forms::{WireError, write_name};
 use wasm_frames::RawCustom;
 use wasm_payloads::{NameSink, Naming, read_names};
 use wasm_wire::CustomGroup;
@@ -31,8 +31,8 @@ impl Tells for NameOfLocal {
     }
 
     fn write_payload(&self, _alloc: Global, to: &mut Vec<u8>) -> result::Result<(), WireError> {
-        write_u32(to, self.function)?;
-        write_u32(to, self.local)?;
+        put_number(to, u64::from(self.function))?;
+        put_number(to, u64::from(self.local))?;
         write_name(to, self.name.as_str())
     }
 }

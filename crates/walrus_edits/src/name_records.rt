@@ -1,6 +1,6 @@
 //! What is told of the names of items.
 
-ghost use Rattle.std.specs.Prelude.{List, Option, ℕ, ◌≡◌, map};
+ghost use Rattle.std.specs.Prelude.{List, Option, ℕ, ◌≡◌, ◌++◌, IfOk, OnOk, map};
 ghost use Rattle.wasm_forms.specs.Spelling.{row_bytes};
 ghost use Rattle.wasm_forms.specs.Writing.{Adds, EachFits};
 ghost use Rattle.walrus_base.specs.Arena.{entries, live_places};
@@ -8,11 +8,12 @@ ghost use Rattle.walrus_base.specs.ModuleTypes.{type_names, type_slots};
 ghost use Rattle.walrus_items.specs.Held.{held};
 ghost use Rattle.walrus_items.specs.Seen.{text_of};
 ghost use Rattle.walrus_contents.specs.View.{lent};
-ghost use Rattle.walrus_edits.specs.ItemRecords.{AName, ToldFits, told_bytes};
+ghost use Rattle.walrus_edits.specs.ItemRecords.{ToldFits, told_bytes};
+ghost use Rattle.walrus_edits.specs.ItemSteps.{IsNameOf, name_told};
 ghost use Rattle.walrus_edits.specs.ItemValues.{all_names, named, names_in, type_names_in};
 
-use crate::records::{Tells, tell};
-use std::alloc::Global;
+use crate::records::{Tells, put_byte, put_number, tell_all};
+use std::alloc::{AllocError, Global};
 use std::result;
 use walrus_base::ModuleTypes;
 use walrus_contents::Parts;
@@ -21,7 +22,7 @@ use walrus_edit_list::numbers::{
     OF_TYPE,
 };
 use walrus_items::{Data, Element, Function, Item, Items, Memory, Table, Tag};
-use wasm_forms::{WireError, write_name, write_u64};
+use wasm_forms::{WireError, write_name};
 
 /// A name, what it is the name of, and that one's place.
 #[derive(Clone, Copy)]
@@ -32,55 +33,50 @@ struct NameOf<'a> {
 }
 
 impl<'a> Tells for NameOf<'a> {
-    ghost told = { λ n. AName n.what n.place n.name.now };
+    ghost told = { name_told };
 
     fn number(&self) -> u8 {
         NAME
     }
 
     fn write_payload(&self, _alloc: Global, to: &mut Vec<u8>) -> result::Result<(), WireError> {
-        to.push(self.what)?;
-        write_u64(to, self.place as u64)?;
+        put_byte(to, self.what)?;
+        put_number(to, self.place as u64)?;
         write_name(to, self.name)
     }
 }
 
-/// Tells the name of that of this place, where it has one.
-fn tell_name(
-    alloc: Global,
-    to: &mut Vec<u8>,
+/// Puts the name of that of this place behind the others, where it has one.
+fn push_name<'a>(
+    to: &mut Vec<NameOf<'a>>,
     what: u8,
     place: usize,
-    name: &Option<String>,
-) -> result::Result<(), WireError>
-    ensures { Adds result to.old.items to.new.items (row_bytes told_bytes (named what place (text_of name.now)))
-        (EachFits ToldFits (named what place (text_of name.now))) }
+    name: &'a Option<String>,
+) -> result::Result<(), AllocError>
+    ensures { OnOk result (map name_told to.new.items ≡ map name_told to.old.items
+        ++ named what place (text_of name.now)) }
 {
-    match name {
-        Some(name) => tell(
-            alloc,
-            to,
-            &NameOf {
-                what,
-                place,
-                name: name.as_str(),
-            },
-        ),
-        None => Ok(()),
+    if let Some(text) = name {
+        to.push(NameOf {
+            what,
+            place,
+            name: text.as_str(),
+        })?;
     }
+    Ok(())
 }
 
-/// An item that may have a name; contracts see of it `name_of`.
+/// An item that may have a name: `own`.
 trait MayHaveName: Item {
-    ghost name_of: { Self.Seen → Option (List ℕ) };
+    ghost own: { Self → Option (List ℕ) };
 
     /// Its name, if it has one.
     fn own_name(&self) -> &Option<String>
-        ensures { text_of result.now ≡ name_of (Self.value self.now) };
+        ensures { text_of result.now ≡ own self.now };
 }
 
 impl MayHaveName for Function {
-    ghost name_of = { λ f. f.name };
+    ghost own = { λ f. text_of f.name };
 
     fn own_name(&self) -> &Option<String> {
         &self.name
@@ -88,7 +84,7 @@ impl MayHaveName for Function {
 }
 
 impl MayHaveName for Table {
-    ghost name_of = { λ t. t.name };
+    ghost own = { λ t. text_of t.name };
 
     fn own_name(&self) -> &Option<String> {
         &self.name
@@ -96,7 +92,7 @@ impl MayHaveName for Table {
 }
 
 impl MayHaveName for Memory {
-    ghost name_of = { λ m. m.name };
+    ghost own = { λ m. text_of m.name };
 
     fn own_name(&self) -> &Option<String> {
         &self.name
@@ -104,7 +100,7 @@ impl MayHaveName for Memory {
 }
 
 impl MayHaveName for Tag {
-    ghost name_of = { λ t. t.name };
+    ghost own = { λ t. text_of t.name };
 
     fn own_name(&self) -> &Option<String> {
         &self.name
@@ -112,7 +108,7 @@ impl MayHaveName for Tag {
 }
 
 impl MayHaveName for walrus_items::Global {
-    ghost name_of = { λ g. g.name };
+    ghost own = { λ g. text_of g.name };
 
     fn own_name(&self) -> &Option<String> {
         &self.name
@@ -120,7 +116,7 @@ impl MayHaveName for walrus_items::Global {
 }
 
 impl MayHaveName for Element {
-    ghost name_of = { λ e. e.name };
+    ghost own = { λ e. text_of e.name };
 
     fn own_name(&self) -> &Option<String> {
         &self.name
@@ -128,49 +124,65 @@ impl MayHaveName for Element {
 }
 
 impl MayHaveName for Data {
-    ghost name_of = { λ d. d.name };
+    ghost own = { λ d. text_of d.name };
 
     fn own_name(&self) -> &Option<String> {
         &self.name
     }
 }
 
-/// Tells the names of the items of one kind, by rising id.
-fn tell_names<K, T: MayHaveName>(
-    alloc: Global,
-    to: &mut Vec<u8>,
+/// Puts the names of the items of one kind behind the others, by rising id.
+fn push_names<'a, K, T: MayHaveName>(
+    to: &mut Vec<NameOf<'a>>,
     what: u8,
-    all: &Items<K, T>,
-) -> result::Result<(), WireError>
-    ensures { Adds result to.old.items to.new.items
-        (row_bytes told_bytes (names_in what T.name_of (entries (held T.value all.now))))
-        (EachFits ToldFits (names_in what T.name_of (entries (held T.value all.now)))) }
+    all: &'a Items<K, T>,
+) -> result::Result<(), AllocError>
+    ensures { OnOk result ((name_of : T.Seen → Option (List ℕ)) → IsNameOf T.own T.value name_of
+        → map name_told to.new.items ≡ map name_told to.old.items
+        ++ names_in what name_of (entries (held T.value all.now))) }
 {
     'items: for (id, item) in all.iter_entries() {
-        tell_name(alloc, to, what, id.index(), item.own_name())?;
+        push_name(to, what, id.index(), item.own_name())?;
     }
     Ok(())
 }
 
-/// Tells the names of types, by rising id.
-fn tell_type_names(
+/// Puts the names of types behind the others, by rising id.
+fn push_type_names<'a>(
     alloc: Global,
-    to: &mut Vec<u8>,
-    types: &ModuleTypes,
-) -> result::Result<(), WireError>
-    ensures { Adds result to.old.items to.new.items
-        (row_bytes told_bytes (type_names_in (type_names types.now) (live_places (type_slots types.now))))
-        (EachFits ToldFits (type_names_in (type_names types.now) (live_places (type_slots types.now)))) }
+    to: &mut Vec<NameOf<'a>>,
+    types: &'a ModuleTypes,
+) -> result::Result<(), AllocError>
+    ensures { OnOk result (map name_told to.new.items ≡ map name_told to.old.items
+        ++ type_names_in (type_names types.now) (live_places (type_slots types.now))) }
 {
     let ids = types.ids(alloc)?;
     'types: for id in &ids {
-        tell_name(alloc, to, OF_TYPE, id.index(), &types.get(*id).name)?;
+        push_name(to, OF_TYPE, id.index(), &types.get(*id).name)?;
     }
     Ok(())
 }
 
-/// Tells all names: the module's, and those of types, functions, tables, memories, globals, tags, segments of elements and of data.
-pub(crate) fn tell_all_names(
+/// All names that a module holds but those of locals: the module's, and those of types, functions, tables, memories, globals, tags, segments of
+/// elements and of data.
+fn names_of<'a>(alloc: Global, parts: Parts<'a>) -> result::Result<Vec<NameOf<'a>>, AllocError>
+    ensures { IfOk result (λ names. map name_told names.items ≡ all_names (lent parts.entry)) }
+{
+    let mut names = Vec::new(alloc);
+    push_name(&mut names, OF_MODULE, 0, parts.name)?;
+    push_type_names(alloc, &mut names, parts.types)?;
+    push_names(&mut names, OF_FUNCTION, parts.funcs)?;
+    push_names(&mut names, OF_TABLE, parts.tables)?;
+    push_names(&mut names, OF_MEMORY, parts.memories)?;
+    push_names(&mut names, OF_GLOBAL, parts.globals)?;
+    push_names(&mut names, OF_TAG, parts.tags)?;
+    push_names(&mut names, OF_ELEMENT, parts.elements)?;
+    push_names(&mut names, OF_DATA, parts.data_)?;
+    Ok(names)
+}
+
+/// Tells all names that a module holds but those of locals.
+pub(crate) fn tell_names(
     alloc: Global,
     to: &mut Vec<u8>,
     parts: Parts<'_>,
@@ -178,13 +190,6 @@ pub(crate) fn tell_all_names(
     ensures { Adds result to.old.items to.new.items (row_bytes told_bytes (all_names (lent parts.entry)))
         (EachFits ToldFits (all_names (lent parts.entry))) }
 {
-    tell_name(alloc, to, OF_MODULE, 0, parts.name)?;
-    tell_type_names(alloc, to, parts.types)?;
-    tell_names(alloc, to, OF_FUNCTION, parts.funcs)?;
-    tell_names(alloc, to, OF_TABLE, parts.tables)?;
-    tell_names(alloc, to, OF_MEMORY, parts.memories)?;
-    tell_names(alloc, to, OF_GLOBAL, parts.globals)?;
-    tell_names(alloc, to, OF_TAG, parts.tags)?;
-    tell_names(alloc, to, OF_ELEMENT, parts.elements)?;
-    tell_names(alloc, to, OF_DATA, parts.data_)
+    let names = names_of(alloc, parts)?;
+    tell_all(alloc, to, &names)
 }

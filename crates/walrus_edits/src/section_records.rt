@@ -1,14 +1,16 @@
 //! What is told of the entries of sections.
 
-ghost use Rattle.std.specs.Prelude.{ℕ, map};
+ghost use Rattle.std.specs.Prelude.{◌≡◌, IfOk, map, zip};
 ghost use Rattle.wasm_forms.specs.Spelling.{row_bytes, vector_bytes};
 ghost use Rattle.wasm_forms.specs.Writing.{Adds, EachFits, FitsVector};
 ghost use Rattle.wasm_entries.specs.Record.{data_entry, data_mode, element_entry, element_mode, export_entry, expression, global_entry, group, import_entry, items_of, table_entry};
 ghost use Rattle.wasm_frames.specs.Record.{body_record};
-ghost use Rattle.walrus_edits.specs.ItemRecords.{ACustom, AFunction, AGlobal, AGroup, AMemory, ASegment, ATable, ATag, AnElement, AnExport, AnImport, Brought, DataModeFits, ElementModeFits, ElementsFit, InitialFits, SizedFits, TheStart, data_mode_bytes, element_mode_bytes, elements_bytes, initial_bytes, sized, table_of};
+ghost use Rattle.walrus_edits.specs.ItemSteps.{defined_told};
+ghost use Rattle.walrus_edits.specs.ItemValues.{functions_in};
+ghost use Rattle.walrus_edits.specs.ItemRecords.{AGlobal, AGroup, AMemory, ASegment, ATable, ATag, AnElement, AnExport, AnImport, Brought, DataModeFits, ElementModeFits, ElementsFit, InitialFits, SizedFits, TheStart, data_mode_bytes, element_mode_bytes, elements_bytes, initial_bytes, sized, table_of};
 
-use crate::records::Tells;
-use std::alloc::Global;
+use crate::records::{Tells, put_byte, put_number};
+use std::alloc::{AllocError, Global};
 use std::result;
 use walrus_edit_list::numbers::{
     OF_DATA, OF_ELEMENT, OF_EXPORT, OF_FUNCTION, OF_GLOBAL, OF_IMPORT, OF_MEMORY, OF_START,
@@ -19,10 +21,7 @@ use wasm_entries::{
     RawGroup, RawImport, RawItems, RawLimits, RawTable, write_expression, write_global_type,
     write_group, write_limits, write_table_type,
 };
-use wasm_forms::{
-    WireError, Written, write_block, write_name, write_reference_type, write_u32, write_u64,
-    write_vector,
-};
+use wasm_forms::{WireError, Written, write_block, write_name, write_reference_type, write_vector};
 use wasm_frames::RawBody;
 
 /// What stands in front of what an import brings, and of what the module defines.
@@ -71,7 +70,7 @@ fn write_all_sized(
     let Ok(count) = u32::try_from(all.len()) else {
         return Err(WireError::TooLarge);
     };
-    write_u32(to, count)?;
+    put_number(to, u64::from(count))?;
     write_each_sized(alloc, to, all)
 }
 
@@ -115,9 +114,9 @@ impl Tells for RawDesc {
     }
 
     fn write_payload(&self, _alloc: Global, to: &mut Vec<u8>) -> result::Result<(), WireError> {
-        to.push(BROUGHT)?;
+        put_byte(to, BROUGHT)?;
         match self {
-            RawDesc::Function(ty) | RawDesc::Tag(ty) => Ok(write_u32(to, *ty)?),
+            RawDesc::Function(ty) | RawDesc::Tag(ty) => put_number(to, u64::from(*ty)),
             RawDesc::Table(ty) => write_table_type(to, ty),
             RawDesc::Memory(limits) => write_limits(to, limits),
             RawDesc::Global(ty) => write_global_type(to, ty),
@@ -133,19 +132,37 @@ pub(crate) struct DefinedFunction<'a> {
 }
 
 impl<'a> Tells for DefinedFunction<'a> {
-    ghost told = { λ f. AFunction f.ty (body_record f.body) };
+    ghost told = { defined_told };
 
     fn number(&self) -> u8 {
         OF_FUNCTION
     }
 
     fn write_payload(&self, _alloc: Global, to: &mut Vec<u8>) -> result::Result<(), WireError> {
-        to.push(DEFINED)?;
-        write_u32(to, self.ty)?;
-        write_u64(to, self.body.start as u64)?;
-        write_u64(to, self.body.bytes.len() as u64)?;
-        Ok(())
+        put_byte(to, DEFINED)?;
+        put_number(to, u64::from(self.ty))?;
+        put_number(to, self.body.start as u64)?;
+        put_number(to, self.body.bytes.len() as u64)
     }
+}
+
+/// The functions of these bodies and types.
+pub(crate) fn defined_functions<'a>(
+    alloc: Global,
+    bodies: &[RawBody<'a>],
+    types: &[u32],
+) -> result::Result<Vec<DefinedFunction<'a>>, AllocError>
+    ensures { IfOk result (λ all. map defined_told all.items
+        ≡ functions_in (zip (map body_record bodies.now) types.now)) }
+{
+    let mut all = Vec::new(alloc);
+    'functions: for index in 0..bodies.len().min(types.len()) {
+        all.push(DefinedFunction {
+            ty: types[index],
+            body: bodies[index],
+        })?;
+    }
+    Ok(all)
 }
 
 /// Puts the initialiser of a table behind the bytes, where it has one.
@@ -167,7 +184,7 @@ impl Tells for RawTable {
     }
 
     fn write_payload(&self, alloc: Global, to: &mut Vec<u8>) -> result::Result<(), WireError> {
-        to.push(DEFINED)?;
+        put_byte(to, DEFINED)?;
         write_table_type(to, &self.ty)?;
         write_initial(alloc, to, self)
     }
@@ -182,7 +199,7 @@ impl Tells for RawLimits {
     }
 
     fn write_payload(&self, _alloc: Global, to: &mut Vec<u8>) -> result::Result<(), WireError> {
-        to.push(DEFINED)?;
+        put_byte(to, DEFINED)?;
         write_limits(to, self)
     }
 }
@@ -196,8 +213,8 @@ impl Tells for u32 {
     }
 
     fn write_payload(&self, _alloc: Global, to: &mut Vec<u8>) -> result::Result<(), WireError> {
-        to.push(DEFINED)?;
-        Ok(write_u32(to, *self)?)
+        put_byte(to, DEFINED)?;
+        put_number(to, u64::from(*self))
     }
 }
 
@@ -209,7 +226,7 @@ impl Tells for RawGlobal {
     }
 
     fn write_payload(&self, alloc: Global, to: &mut Vec<u8>) -> result::Result<(), WireError> {
-        to.push(DEFINED)?;
+        put_byte(to, DEFINED)?;
         write_global_type(to, &self.ty)?;
         write_sized(alloc, to, &self.initial)
     }
@@ -239,7 +256,7 @@ impl Tells for Start {
     }
 
     fn write_payload(&self, _alloc: Global, to: &mut Vec<u8>) -> result::Result<(), WireError> {
-        Ok(write_u32(to, self.0)?)
+        put_number(to, u64::from(self.0))
     }
 }
 
@@ -254,12 +271,12 @@ fn write_element_mode(
 {
     match mode {
         RawElementMode::Active(table, offset) => {
-            to.push(0)?;
-            write_u32(to, table.unwrap_or(0))?;
+            put_byte(to, 0)?;
+            put_number(to, u64::from(table.unwrap_or(0)))?;
             write_sized(alloc, to, offset)
         }
-        RawElementMode::Passive => Ok(to.push(1)?),
-        RawElementMode::Declared => Ok(to.push(2)?),
+        RawElementMode::Passive => put_byte(to, 1),
+        RawElementMode::Declared => put_byte(to, 2),
     }
 }
 
@@ -274,11 +291,11 @@ fn write_elements(
 {
     match items {
         RawItems::Functions(functions) => {
-            to.push(0)?;
+            put_byte(to, 0)?;
             write_vector(to, functions)
         }
         RawItems::Expressions(ty, expressions) => {
-            to.push(1)?;
+            put_byte(to, 1)?;
             write_reference_type(to, ty)?;
             write_all_sized(alloc, to, expressions)
         }
@@ -309,11 +326,11 @@ fn write_data_mode(
 {
     match mode {
         RawDataMode::Active(memory, offset) => {
-            to.push(0)?;
-            write_u32(to, *memory)?;
+            put_byte(to, 0)?;
+            put_number(to, u64::from(*memory))?;
             write_sized(alloc, to, offset)
         }
-        RawDataMode::Passive => Ok(to.push(1)?),
+        RawDataMode::Passive => put_byte(to, 1),
     }
 }
 
