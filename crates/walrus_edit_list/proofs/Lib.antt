@@ -6,5 +6,4 @@ mod Refusing
 mod SegmentSets
 mod Turns
 mod Counting
-mod Refusing
 pub mod RefusingBodies

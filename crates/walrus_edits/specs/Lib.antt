@@ -4,3 +4,5 @@ pub mod LocalNames
 pub mod TypeRecords
 pub mod ItemSteps
 pub mod Items
+pub mod Edited
+pub mod Ending
