@@ -8,11 +8,28 @@
 mod beside;
 mod bring;
 mod constants;
+mod customs;
+mod data;
 mod edit;
+mod elements;
+mod exports;
 mod front;
 mod functions;
+mod globals;
 mod ids;
+mod imports;
+mod law;
+mod memories;
+mod names;
+pub mod numbers;
+mod producers;
+mod read;
+mod read_names;
+mod read_settings;
+mod start;
 mod types;
 
 pub use beside::Beside;
 pub use edit::{Deletion, Edit, Naming, Replacement};
+pub use law::one_list;
+pub use read::read_edit;

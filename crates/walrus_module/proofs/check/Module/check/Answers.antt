@@ -1,8 +1,9 @@
-use Rattle.std.proofs.Common.{subst}
-use Rattle.std.specs.Prelude.{MatchResult}
-use Rattle.walrus_model.specs.Abstract.{Abstract}
-use Rattle.walrus_module.specs.Check.{PassesCheck, RefusesCheck}
+use Rattle.std.proofs.lemmas.Result.{err_from_is_err_and}
+use Rattle.walrus_module.specs.View.{held_view}
+use Rattle.walrus_module.proofs.Checked.{flaw_refused}
 use Rattle.walrus_module.proofs.check.Module.check.Goals as goal
 
-pub returns : goal.returns
-returns g c = subst (λ (v : Abstract). MatchResult c.check_parts.result (λ _. PassesCheck v) (RefusesCheck v)) c.parts.ensures c.check_parts.ensures
+pub returns-in_err-diagnose : goal.returns-in_err-diagnose
+returns-in_err-diagnose g c =
+    let p = err_from_is_err_and c.from_residual.result c.from_residual.ensures.1 in
+    rw (p.1, p.2) (flaw_refused (held_view c.args.self.now) _ c.in_err-diagnose.ensures)

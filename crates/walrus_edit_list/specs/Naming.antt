@@ -1,0 +1,106 @@
+-- Names that something gets or loses (Appendix > Custom Sections > Name Section).
+use Rattle.std.specs.Prelude.{ℕ, List, Option, Some, None, option_map, slice_set, nat_eq, if◌then◌else◌, ◌≡◌}
+use Rattle.walrus_base.specs.Arena.{IsLive}
+use Rattle.walrus_base.specs.ModuleTypes.{ModuleTypes, type_names, type_slots}
+use Rattle.walrus_base.specs.Operators.{Space, Types, Functions, Tables, Memories, Tags, Globals, Elements, DataSegments}
+use Rattle.walrus_base.specs.TypeDef.{name_bytes}
+use Rattle.walrus_contents.specs.There.{IsRefusal}
+use Rattle.walrus_contents.specs.declared.parts.Contents.{Contents}
+use Rattle.walrus_items.specs.Data.{data_segments}
+use Rattle.walrus_items.specs.Elements.{elements}
+use Rattle.walrus_items.specs.Functions.{functions}
+use Rattle.walrus_items.specs.Globals.{globals}
+use Rattle.walrus_items.specs.Memories.{memories}
+use Rattle.walrus_items.specs.Tables.{tables}
+use Rattle.walrus_items.specs.Tags.{tags}
+use Rattle.walrus_items.specs.declared.error.Error.{Error}
+use Rattle.walrus_edit_list.specs.Edits.{Named, The, TheModule}
+use Rattle.walrus_edit_list.specs.Places.{ChangesAt}
+use Rattle.walrus_edit_list.specs.declared.edit.Naming.{Naming}
+use Rattle.walrus_edit_list.specs.declared.edit.Naming.TheVariants as namings
+use Rattle.walrus_edit_list.specs.declared.numbers.TheConstants.{OF_TYPE, OF_TABLE, OF_MEMORY, OF_GLOBAL, OF_ELEMENT, OF_FUNCTION, OF_DATA, OF_TAG}
+
+-- what a naming in memory names
+abbrev pub named_seen : Naming → Named
+named_seen (namings.Type i n) = The OF_TYPE i
+named_seen (namings.Table i n) = The OF_TABLE i
+named_seen (namings.Memory i n) = The OF_MEMORY i
+named_seen (namings.Global i n) = The OF_GLOBAL i
+named_seen (namings.Element i n) = The OF_ELEMENT i
+named_seen (namings.Function i n) = The OF_FUNCTION i
+named_seen (namings.Data i n) = The OF_DATA i
+named_seen (namings.Tag i n) = The OF_TAG i
+named_seen (namings.Module n) = TheModule
+
+-- the name that it gives, or none
+abbrev pub given_seen : Naming → Option (List ℕ)
+given_seen (namings.Type i n) = option_map (λ x. x.now) n
+given_seen (namings.Table i n) = option_map (λ x. x.now) n
+given_seen (namings.Memory i n) = option_map (λ x. x.now) n
+given_seen (namings.Global i n) = option_map (λ x. x.now) n
+given_seen (namings.Element i n) = option_map (λ x. x.now) n
+given_seen (namings.Function i n) = option_map (λ x. x.now) n
+given_seen (namings.Data i n) = option_map (λ x. x.now) n
+given_seen (namings.Tag i n) = option_map (λ x. x.now) n
+given_seen (namings.Module n) = option_map (λ x. x.now) n
+
+-- the space of what has this number
+abbrev pub space_of : ℕ → Option Space
+space_of what = if nat_eq what OF_TYPE then Some Types
+    else if nat_eq what OF_FUNCTION then Some Functions
+    else if nat_eq what OF_TABLE then Some Tables
+    else if nat_eq what OF_MEMORY then Some Memories
+    else if nat_eq what OF_TAG then Some Tags
+    else if nat_eq what OF_GLOBAL then Some Globals
+    else if nat_eq what OF_ELEMENT then Some Elements
+    else if nat_eq what OF_DATA then Some DataSegments
+    else None
+
+-- the type of this id has this name, or none
+abbrev pub NamesType : ℕ → Option (List ℕ) → (old new : ModuleTypes) → Type 0
+NamesType i n old new =
+    IsLive (type_slots old) i × (type_slots new ≡ type_slots old) × (type_names new ≡ slice_set (type_names old) i (Some n))
+
+-- the item of this id has this name, or none; nothing else changed
+abbrev pub NamesItem : Option Space → ℕ → Option (List ℕ) → (old new : Contents) → Type 0
+NamesItem (Some Types) i n old new = NamesType i n old.types new.types × (new ≡ record old { types = new.types })
+NamesItem (Some Functions) i n old new =
+    ChangesAt i (λ x. record x { name = n }) (functions old.funcs) (functions new.funcs) × (new ≡ record old { funcs = new.funcs })
+NamesItem (Some Tables) i n old new =
+    ChangesAt i (λ x. record x { name = n }) (tables old.tables) (tables new.tables) × (new ≡ record old { tables = new.tables })
+NamesItem (Some Memories) i n old new =
+    ChangesAt i (λ x. record x { name = n }) (memories old.memories) (memories new.memories) × (new ≡ record old { memories = new.memories })
+NamesItem (Some Tags) i n old new =
+    ChangesAt i (λ x. record x { name = n }) (tags old.tags) (tags new.tags) × (new ≡ record old { tags = new.tags })
+NamesItem (Some Globals) i n old new =
+    ChangesAt i (λ x. record x { name = n }) (globals old.globals) (globals new.globals) × (new ≡ record old { globals = new.globals })
+NamesItem (Some Elements) i n old new =
+    ChangesAt i (λ x. record x { name = n }) (elements old.elements) (elements new.elements) × (new ≡ record old { elements = new.elements })
+NamesItem (Some DataSegments) i n old new =
+    ChangesAt i (λ x. record x { name = n }) (data_segments old.data_) (data_segments new.data_) × (new ≡ record old { data_ = new.data_ })
+NamesItem None i n old new = ⊥
+
+-- what is named has this name, or none
+abbrev pub GivesName : Named → Option (List ℕ) → (old new : Contents) → Type 0
+GivesName TheModule n old new = (name_bytes new.name ≡ n) × (new ≡ record old { name = new.name })
+GivesName (The what i) n old new = NamesItem (space_of what) i n old new
+
+-- an item of this id is there
+abbrev pub HasItem : Option Space → ℕ → Contents → Type 0
+HasItem (Some Types) i m = IsLive (type_slots m.types) i
+HasItem (Some Functions) i m = IsLive (functions m.funcs) i
+HasItem (Some Tables) i m = IsLive (tables m.tables) i
+HasItem (Some Memories) i m = IsLive (memories m.memories) i
+HasItem (Some Tags) i m = IsLive (tags m.tags) i
+HasItem (Some Globals) i m = IsLive (globals m.globals) i
+HasItem (Some Elements) i m = IsLive (elements m.elements) i
+HasItem (Some DataSegments) i m = IsLive (data_segments m.data_) i
+HasItem None i m = ⊥
+
+-- what is named isn't there
+abbrev pub LacksNamed : Named → Contents → Type 0
+LacksNamed TheModule m = ⊥
+LacksNamed (The what i) m = HasItem (space_of what) i m → ⊥
+
+abbrev pub RefusesName : Named → Contents → Error → Type 0
+RefusesName named old error = IsRefusal (LacksNamed named old) error

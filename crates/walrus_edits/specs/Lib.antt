@@ -1,0 +1,6 @@
+pub mod ItemRecords
+pub mod ItemSteps
+pub mod ItemValues
+pub mod Items
+pub mod LocalNames
+pub mod TypeRecords

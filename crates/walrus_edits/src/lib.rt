@@ -1,0 +1,15 @@
+//! A module's items as a list, for callers of other languages.
+//!
+//! Read first: `src/items.rt` (the list of a module's items) and `specs/ItemRecords.antt` (what a record tells, and its bytes).
+//! Main clause: `items` of `src/items.rt` promises `AnswersItems`: the records of what the module holds.
+#![tactic(auto)]
+
+mod items;
+mod local_names;
+mod name_records;
+mod producer_records;
+mod records;
+mod section_records;
+mod type_records;
+
+pub use items::items;
