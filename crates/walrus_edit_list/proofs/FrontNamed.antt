@@ -14,6 +14,9 @@ use Rattle.walrus_bodies.specs.Body.{declared_types}
 abbrev pub itself : Lookup
 itself space n = Some n
 
+pub itself_is : (space : Space) (n found : ℕ) → itself space n ≡ Some found → found ≡ n
+itself_is space n found is = cc
+
 heap_itself : (h : HeapType ℕ) → named_heap itself h ≡ Some h
 heap_itself (OfHeap h) = refl
 heap_itself (Concrete t) = refl

@@ -160,7 +160,7 @@ module _ (c : Config) (w : Abstract) (old new : ModuleLocals) (old_types new_typ
       (length-map (range_with_len a n) T ∙ length-range_with_len a n ∙ sym (length-map r.params val_type) ∙ sym (length-map (map val_type r.params) (λ (t : ValType ℕ). Some t)))
       all_typed
 
-  pub formed : IsWellFormed c w ty (body new f)
+  unfoldable pub formed : IsWellFormed c w ty (body new f)
   formed = record {
     function_type = is_type w ty (item_at (type_slots old_types) ty) (stays ty typed) typed;
     distinct = subst (λ (xs : List ℕ). AllPairs (λ (x : ℕ) (y : ℕ). x ≢ y) xs) (sym r.parameters) (range_apart a n);

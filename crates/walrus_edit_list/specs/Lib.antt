@@ -4,9 +4,9 @@ pub mod Constants
 pub mod Customs
 pub mod Data
 pub mod Edits
-pub mod Fine
 pub mod Elements
 pub mod Exports
+pub mod Fine
 pub mod Fronts
 pub mod Functions
 pub mod Globals
