@@ -16,3 +16,7 @@ mod SegmentSets
 mod Turns
 mod Counting
 pub mod RefusingBodies
+pub mod FineItems
+mod FineSlots
+mod Places
+mod Turns
