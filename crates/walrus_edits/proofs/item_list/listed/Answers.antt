@@ -5,7 +5,7 @@ use Rattle.wasm_frames.specs.Record.{sections}
 use Rattle.walrus_contents.specs.View.{lent}
 use Rattle.walrus_edits.specs.LocalNames.{local_told}
 use Rattle.walrus_edits.proofs.ListSteps.{are_told, functions_known, lists, lists_not}
-use Rattle.walrus_edits.proofs.items.listed.Goals as goal
+use Rattle.walrus_edits.proofs.item_list.listed.Goals as goal
 
 pub returns-in_err-tell_module : goal.returns-in_err-tell_module
 returns-in_err-tell_module c =
