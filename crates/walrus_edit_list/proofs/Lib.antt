@@ -4,7 +4,6 @@ mod Found
 mod Numbered
 mod BodiesKept
 mod Counting
-pub mod EditRows
 mod FineFronts
 mod FineFunctions
 mod FrontFormed
@@ -14,9 +13,7 @@ mod ReadFormed
 mod Refusing
 mod SegmentSets
 mod Turns
-mod Counting
 pub mod RefusingBodies
 pub mod FineItems
 mod FineSlots
 mod Places
-mod Turns

@@ -1,5 +1,7 @@
+mod ListSteps
 mod LocalSteps
 mod NameSteps
+mod ReadSteps
 mod RowSteps
 mod TellSteps
 mod TypeSteps

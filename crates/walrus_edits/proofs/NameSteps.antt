@@ -17,3 +17,9 @@ module _ {A : Type 0} (what : ℕ) (name_of : A → Option (List ℕ)) where
 
   pub names_end : (now whole : List Told) (left : List (ℕ × A)) → left ≡ [] → now ++ names_in what name_of left ≡ whole → now ≡ whole
   names_end now whole left is before = sym (append-nil now) ∙ ap (λ es. now ++ names_in what name_of es) (sym is) ∙ before
+
+-- nine kinds of names, one behind another
+pub all_pushed : (n1 n2 n3 n4 n5 n6 n7 n8 n9 a b c d e f g h i : List Told) → n1 ≡ [] ++ a → n2 ≡ n1 ++ b → n3 ≡ n2 ++ c → n4 ≡ n3 ++ d → n5 ≡ n4 ++ e → n6 ≡ n5 ++ f → n7 ≡ n6 ++ g → n8 ≡ n7 ++ h
+    → n9 ≡ n8 ++ i → n9 ≡ a ++ b ++ c ++ d ++ e ++ f ++ g ++ h ++ i
+all_pushed n1 n2 n3 n4 n5 n6 n7 n8 n9 a b c d e f g h i p1 p2 p3 p4 p5 p6 p7 p8 p9 =
+    p9 ∙ ap (λ l. l ++ i) (p8 ∙ ap (λ l. l ++ h) (p7 ∙ ap (λ l. l ++ g) (p6 ∙ ap (λ l. l ++ f) (p5 ∙ ap (λ l. l ++ e) (p4 ∙ ap (λ l. l ++ d) (p3 ∙ ap (λ l. l ++ c) (p2 ∙ ap (λ l. l ++ b) p1)))))))

@@ -4,7 +4,7 @@ use Rattle.std.specs.Global.{Vec}
 use Rattle.walrus_contents.specs.declared.parts.Contents.{Contents}
 use Rattle.wasm_entries.specs.Record.{Group}
 use Rattle.wasm_forms.specs.Spelling.{row_bytes}
-use Rattle.wasm_forms.specs.Writing.{EachFits}
+use Rattle.wasm_forms.specs.Writing.{Adds, EachFits}
 use Rattle.wasm_forms.specs.declared.error.WireError.{WireError}
 use Rattle.wasm_forms.specs.declared.error.WireError.TheVariants.{Malformed, Memory, TooLarge}
 use Rattle.wasm_frames.specs.Record as wire
@@ -30,6 +30,10 @@ producer_told p = AProducer p.field.now p.name.now p.version.now
 abbrev pub custom_told : CustomWithId → Told
 custom_told c = ACustom c.id (custom_record c.custom)
 
+-- all of this is told behind what was there, and each record fits; only what does not fit is too large
+abbrev pub PutsAll : {X : Type 0} → Result X WireError → (old new : List ℕ) → List Told → Type 0
+PutsAll result old new told = Adds result old new (row_bytes told_bytes told) (EachFits ToldFits told)
+
 -- the records of these parts, one part behind another
 abbrev pub rows : List (List Told) → List ℕ
 rows [] = []
@@ -39,6 +43,10 @@ rows (part ∷ parts) = row_bytes told_bytes part ++ rows parts
 abbrev pub RowsFit : List (List Told) → Type 0
 RowsFit [] = Unit {0}
 RowsFit (part ∷ parts) = EachFits ToldFits part × RowsFit parts
+
+-- the same of parts
+abbrev pub PutsParts : {X : Type 0} → Result X WireError → (old new : List ℕ) → List (List Told) → Type 0
+PutsParts result old new parts = Adds result old new (rows parts) (RowsFit parts)
 
 -- the list of what is told of these; refused: a count, a size or a limit in it passes 32 bits, or memory ran out
 abbrev pub ListsItems : wire.Module → List Group → Contents → Result (Vec ℕ) WireError → Type 0

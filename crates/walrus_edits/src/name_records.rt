@@ -1,15 +1,12 @@
 //! What is told of the names of items.
 
 ghost use Rattle.std.specs.Prelude.{List, Option, ℕ, ◌≡◌, ◌++◌, IfOk, OnOk, map};
-ghost use Rattle.wasm_forms.specs.Spelling.{row_bytes};
-ghost use Rattle.wasm_forms.specs.Writing.{Adds, EachFits};
 ghost use Rattle.walrus_base.specs.Arena.{entries, live_places};
 ghost use Rattle.walrus_base.specs.ModuleTypes.{type_names, type_slots};
 ghost use Rattle.walrus_items.specs.Held.{held};
 ghost use Rattle.walrus_items.specs.Seen.{text_of};
 ghost use Rattle.walrus_contents.specs.View.{lent};
-ghost use Rattle.walrus_edits.specs.ItemRecords.{ToldFits, told_bytes};
-ghost use Rattle.walrus_edits.specs.ItemSteps.{IsNameOf, name_told};
+ghost use Rattle.walrus_edits.specs.ItemSteps.{IsNameOf, PutsAll, name_told};
 ghost use Rattle.walrus_edits.specs.ItemValues.{all_names, named, names_in, type_names_in};
 
 use crate::records::{Tells, put_byte, put_number, tell_all};
@@ -187,8 +184,7 @@ pub(crate) fn tell_names(
     to: &mut Vec<u8>,
     parts: Parts<'_>,
 ) -> result::Result<(), WireError>
-    ensures { Adds result to.old.items to.new.items (row_bytes told_bytes (all_names (lent parts.entry)))
-        (EachFits ToldFits (all_names (lent parts.entry))) }
+    ensures { PutsAll result to.old.items to.new.items (all_names (lent parts.entry)) }
 {
     let names = names_of(alloc, parts)?;
     tell_all(alloc, to, &names)

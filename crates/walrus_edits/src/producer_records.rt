@@ -1,13 +1,10 @@
 //! What is told of producers and of custom sections.
 
 ghost use Rattle.std.specs.Prelude.{◌≡◌, ◌++◌, IfOk, OnOk, map, not};
-ghost use Rattle.wasm_forms.specs.Spelling.{row_bytes};
-ghost use Rattle.wasm_forms.specs.Writing.{Adds, EachFits};
 ghost use Rattle.wasm_frames.specs.Record.{custom_record};
 ghost use Rattle.walrus_model.specs.Sections.{is_apart};
 ghost use Rattle.walrus_producers.specs.Seen.{fields_seen, values_seen};
-ghost use Rattle.walrus_edits.specs.ItemRecords.{ToldFits, told_bytes};
-ghost use Rattle.walrus_edits.specs.ItemSteps.{custom_told, producer_told};
+ghost use Rattle.walrus_edits.specs.ItemSteps.{PutsAll, custom_told, producer_told};
 ghost use Rattle.walrus_edits.specs.ItemValues.{customs_from, producers_in, producers_of, with_ids};
 
 use crate::records::{Tells, put_number, tell_all};
@@ -80,8 +77,7 @@ pub(crate) fn tell_producers(
     to: &mut Vec<u8>,
     fields: &[ProducerField],
 ) -> result::Result<(), WireError>
-    ensures { Adds result to.old.items to.new.items (row_bytes told_bytes (producers_in (fields_seen fields.now)))
-        (EachFits ToldFits (producers_in (fields_seen fields.now))) }
+    ensures { PutsAll result to.old.items to.new.items (producers_in (fields_seen fields.now)) }
 {
     let all = producers_of_fields(alloc, fields)?;
     tell_all(alloc, to, &all)
@@ -143,9 +139,8 @@ pub(crate) fn tell_customs(
     to: &mut Vec<u8>,
     customs: &[RawCustom<'_>],
 ) -> result::Result<(), WireError>
-    ensures { Adds result to.old.items to.new.items
-        (row_bytes told_bytes (customs_from 0 (with_ids (map custom_record customs.now))))
-        (EachFits ToldFits (customs_from 0 (with_ids (map custom_record customs.now)))) }
+    ensures { PutsAll result to.old.items to.new.items
+        (customs_from 0 (with_ids (map custom_record customs.now))) }
 {
     let kept = numbered(alloc, customs)?;
     tell_all(alloc, to, &kept)

@@ -1,8 +1,9 @@
 //! Records that tell of items: a byte, a size and so many bytes. docs/FORMATS.md has their forms.
 
 ghost use Rattle.std.specs.Prelude.{◌≡◌, ◌∷◌, [], map};
-ghost use Rattle.wasm_forms.specs.Spelling.{block_bytes, number_bytes, row_bytes};
-ghost use Rattle.wasm_forms.specs.Writing.{Adds, EachFits, FitsLength};
+ghost use Rattle.wasm_forms.specs.Spelling.{block_bytes, number_bytes};
+ghost use Rattle.wasm_forms.specs.Writing.{Adds, FitsLength};
+ghost use Rattle.walrus_edits.specs.ItemSteps.{PutsAll};
 ghost use Rattle.walrus_edits.specs.ItemRecords.{PayloadFits, Told, ToldFits, number_of, payload, told_bytes};
 
 use std::alloc::Global;
@@ -56,7 +57,8 @@ pub(crate) fn write_told<T: Tells>(
     to: &mut Vec<u8>,
     item: &T,
 ) -> result::Result<(), WireError>
-    ensures { Adds result to.old.items to.new.items (told_bytes (T.told item.now)) (ToldFits (T.told item.now)) }
+    ensures { Adds result to.old.items to.new.items (told_bytes (T.told item.now))
+        (ToldFits (T.told item.now)) }
 {
     let mut held = Vec::new(alloc);
     item.write_payload(alloc, &mut held)?;
@@ -69,8 +71,7 @@ pub(crate) fn tell<T: Tells>(
     to: &mut Vec<u8>,
     item: &T,
 ) -> result::Result<(), WireError>
-    ensures { Adds result to.old.items to.new.items (row_bytes told_bytes (T.told item.now ∷ []))
-        (EachFits ToldFits (T.told item.now ∷ [])) }
+    ensures { PutsAll result to.old.items to.new.items (T.told item.now ∷ []) }
 {
     write_told(alloc, to, item)
 }
@@ -81,8 +82,7 @@ pub(crate) fn tell_all<T: Tells>(
     to: &mut Vec<u8>,
     all: &[T],
 ) -> result::Result<(), WireError>
-    ensures { Adds result to.old.items to.new.items (row_bytes told_bytes (map T.told all.now))
-        (EachFits ToldFits (map T.told all.now)) }
+    ensures { PutsAll result to.old.items to.new.items (map T.told all.now) }
 {
     'items: for item in all {
         tell(alloc, to, item)?;

@@ -1,16 +1,14 @@
 //! The items of a module, as a list of records for callers of other languages.
 
 ghost use Rattle.std.specs.Prelude.{◌≡◌, filter, flat_map, length, map, option_to_list, zip};
-ghost use Rattle.wasm_forms.specs.Spelling.{row_bytes};
-ghost use Rattle.wasm_forms.specs.Writing.{Adds, EachFits};
 ghost use Rattle.wasm_entries.specs.Record.{group, import_entry};
 ghost use Rattle.wasm_frames.specs.Record.{body_record, sections};
 ghost use Rattle.walrus_contents.specs.View.{lent};
 ghost use Rattle.walrus_module.specs.View.{contents_of};
 ghost use Rattle.walrus.specs.Wanted.{config_wanted};
-ghost use Rattle.walrus_edits.specs.ItemRecords.{TheStart, ToldFits, told_bytes};
+ghost use Rattle.walrus_edits.specs.ItemRecords.{TheStart};
 ghost use Rattle.walrus_edits.specs.ItemValues.{brings_function, functions_in, section_parts, told_parts, with_brought};
-ghost use Rattle.walrus_edits.specs.ItemSteps.{ListsItems, RowsFit, rows};
+ghost use Rattle.walrus_edits.specs.ItemSteps.{ListsItems, PutsAll, PutsParts};
 ghost use Rattle.walrus_edits.specs.LocalNames.{local_told};
 ghost use Rattle.walrus_edits.specs.Items.{AnswersItems};
 
@@ -34,9 +32,7 @@ fn tell_import(
     to: &mut Vec<u8>,
     import: &RawImport<'_>,
 ) -> result::Result<(), WireError>
-    ensures { Adds result to.old.items to.new.items
-        (row_bytes told_bytes (with_brought (import_entry «import».now)))
-        (EachFits ToldFits (with_brought (import_entry «import».now))) }
+    ensures { PutsAll result to.old.items to.new.items (with_brought (import_entry «import».now)) }
 {
     write_told(alloc, to, import)?;
     write_told(alloc, to, &import.desc())
@@ -48,9 +44,8 @@ fn tell_imports(
     to: &mut Vec<u8>,
     imports: &[RawImport<'_>],
 ) -> result::Result<(), WireError>
-    ensures { Adds result to.old.items to.new.items
-        (row_bytes told_bytes (flat_map with_brought (map import_entry imports.now)))
-        (EachFits ToldFits (flat_map with_brought (map import_entry imports.now))) }
+    ensures { PutsAll result to.old.items to.new.items
+        (flat_map with_brought (map import_entry imports.now)) }
 {
     'imports: for import in imports {
         tell_import(alloc, to, import)?;
@@ -65,9 +60,8 @@ fn tell_functions(
     bodies: &[RawBody<'_>],
     types: &[u32],
 ) -> result::Result<(), WireError>
-    ensures { Adds result to.old.items to.new.items
-        (row_bytes told_bytes (functions_in (zip (map body_record bodies.now) types.now)))
-        (EachFits ToldFits (functions_in (zip (map body_record bodies.now) types.now))) }
+    ensures { PutsAll result to.old.items to.new.items
+        (functions_in (zip (map body_record bodies.now) types.now)) }
 {
     let all = defined_functions(alloc, bodies, types)?;
     tell_all(alloc, to, &all)
@@ -75,8 +69,7 @@ fn tell_functions(
 
 /// Tells the start function, if there is one.
 fn tell_start(alloc: Global, to: &mut Vec<u8>, start: Option<u32>) -> result::Result<(), WireError>
-    ensures { Adds result to.old.items to.new.items (row_bytes told_bytes (map TheStart (option_to_list start)))
-        (EachFits ToldFits (map TheStart (option_to_list start))) }
+    ensures { PutsAll result to.old.items to.new.items (map TheStart (option_to_list start)) }
 {
     match start {
         Some(function) => tell(alloc, to, &Start(function)),
@@ -86,8 +79,7 @@ fn tell_start(alloc: Global, to: &mut Vec<u8>, start: Option<u32>) -> result::Re
 
 /// Tells what sections hold but types and custom sections, part by part.
 fn tell_parts(alloc: Global, to: &mut Vec<u8>, raw: &Raw<'_>) -> result::Result<(), WireError>
-    ensures { Adds result to.old.items to.new.items (rows (section_parts (sections raw.now)))
-        (RowsFit (section_parts (sections raw.now))) }
+    ensures { PutsParts result to.old.items to.new.items (section_parts (sections raw.now)) }
 {
     tell_imports(alloc, to, &raw.imports)?;
     tell_functions(alloc, to, &raw.bodies, &raw.functions)?;
@@ -133,10 +125,8 @@ fn tell_module(
     parts: Parts<'_>,
     locals: &[NameOfLocal],
 ) -> result::Result<(), WireError>
-    ensures { Adds result to.old.items to.new.items
-        (rows (told_parts (sections raw.now) (map group groups.now) (lent parts.entry) (map local_told locals.now)))
-        (RowsFit (told_parts (sections raw.now) (map group groups.now) (lent parts.entry)
-        (map local_told locals.now))) }
+    ensures { PutsParts result to.old.items to.new.items (told_parts (sections raw.now)
+        (map group groups.now) (lent parts.entry) (map local_told locals.now)) }
 {
     tell_all(alloc, to, groups)?;
     tell_parts(alloc, to, raw)?;
