@@ -17,3 +17,6 @@ pub mod RefusingBodies
 pub mod FineItems
 mod FineSlots
 mod Places
+mod Folding
+mod Keeping
+mod TagsKept

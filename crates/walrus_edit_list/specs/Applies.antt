@@ -5,6 +5,7 @@ use Rattle.walrus_bodies.specs.declared.features.Features.{Features}
 use Rattle.walrus_items.specs.declared.error.Error.{Error}
 use Rattle.walrus_items.specs.declared.error.Error.TheVariants.{Memory}
 use Rattle.walrus_model.specs.Config.{Config}
+use Rattle.walrus_theorem.specs.Features.{features_of}
 use Rattle.walrus_edit_list.specs.Edits.{AreEdits, Said, edit_at}
 use Rattle.walrus_edit_list.specs.Fine.{IsFine}
 use Rattle.walrus_edit_list.specs.Held.{Held}
@@ -54,4 +55,4 @@ module _ (f : Features) where
 
 -- from edit to edit bodies stay well formed, and the names of custom sections free
 abbrev pub EditsKeepFine : Type 0
-EditsKeepFine = (f : Features) (c : Config) (es : List Said) (old new : Held) → EditsBy f es old new → IsFine c old → IsFine c new
+EditsKeepFine = (c : Config) (es : List Said) (old new : Held) → EditsBy (features_of c) es old new → IsFine c old → IsFine c new
