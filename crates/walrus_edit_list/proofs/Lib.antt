@@ -1,3 +1,4 @@
+mod Exporting
 pub mod FineItems
 mod FineSlots
 mod Places

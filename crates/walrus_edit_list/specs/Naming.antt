@@ -1,5 +1,6 @@
 -- Names that something gets or loses (Appendix > Custom Sections > Name Section).
 use Rattle.std.specs.Prelude.{ℕ, List, Option, Some, None, option_map, slice_set, nat_eq, if◌then◌else◌, ◌≡◌}
+use Rattle.std.specs.Borrow.{Bor}
 use Rattle.walrus_base.specs.Arena.{IsLive}
 use Rattle.walrus_base.specs.ModuleTypes.{type_names, type_slots}
 use Rattle.walrus_base.specs.Operators.{Space, Types, Functions, Tables, Memories, Tags, Globals, Elements, DataSegments}
@@ -33,17 +34,21 @@ named_seen (namings.Data i n) = The OF_DATA i
 named_seen (namings.Tag i n) = The OF_TAG i
 named_seen (namings.Module n) = TheModule
 
+-- a name that is lent, as its bytes, or none
+abbrev pub name_given : Option (Bor (List ℕ)) → Option (List ℕ)
+name_given n = option_map (λ x. x.now) n
+
 -- the name that it gives, or none
 abbrev pub given_seen : Naming → Option (List ℕ)
-given_seen (namings.Type i n) = option_map (λ x. x.now) n
-given_seen (namings.Table i n) = option_map (λ x. x.now) n
-given_seen (namings.Memory i n) = option_map (λ x. x.now) n
-given_seen (namings.Global i n) = option_map (λ x. x.now) n
-given_seen (namings.Element i n) = option_map (λ x. x.now) n
-given_seen (namings.Function i n) = option_map (λ x. x.now) n
-given_seen (namings.Data i n) = option_map (λ x. x.now) n
-given_seen (namings.Tag i n) = option_map (λ x. x.now) n
-given_seen (namings.Module n) = option_map (λ x. x.now) n
+given_seen (namings.Type i n) = name_given n
+given_seen (namings.Table i n) = name_given n
+given_seen (namings.Memory i n) = name_given n
+given_seen (namings.Global i n) = name_given n
+given_seen (namings.Element i n) = name_given n
+given_seen (namings.Function i n) = name_given n
+given_seen (namings.Data i n) = name_given n
+given_seen (namings.Tag i n) = name_given n
+given_seen (namings.Module n) = name_given n
 
 -- the space of what has this number
 abbrev pub space_of : ℕ → Option Space
