@@ -14,6 +14,7 @@ mod Refusing
 mod SegmentSets
 mod Turns
 pub mod RefusingBodies
+mod Exporting
 pub mod FineItems
 mod FineSlots
 mod Places

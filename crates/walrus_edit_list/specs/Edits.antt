@@ -1,5 +1,6 @@
 -- What edits say, and which bytes say them: records of a byte, a size and so many bytes.
 use Rattle.std.specs.Prelude.{◌≡◌, ℕ, List, [], ◌∷◌, Bool, Option, Some, None, option_map, nat_eq, if◌then◌else◌, ◌||◌}
+use Rattle.std.specs.Borrow.{Bor}
 use Rattle.wasm_forms.specs.Grammar.{Block, Byte, Form, Is, IsRow, U32, at, name, ◌then◌}
 use Rattle.wasm_forms.specs.Reading.{◌>>=◌}
 use Rattle.wasm_entries.specs.Forms.{data_form, export_form, global_form}
@@ -76,17 +77,21 @@ named_seen (names.Data i n) = The OF_DATA i
 named_seen (names.Tag i n) = The OF_TAG i
 named_seen (names.Module n) = TheModule
 
+-- a name that is lent, as its bytes, or none
+abbrev pub name_given : Option (Bor (List ℕ)) → Option (List ℕ)
+name_given n = option_map (λ x. x.now) n
+
 -- the name that it gives, or none
 abbrev pub given_seen : Naming → Option (List ℕ)
-given_seen (names.Type i n) = option_map (λ x. x.now) n
-given_seen (names.Table i n) = option_map (λ x. x.now) n
-given_seen (names.Memory i n) = option_map (λ x. x.now) n
-given_seen (names.Global i n) = option_map (λ x. x.now) n
-given_seen (names.Element i n) = option_map (λ x. x.now) n
-given_seen (names.Function i n) = option_map (λ x. x.now) n
-given_seen (names.Data i n) = option_map (λ x. x.now) n
-given_seen (names.Tag i n) = option_map (λ x. x.now) n
-given_seen (names.Module n) = option_map (λ x. x.now) n
+given_seen (names.Type i n) = name_given n
+given_seen (names.Table i n) = name_given n
+given_seen (names.Memory i n) = name_given n
+given_seen (names.Global i n) = name_given n
+given_seen (names.Element i n) = name_given n
+given_seen (names.Function i n) = name_given n
+given_seen (names.Data i n) = name_given n
+given_seen (names.Tag i n) = name_given n
+given_seen (names.Module n) = name_given n
 
 abbrev pub naming_seen : Naming → Said
 naming_seen naming = Names (named_seen naming) (given_seen naming)

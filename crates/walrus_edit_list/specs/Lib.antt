@@ -23,3 +23,4 @@ pub mod SegmentSets
 pub mod Start
 pub mod Turns
 pub mod Types
+pub mod Formed
