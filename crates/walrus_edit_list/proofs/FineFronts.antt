@@ -36,19 +36,21 @@ module _ (c : Config) (old : Contents) (bytes : List ℕ) where
       let args : args_of made ≡ args_of own = s.others.head.args in
       let last = split_last s.read s.front.nested in
       let read = body_reads (is_function_at old.types) (features_of c) (args_of own) h.further h.text h.types (body_of own) h.names in_place h.read (ids_of old) (ids_in_place old) _ (but_last s.read) last.0
-          (subst (λ (ops : List Op). OperatorsRead (context (ids_of old) (is_function_at old.types) (record (features_of c) { legacy_exceptions = false })) (slice_get (args_of own)) _ ops) last.1 s.front) in
-      (record {
-        function_type = h.function_type;
-        distinct = subst (λ (xs : List ℕ). AllPairs (λ (x : ℕ) (y : ℕ). x ≢ y) xs) (sym args) h.distinct;
-        typed = ap (map (body old.locals own).local_type) args ∙ h.typed;
-        names = itself;
-        further = h.further;
-        types = h.types;
-        further_typed = h.further_typed;
-        text = read.0;
-        read = subst (λ (xs : List ℕ). BodyReads (context itself (is_function_at old.types) (features_of c)) (slice_get (xs ++ h.further)) read.0 h.types (body_of made)) (sym args)
-            (subst (λ (ops : List Op). BodyReads (context itself (is_function_at old.types) (features_of c)) (slice_get (args_of own ++ h.further)) read.0 h.types ops) (sym s.operators) read.1);
-      }, itself_is)
+      (subst (λ (ops : List Op). OperatorsRead (context (ids_of old) (is_function_at old.types) (record (features_of c) { legacy_exceptions = false })) (slice_get (args_of own)) _ ops) last.1 s.front) in (
+        record {
+          function_type = h.function_type;
+          distinct = subst (λ (xs : List ℕ). AllPairs (λ (x : ℕ) (y : ℕ). x ≢ y) xs) (sym args) h.distinct;
+          typed = ap (map (body old.locals own).local_type) args ∙ h.typed;
+          names = itself;
+          further = h.further;
+          types = h.types;
+          further_typed = h.further_typed;
+          text = read.0;
+          read = subst (λ (xs : List ℕ). BodyReads (context itself (is_function_at old.types) (features_of c)) (slice_get (xs ++ h.further)) read.0 h.types (body_of made)) (sym args)
+              (subst (λ (ops : List Op). BodyReads (context itself (is_function_at old.types) (features_of c)) (slice_get (args_of own ++ h.further)) read.0 h.types ops) (sym s.operators) read.1);
+        },
+        itself_is,
+      )
 
   -- of a function of this kind it is said then
   of_kind : (was now : FunctionKind) → FrontsKind (ids_of old) old.types (features_of c) bytes was now → ((own : LocalFunction) → was ≡ kinds.Local own → IsFormed c v (place (function_type own)) (body old.locals own))

@@ -76,26 +76,28 @@ module _ (p : ℕ → Bool) (f : Features) (few further : List ℕ) (text : List
   body_reads =
       let texts = ops_but_last ids (slice_get few) op_of r.texts front last r.named in
       let row = row_front _ bytes r.texts texts.0 texts.1.0 r.spelled texts.1.1 in
-      let o = h.operators in
-      (h.front ++ (row.0 ++ h.back), record {
-        front = h.front;
-        back = row.0 ++ h.back;
-        parts = refl;
-        declared = h.declared;
-        declares = h.declares;
-        typed = types_grow names in_place h.declared types h.typed;
-        operators = record {
-          texts = texts.0 ++ o.texts;
-          spelled = row_append _ row.0 h.back texts.0 o.texts row.1 o.spelled;
-          named = ap (named_ops itself all) (map-append op_of texts.0 o.texts)
-              ∙ ops_append itself all (map op_of texts.0) (map op_of o.texts) front own
-              (ops_grow ids ids_in_place (slice_get few) all (λ n found is. get_front few further n found is) (map op_of texts.0) front texts.1.2)
-              (ops_grow names in_place all all (λ n found is. is) (map op_of o.texts) own o.named);
-          nested = front_nests front last own r.nested o.nested;
-          allowed = all_both (λ (x : Op). is_allowed f x.op) front own (all_allowed f front (all_front (λ (x : Op). is_allowed (record f { legacy_exceptions = false }) x.op) front (last ∷ []) r.allowed)) o.allowed;
-          blocks = all_both (λ (x : Op). args_hold p x.args) front own (all_front (λ (x : Op). args_hold p x.args) front (last ∷ []) r.blocks) o.blocks;
-        };
-      })
+      let o = h.operators in (
+        h.front ++ (row.0 ++ h.back),
+        record {
+          front = h.front;
+          back = row.0 ++ h.back;
+          parts = refl;
+          declared = h.declared;
+          declares = h.declares;
+          typed = types_grow names in_place h.declared types h.typed;
+          operators = record {
+            texts = texts.0 ++ o.texts;
+            spelled = row_append _ row.0 h.back texts.0 o.texts row.1 o.spelled;
+            named = ap (named_ops itself all) (map-append op_of texts.0 o.texts)
+                ∙ ops_append itself all (map op_of texts.0) (map op_of o.texts) front own
+                (ops_grow ids ids_in_place (slice_get few) all (λ n found is. get_front few further n found is) (map op_of texts.0) front texts.1.2)
+                (ops_grow names in_place all all (λ n found is. is) (map op_of o.texts) own o.named);
+            nested = front_nests front last own r.nested o.nested;
+            allowed = all_both (λ (x : Op). is_allowed f x.op) front own (all_allowed f front (all_front (λ (x : Op). is_allowed (record f { legacy_exceptions = false }) x.op) front (last ∷ []) r.allowed)) o.allowed;
+            blocks = all_both (λ (x : Op). args_hold p x.args) front own (all_front (λ (x : Op). args_hold p x.args) front (last ∷ []) r.blocks) o.blocks;
+          };
+        },
+      )
 
 -- ---- all but the last one
 

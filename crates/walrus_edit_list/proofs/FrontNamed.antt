@@ -113,8 +113,13 @@ module _ (names : Lookup) (locals : ℕ → Option ℕ) where
       let whole : one.0 ∷ more.0 ≡ f ∷ (front ++ last ∷ []) = some_same _ _ more.2 in
       let head : one.0 ≡ f = cc in
       let tail : more.0 ≡ front ++ last ∷ [] = cc in
-      let others = ops_but_last view texts front last (more.1 ∙ ap (λ (xs : List Op). Some xs) tail) in
-      (t ∷ others.0, (others.1.0, ap (λ xs. t ∷ xs) others.1.1,
-      bind_at (named_op names locals (view t)) (λ (y : Op). named_ops names locals (map view others.0) >>= λ (ys : List Op). Some (y ∷ ys)) one.0 one.1
-      ∙ bind_at (named_ops names locals (map view others.0)) (λ (ys : List Op). Some (one.0 ∷ ys)) front others.1.2
-      ∙ ap (λ (o : Op). Some (o ∷ front)) head))
+      let others = ops_but_last view texts front last (more.1 ∙ ap (λ (xs : List Op). Some xs) tail) in (
+        t ∷ others.0,
+        (
+          others.1.0,
+          ap (λ xs. t ∷ xs) others.1.1,
+          bind_at (named_op names locals (view t)) (λ (y : Op). named_ops names locals (map view others.0) >>= λ (ys : List Op). Some (y ∷ ys)) one.0 one.1
+              ∙ bind_at (named_ops names locals (map view others.0)) (λ (ys : List Op). Some (one.0 ∷ ys)) front others.1.2
+              ∙ ap (λ (o : Op). Some (o ∷ front)) head,
+        ),
+      )

@@ -1,6 +1,5 @@
 mod BodiesKept
 mod Counting
-pub mod EditRows
 mod FineFronts
 mod FineFunctions
 mod FrontFormed
@@ -8,3 +7,5 @@ mod FrontNamed
 mod FrontNests
 mod ReadFormed
 mod Refusing
+mod Turns
+pub mod EditRows

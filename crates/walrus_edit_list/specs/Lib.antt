@@ -6,6 +6,7 @@ pub mod Edits
 pub mod Elements
 pub mod Exports
 pub mod Fine
+pub mod Formed
 pub mod Fronts
 pub mod Functions
 pub mod Globals

@@ -31,5 +31,5 @@ mod types;
 
 pub use beside::Beside;
 pub use edit::{Deletion, Edit, Naming, Replacement};
-pub use law::one_list;
+pub use law::{bodies_read_are_formed, one_list, sets_stay_formed};
 pub use read::read_edit;
