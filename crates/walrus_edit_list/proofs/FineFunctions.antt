@@ -38,7 +38,7 @@ use Rattle.walrus_edit_list.specs.Held.{Held}
 use Rattle.walrus_edit_list.specs.Ids.{given, ids_of, tag_types}
 use Rattle.walrus_edit_list.specs.Types.{AddsTypes}
 use Rattle.walrus_edit_list.proofs.BodiesKept.{Said, added_kept, all_kept, said_of, set_kept}
-use Rattle.walrus_edit_list.proofs.ReadFormed.{formed, reads_grow}
+use Rattle.walrus_edit_list.proofs.ReadFormed.{formed_by, reads_grow}
 
 pub local_is : (l made : LocalFunction) → kinds.Local made ≡ kinds.Local l → made ≡ l
 local_is l made same = cc
@@ -112,8 +112,7 @@ module _ (c : Config) (ty : ℕ) (code : List ℕ) (old new : Contents) (made : 
   locals_stay = (new_locals r.read.ids (r.read.params ++ r.read.declared), r.read.added.added)
 
   pub read_formed : IsFormed c (contents_view new) ty (body new.locals made)
-  unfolding formed
-  read_formed = (formed c (contents_view new) old.locals new.locals old.types new.types (ids_of old) (tag_types old.tags) ty code made r.types_stay (λ t. refl) r.typed r.read, ids_in_place old)
+  read_formed = formed_by c (contents_view new) old.locals new.locals old.types new.types (ids_of old) (tag_types old.tags) ty code made r.types_stay (λ t. refl) r.typed r.read (ids_in_place old)
 
   -- of a function with this body it is said
   pub body_formed : (g : FunctionValue) → g.kind ≡ kinds.Local made → Said (IsFormed c (contents_view new)) new.locals (Some g)
