@@ -126,24 +126,27 @@ module _ (c : Config) (v : Abstract) (ty : ℕ) (ps : List (ValType ℕ)) (said 
 
   body_formed : b.operators ≡ map (moved_op l) said.1 → params_of (v.types ty) ≡ ps → IsFunctionType v ty → (names : Lookup) → ((space : Space) (n id : ℕ) → names space n ≡ Some id → id ≡ n) → (text : List ℕ)
       → BodyReads (context names (λ t. is_function_def (v.types t)) (features_of c)) (locals_from 0 (length ps + length said.0)) text said.0 said.1 → IsFormed c v ty b
-  body_formed ops params function names own text read = (record {
-    function_type = function;
-    distinct = subst (AllPairs (λ (x : ℕ) (y : ℕ). x ≢ y)) (sym whole.parameters) distinct;
-    typed =
-        ap (map b.local_type) whole.parameters
-        ∙ map-map b.local_type l (range_with_len 0 (length ps))
-        ∙ sym (typed_range (λ x. b.local_type (l x)) (ps ++ said.0) whole.types 0 ps (λ k y e. let z : k ≡ 0 + k = omega arith in ap (slice_get (ps ++ said.0)) (sym z) ∙ slice_get-front ps said.0 k y e))
-        ∙ ap (λ (xs : List (ValType ℕ)). map (λ x. Some x) xs) (sym params);
-    names = names;
-    further = further;
-    types = said.0;
-    further_typed =
-        typed_range (λ x. b.local_type (l x)) (ps ++ said.0) whole.types (length ps) said.0 (λ k y e. behind ps said.0 k (length ps + k) refl ∙ e)
-        ∙ sym (map-map b.local_type l (range_with_len (length ps) (length said.0)));
-    text = text;
-    read = subst (BodyReads (context names (λ t. is_function_def (v.types t)) (features_of c)) (slice_get (b.parameters ++ further)) text said.0) (sym ops)
-        (moved_reads (context names (λ t. is_function_def (v.types t)) (features_of c)) l (locals_from 0 (length ps + length said.0)) (slice_get (b.parameters ++ further)) found text said.0 said.1 read);
-  }, own)
+  body_formed ops params function names own text read = (
+    record {
+      function_type = function;
+      distinct = subst (AllPairs (λ (x : ℕ) (y : ℕ). x ≢ y)) (sym whole.parameters) distinct;
+      typed =
+          ap (map b.local_type) whole.parameters
+          ∙ map-map b.local_type l (range_with_len 0 (length ps))
+          ∙ sym (typed_range (λ x. b.local_type (l x)) (ps ++ said.0) whole.types 0 ps (λ k y e. let z : k ≡ 0 + k = omega arith in ap (slice_get (ps ++ said.0)) (sym z) ∙ slice_get-front ps said.0 k y e))
+          ∙ ap (λ (xs : List (ValType ℕ)). map (λ x. Some x) xs) (sym params);
+      names = names;
+      further = further;
+      types = said.0;
+      further_typed =
+          typed_range (λ x. b.local_type (l x)) (ps ++ said.0) whole.types (length ps) said.0 (λ k y e. behind ps said.0 k (length ps + k) refl ∙ e)
+          ∙ sym (map-map b.local_type l (range_with_len (length ps) (length said.0)));
+      text = text;
+      read = subst (BodyReads (context names (λ t. is_function_def (v.types t)) (features_of c)) (slice_get (b.parameters ++ further)) text said.0) (sym ops)
+          (moved_reads (context names (λ t. is_function_def (v.types t)) (features_of c)) l (locals_from 0 (length ps + length said.0)) (slice_get (b.parameters ++ further)) found text said.0 said.1 read);
+    },
+    own,
+  )
 
 -- ---- all bodies
 
