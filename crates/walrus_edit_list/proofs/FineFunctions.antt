@@ -105,6 +105,14 @@ below_is n found false is = absurd (cc)
 pub ids_in_place : (m : Contents) (space : Space) (n found : ℕ) → ids_of m space n ≡ Some found → found ≡ n
 ids_in_place m space n found is = below_is n found (nat_lt n (given m space)) is
 
+-- bodies are formed still, where types, functions and locals are what they were
+pub same_formed : (c : Config) (a b : Contents) → b.types ≡ a.types → b.funcs ≡ a.funcs → b.locals ≡ a.locals → AreFormed c (contents_view a) → AreFormed c (contents_view b)
+same_formed c a b types funcs all was =
+    subst (λ slots. (i : ℕ) → Said (IsFormed c (contents_view b)) b.locals (item_at slots i)) (sym (ap functions funcs))
+    (all_kept (IsFormed c (contents_view a)) (IsFormed c (contents_view b)) a.locals b.locals
+    (still_formed c a b ([], ap type_slots types ∙ sym (append-nil (type_slots a.types))) ([], ap locals all ∙ sym (append-nil (locals a.locals))))
+    (functions a.funcs) was)
+
 -- ---- a body that was read
 
 module _ (c : Config) (ty : ℕ) (code : List ℕ) (old new : Contents) (made : LocalFunction) (r : IsReadAs (features_of c) ty code old new made) where

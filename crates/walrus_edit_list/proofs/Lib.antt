@@ -9,6 +9,7 @@ mod FineFunctions
 mod FrontFormed
 mod FrontNamed
 mod FrontNests
+mod FunctionRefusals
 mod ParsedFormed
 mod ReadFormed
 mod Refusing
