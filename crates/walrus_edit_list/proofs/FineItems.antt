@@ -15,7 +15,6 @@ use Rattle.walrus_model.specs.Abstract.{Body, Function, LocalFunction}
 use Rattle.walrus_model.specs.Config.{Config}
 use Rattle.walrus_model.specs.Customs.{is_debug_name}
 use Rattle.walrus_model.specs.Sections.{is_apart}
-use Rattle.walrus_module.specs.Check.{BodiesAreFormed}
 use Rattle.walrus_module.specs.Edits.{brought}
 use Rattle.walrus_theorem.specs.Sound.{IsFreeName}
 use Rattle.wasm_entries.specs.Record.{Export, Import}
@@ -25,6 +24,7 @@ use Rattle.wasm_frames.specs.Record.{Custom}
 use Rattle.walrus_edit_list.specs.Customs.{AddsCustom, DeletesCustom, SetsCustom}
 use Rattle.walrus_edit_list.specs.Edits.{Named, The, TheModule}
 use Rattle.walrus_edit_list.specs.Exports.{AddsExport, AddsExports, DeletesExport, SetsExport}
+use Rattle.walrus_edit_list.specs.Formed.{AreFormed}
 use Rattle.walrus_edit_list.specs.Imports.{AddsImport, AddsImports, Brings, SetsImport}
 use Rattle.walrus_edit_list.specs.Naming.{GivesName, NamesItem, space_of}
 use Rattle.walrus_edit_list.specs.Producing.{AddsProducer, ClearsProducers}
@@ -36,7 +36,7 @@ use Rattle.walrus_edit_list.proofs.FineSlots.{added_too, among, carried, same_se
 
 module _ (c : Config) where
   abbrev Formed : Contents → Type 0
-  Formed m = BodiesAreFormed c (contents_view m)
+  Formed m = AreFormed c (contents_view m)
 
   -- where functions, types and locals are the same
   same : (old new : Contents) (bare : Contents) → new ≡ bare → ((t : ℕ) → (contents_view bare).types t ≡ (contents_view old).types t)

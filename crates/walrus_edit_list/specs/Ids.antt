@@ -1,13 +1,11 @@
 -- Each id of a module by its number ("Structure > Modules > Indices"): where wasm has an index, an edit has an id.
-use Rattle.std.specs.Prelude.{ℕ, ◌<◌, ◌^◌, length, map, slice_get, Option, ⊤}
+use Rattle.std.specs.Prelude.{ℕ, ◌<◌, ◌^◌, length, map, slice_get, Option}
 use Rattle.walrus_base.specs.Arena.{items}
 use Rattle.walrus_base.specs.ModuleTypes.{type_slots}
 use Rattle.walrus_base.specs.Operators.{Space}
 use Rattle.walrus_code.specs.Names.{Lookup}
 use Rattle.walrus_contents.specs.declared.parts.Contents.{Contents}
 use Rattle.walrus_items.specs.Tags.{ModuleTags, tags}
-use Rattle.walrus_items.specs.declared.error.Error.{Error}
-use Rattle.walrus_items.specs.declared.error.Error.TheVariants.{Memory, TooLarge}
 use Rattle.walrus_model.specs.Reads.{below}
 use Rattle.walrus_module.specs.OnParse.{index_count}
 
@@ -19,21 +17,9 @@ given m space = index_count (length (type_slots m.types)) m space
 abbrev pub ids_of : Contents → Lookup
 ids_of m space = below (given m space)
 
--- so many are more than there are indices, or memory ran out
-abbrev pub RefusesCount : ℕ → Error → Type 0
-RefusesCount count (Memory e) = ⊤
-RefusesCount count TooLarge = 2 ^ 32 < count
-RefusesCount count _ = ⊥
-
 -- of a space more ids were given than there are indices
 abbrev pub HasTooMany : Contents → Type 0
 HasTooMany m = (space : Space) × (2 ^ 32 < given m space)
-
--- the ids aren't told: they are too many, or memory ran out
-abbrev pub RefusesIds : Contents → Error → Type 0
-RefusesIds m (Memory e) = ⊤
-RefusesIds m TooLarge = HasTooMany m
-RefusesIds m _ = ⊥
 
 -- the type of each tag, by its number, where none is gone
 abbrev pub tag_types : ModuleTags → ℕ → Option ℕ

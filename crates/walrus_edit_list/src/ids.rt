@@ -6,7 +6,8 @@ ghost use Rattle.walrus_code.specs.Indices.{ids_at, places_of};
 ghost use Rattle.walrus_functions.specs.Signatures.{tag_places};
 ghost use Rattle.walrus_items.specs.Errors.{out_of_memory};
 ghost use Rattle.walrus_module.specs.View.{contents_of};
-ghost use Rattle.walrus_edit_list.specs.Ids.{RefusesCount, RefusesIds, ids_of, tag_types};
+ghost use Rattle.walrus_edit_list.specs.Ids.{HasTooMany, ids_of, tag_types};
+ghost use Rattle.walrus_edit_list.specs.Refuses.{Refuses};
 
 use std::alloc::Global;
 use walrus_base::TypeId;
@@ -18,7 +19,7 @@ use walrus_module::Module;
 fn first_ids<K>(alloc: Global, count: usize) -> Result<IndexSpace<K>>
     ensures { MatchResult result
         (λ space. places_of space ≡ range_with_len 0 count)
-        (RefusesCount count) }
+        (Refuses ⊥ (2 ^ 32 < count)) }
 {
     if count > 1 << 32 {
         return Err(Error::TooLarge);
@@ -34,7 +35,7 @@ fn first_ids<K>(alloc: Global, count: usize) -> Result<IndexSpace<K>>
 pub(crate) fn ids_of<S>(alloc: Global, module: &Module<S>) -> Result<IndicesToIds>
     ensures { MatchResult result
         (λ ids. ids_at ids ≡ ids_of (contents_of «module».now))
-        (RefusesIds (contents_of «module».now)) }
+        (Refuses ⊥ (HasTooMany (contents_of «module».now))) }
 {
     Ok(IndicesToIds {
         types: first_ids(alloc, module.types.next_id().index())?,

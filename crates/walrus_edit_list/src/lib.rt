@@ -5,16 +5,34 @@
 //! refused, so many are, and the next one isn't one, or can't be made of that.
 #![tactic(auto)]
 
+mod apply;
 mod beside;
+mod bring;
+mod constants;
 mod customs;
+mod data;
 mod edit;
+mod elements;
 mod exports;
+mod front;
+mod functions;
+mod globals;
 mod ids;
 mod imports;
+mod law;
+mod list;
+mod memories;
 mod names;
-mod numbers;
+pub mod numbers;
 mod producers;
+mod read;
+mod read_names;
+mod read_settings;
 mod start;
+mod types;
 
 pub use beside::Beside;
 pub use edit::{Deletion, Edit, Naming, Replacement};
+pub use law::{edits_keep_fine, one_list};
+pub use list::{Refusal, apply_all};
+pub use read::read_edit;

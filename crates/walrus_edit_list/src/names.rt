@@ -13,7 +13,8 @@ ghost use Rattle.walrus_items.specs.Memories.{memories};
 ghost use Rattle.walrus_items.specs.Tables.{tables};
 ghost use Rattle.walrus_items.specs.Tags.{tags};
 ghost use Rattle.walrus_module.specs.View.{contents_of};
-ghost use Rattle.walrus_edit_list.specs.Naming.{GivesName, NamesType, RefusesName, given_seen, name_given, named_seen};
+ghost use Rattle.walrus_edit_list.specs.Edits.{given_seen, name_given, named_seen};
+ghost use Rattle.walrus_edit_list.specs.Naming.{GivesName, NamesType, RefusesName};
 ghost use Rattle.walrus_edit_list.specs.Places.{ChangesAt, IsGone};
 
 use crate::edit::Naming;

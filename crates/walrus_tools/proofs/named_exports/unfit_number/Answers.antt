@@ -1,5 +1,5 @@
-use Rattle.walrus_items.specs.Exports.{exports}
-use Rattle.walrus_tools.specs.Choice.{choices_seen}
+use Rattle.walrus.specs.Items.Exports.{exports}
+use Rattle.walrus_sections.specs.Choice.{choices_seen}
 use Rattle.walrus_tools.specs.KeptExports.{export_names}
 use Rattle.walrus_tools.proofs.NamedExports.{tells_sorted}
 use Rattle.walrus_tools.proofs.named_exports.unfit_number.Goals as goal

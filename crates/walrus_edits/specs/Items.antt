@@ -1,0 +1,62 @@
+-- The items of a module that is read, as a list of records.
+use Rattle.std.specs.Prelude.{ℕ, ◌^◌, ◌<◌, ◌≡◌, ◌⊎◌, List, length, Result}
+use Rattle.std.specs.Global.{Vec}
+use Rattle.walrus_base.specs.Arena.{live_places}
+use Rattle.walrus_base.specs.ModuleTypes.{type_slots}
+use Rattle.walrus_items.specs.declared.error.Error.{Error}
+use Rattle.walrus_contents.specs.declared.parts.Contents.{Contents}
+use Rattle.walrus_model.specs.Abstract.{Custom}
+use Rattle.walrus_model.specs.Config.{Config}
+use Rattle.walrus_module.specs.Parsed.{IsParsed, TakenFrom}
+use Rattle.walrus_theorem.specs.Features.{features_of}
+use Rattle.walrus.specs.Edits.{with_customs}
+use Rattle.walrus.specs.Ends.{Answers}
+use Rattle.wasm_entries.specs.Record.{Group}
+use Rattle.wasm_forms.specs.Spelling.{row_bytes}
+use Rattle.wasm_forms.specs.Writing.{EachFits}
+use Rattle.wasm_frames.specs.Frames.{Frames}
+use Rattle.wasm_frames.specs.Record as wire
+use Rattle.walrus_edits.specs.ItemRecords.{Told, ToldFits, told_bytes}
+use Rattle.walrus_edits.specs.ItemValues.{AreGroups, AreTold}
+
+-- the bytes frame these sections, and are parsed as a module that holds this, each item at the id of its index
+pub record AreRead (c : Config) (bytes : List ℕ) (sections : wire.Module) (contents : Contents) : Type 0 where
+  pub framed : Frames bytes sections
+  pub customs : List Custom
+  pub parsed : IsParsed c bytes (with_customs customs contents)
+  pub taken : TakenFrom (features_of c) bytes contents
+
+-- what is told of the module that the bytes are; its types are those of the input, and behind them those that legacy handlers need
+pub record AreItems (c : Config) (bytes : List ℕ) (told : List Told) : Type 0 where
+  pub sections : wire.Module
+  pub contents : Contents
+  pub read : AreRead c bytes sections contents
+  pub groups : List Group
+  pub grouped : AreGroups contents.types groups
+  pub are : AreTold sections groups contents told
+
+-- ---- the list
+
+-- the list is the records of what is told, and each fits
+pub record IsItemList (c : Config) (bytes list : List ℕ) : Type 0 where
+  pub told : List Told
+  pub items : AreItems c bytes told
+  pub is : list ≡ row_bytes told_bytes told
+  pub fits : EachFits ToldFits told
+
+-- a count, a size or a limit in a record passes 32 bits
+pub record HasLongRecord (c : Config) (bytes : List ℕ) : Type 0 where
+  pub told : List Told
+  pub items : AreItems c bytes told
+  pub long : EachFits ToldFits told → ⊥
+
+-- there are more than 2 ^ 32 types
+pub record HasManyTypes (c : Config) (bytes : List ℕ) : Type 0 where
+  pub sections : wire.Module
+  pub contents : Contents
+  pub read : AreRead c bytes sections contents
+  pub many : 2 ^ 32 < length (live_places (type_slots contents.types))
+
+-- the list, or a refusal with its cause
+abbrev pub AnswersItems : Config → (bytes : List ℕ) → Result (Vec ℕ) Error → Type 0
+AnswersItems c bytes result = Answers c bytes (λ (list : Vec ℕ). IsItemList c bytes list.items) (HasLongRecord c bytes ⊎ HasManyTypes c bytes) (λ e. ⊥) result

@@ -1,0 +1,28 @@
+-- The groups of a module's types.
+use Rattle.std.specs.Prelude.{◌<◌, ◌^◌, ⊤, List, length, map, Result, Ok, Err}
+use Rattle.std.specs.Global.{Vec}
+use Rattle.walrus_base.specs.Arena.{items, live_places}
+use Rattle.walrus_base.specs.ModuleTypes.{type_slots}
+use Rattle.walrus_base.specs.declared.module_types.ModuleTypes.{ModuleTypes}
+use Rattle.walrus_groups.specs.Indexed.{HasExact, LacksAnIndex, NumbersTypes}
+use Rattle.walrus_code.specs.Names.{Lookup}
+use Rattle.walrus_items.specs.declared.error.Error.{Error}
+use Rattle.walrus_items.specs.declared.error.Error.TheVariants.{Memory, NoIndex, NotWritable, TooLarge}
+use Rattle.wasm_entries.specs.Record.{group}
+use Rattle.wasm_entries.specs.declared.record.RawSub.{RawSub}
+use Rattle.walrus_edits.specs.ItemValues.{AreGroups}
+
+-- a type names one that isn't there
+pub record NamesNone (types : ModuleTypes) : Type 0 where
+  pub names : Lookup
+  pub numbered : NumbersTypes names (type_slots types)
+  pub lacks : LacksAnIndex names (items (type_slots types))
+
+-- these are the groups; refused: there are more than 2 ^ 32 types, one names what isn't there or an exact heap type, or memory ran out
+abbrev pub GroupsTypes : ModuleTypes → Result (Vec (Vec RawSub)) Error → Type 0
+GroupsTypes types (Ok groups) = AreGroups types (map group groups.items)
+GroupsTypes types (Err (Memory e)) = ⊤
+GroupsTypes types (Err TooLarge) = 2 ^ 32 < length (live_places (type_slots types))
+GroupsTypes types (Err NoIndex) = NamesNone types
+GroupsTypes types (Err NotWritable) = HasExact (items (type_slots types))
+GroupsTypes types (Err _) = ⊥
