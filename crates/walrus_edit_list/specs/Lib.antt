@@ -1,3 +1,4 @@
+pub mod Applies
 pub mod Bringing
 pub mod Constants
 pub mod Customs
@@ -6,12 +7,14 @@ pub mod Edits
 pub mod Elements
 pub mod Exports
 pub mod Fine
+pub mod Formed
 pub mod Fronts
 pub mod Functions
 pub mod Globals
 pub mod Held
 pub mod Ids
 pub mod Imports
+pub mod Makes
 pub mod Memories
 pub mod Naming
 pub mod Places

@@ -4,7 +4,7 @@ use Rattle.wasm_entries.specs.Record.{import_entry}
 use Rattle.wasm_entries.specs.declared.record.RawImport.{RawImport}
 use Rattle.walrus_edits.specs.ItemValues.{with_brought}
 use Rattle.walrus_edits.proofs.TellSteps.{adds_same, flat_seen, leaves, seen_through, tells_all, tells_none, turn}
-use Rattle.walrus_edits.proofs.items.tell_imports.Goals as goal
+use Rattle.walrus_edits.proofs.item_list.tell_imports.Goals as goal
 
 pub imports-init : goal.imports-init
 imports-init c = tells_none c.args.to.now.items
