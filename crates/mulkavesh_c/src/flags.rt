@@ -24,3 +24,15 @@ pub(crate) fn wanted_by(flags: u32) -> Option<Wanted>
         legacy: flags & NO_LEGACY == 0,
     })
 }
+
+const GC: u32 = 8;
+
+/// What the flags of a list of edits ask for, and whether what nothing reaches is to go in the end; or none where there is one that isn't known.
+pub(crate) fn edit_wanted_by(flags: u32) -> Option<(Wanted, bool)> {
+    if flags >= GC + GC {
+        return None;
+    }
+    let collects = flags >= GC;
+    let wanted = wanted_by(if collects { flags - GC } else { flags })?;
+    Some((wanted, collects))
+}

@@ -8,6 +8,7 @@
 
 mod answer;
 mod choices;
+mod edits;
 mod flags;
 mod names;
 mod question;
@@ -33,7 +34,7 @@ ghost use Rattle.mulkavesh_c.specs.Names.{AreLists, UnderChoices, UnderLists, Un
 ghost use Rattle.mulkavesh_c.specs.Questions.{AnswersCallers, AnswersLines, AnswersTo, AnswersWhy};
 
 use crate::answer::{Made, UNKNOWN_FLAG, put, refused};
-use crate::flags::wanted_by;
+use crate::flags::{edit_wanted_by, wanted_by};
 use crate::question::Question;
 use std::alloc::Global;
 use walrus_tools::{all_go, are_choices};
@@ -390,4 +391,41 @@ pub extern "C" fn mulkavesh_stub(
     }
     let made = names::stubbed(alloc, input, wanted, module, name);
     put(Made::of(made), output, length)
+}
+
+// ---- a module changed
+
+/// The items of the module, each with its id, as records: `walrus_edits::items`.
+#[unsafe(no_mangle)]
+pub extern "C" fn mulkavesh_read(
+    alloc: Global,
+    input: &[u8],
+    flags: u32,
+    output: &mut [u8],
+    length: &mut usize,
+) -> u32 {
+    let Some(wanted) = wanted_by(flags) else {
+        return refused(length, UNKNOWN_FLAG);
+    };
+    let made = walrus_edits::items(alloc, input, wanted);
+    put(Made::of(made), output, length)
+}
+
+/// The module that the edits of a list make of the input, each in its turn: `walrus_edits::edit`.
+#[unsafe(no_mangle)]
+pub extern "C" fn mulkavesh_edit(
+    alloc: Global,
+    input: &[u8],
+    flags: u32,
+    edits: &[u8],
+    output: &mut [u8],
+    length: &mut usize,
+) -> u32 {
+    let Some((wanted, collects)) = edit_wanted_by(flags) else {
+        return refused(length, UNKNOWN_FLAG);
+    };
+    match walrus_edits::edit(alloc, input, edits, wanted, collects) {
+        Ok(bytes) => put(Made::of(Ok(bytes)), output, length),
+        Err(refusal) => edits::refuse(&refusal, length),
+    }
 }
