@@ -32,3 +32,9 @@ pub(crate) fn refuse(refusal: &Refusal, length: &mut usize) -> u32 {
         Refusal::Whole(cause) => refuse_whole(cause, length),
     }
 }
+
+// What is told of a cause: the rules have the numbers of what is wrong with bytes, and the others those behind them.
+const CAUSE_GONE: u32 = 11;
+const CAUSE_TWO_INDICES: u32 = 12;
+const CAUSE_NO_INDEX: u32 = 13;
+const CAUSE_NO_SPELLING: u32 = 14;

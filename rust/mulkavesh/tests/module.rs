@@ -92,6 +92,13 @@ fn global(index: u32) -> GlobalId {
     GlobalId::at(index)
 }
 
+fn global_of(item: ExportItem) -> GlobalId {
+    match item {
+        ExportItem::Global(id) => id,
+        other => panic!("{other:?} is no global"),
+    }
+}
+
 const TRAP: &[u8] = b"\0\0\x0B";
 
 fn trap() -> Body {
@@ -703,9 +710,7 @@ fn globals_come() {
     });
     assert_eq!(output.globals.len(), 7);
     let copy = output.exports.by_name("copy").expect("an export");
-    let ExportItem::Global(copy) = output.exports.get(copy).item else {
-        panic!("a global is exported");
-    };
+    let copy = global_of(output.exports.get(copy).item);
     assert_eq!(output.globals.get(copy).name.as_deref(), Some("copy"));
     assert_eq!(
         output.globals.get(copy).kind,
