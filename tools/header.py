@@ -1,5 +1,5 @@
 #!/usr/bin/env python3
-"""Compares include/mulkavesh.h with the signatures of crates/mulkavesh_c, and rust/mulkavesh-sys and python/mulkavesh.py with the header.
+"""Compares include/mulkavesh.h with the signatures of crates/mulkavesh_c, and rust/mulkavesh-sys and python/mulkavesh with the header.
 
 A slice is a pointer and its length, a `&mut usize` a pointer, and a `Global` nothing. Compared are the names, the types and the order of the
 parameters, the constants (those of what is wrong with bytes, of items and of roots are numbers of crates/walrus_tools), the words of docs/FORMATS.md for these with the header's
@@ -101,7 +101,7 @@ def constants_of_python(text):
     for name, front in (("_OF_LINKS", "KIND_"), ("_OF_EXTERNS", "EXTERN_")):
         words = re.search(rf"^{name} = \((.*)\)$", text, re.M)[1]
         found.update((front + word.upper(), number) for number, word in enumerate(re.findall(r'"(\w+)"', words)))
-    for of_python, front in (("Status", ""), ("FaultKind", "FAULT_"), ("Beginning", "BEGINS_"), ("Rule", "RULE_"), ("Root", "ROOT_")):
+    for of_python, front in (("Status", ""), ("FaultKind", "FAULT_"), ("Beginning", "BEGINS_"), ("Rule", "RULE_"), ("Cause", "CAUSE_"), ("Root", "ROOT_")):
         numbers = re.search(rf"class {of_python}\(.*?(?=\n\n\n)", text, re.S)
         found.update((front + name, int(number)) for name, number in re.findall(r"^    ([A-Z_]+) = (\d+)", numbers[0], re.M))
     return found
@@ -155,11 +155,11 @@ def wrong():
         yield from differing("rust/mulkavesh-sys", sources, dict(of_rust(rust)))
         numbers = {name: number for name, number in constants.items() if name != "VERSION"}
         yield from differing("rust/mulkavesh-sys", numbers, constants_of_rust(rust))
-    python = read("python", "mulkavesh.py")
+    python = read("python", "mulkavesh", "__init__.py")
     if python is not None:
-        others = ("VERSION", "NO_NAMES", "NO_PRODUCERS", "NO_LEGACY", "FAULT_NONE", "ROOT_NONE")
+        others = ("VERSION", "NO_NAMES", "NO_PRODUCERS", "NO_LEGACY", "GC", "FAULT_NONE", "ROOT_NONE")
         numbers = {name: number for name, number in constants.items() if name not in others}
-        yield from differing("python/mulkavesh.py", numbers, constants_of_python(python))
+        yield from differing("python/mulkavesh", numbers, constants_of_python(python))
     yield from versions(constants["VERSION"])
 
 
