@@ -130,8 +130,8 @@ class Items:
         self.producers.append(items.Producer(it.name(), it.name(), it.name()))
 
     def _local(self, it: Reader) -> None:
-        names = self.funcs[FunctionId(it.number())].local_names
-        names[it.number()] = it.name()
+        names, local = self.funcs[FunctionId(it.number())].local_names, it.number()
+        names[local] = it.name()
 
     def of(self, kind: str) -> "items.Arena[int, Any]":
         """The items of a kind."""

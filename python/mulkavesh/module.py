@@ -50,7 +50,7 @@ class Module(Items):
     """
 
     def __init__(self, wasm: Bytes) -> None:
-        self._input = bytes(wasm)
+        self._input = mulkavesh._whole(wasm)
         self._told = mulkavesh.read(self._input)
         super().__init__(self._input, self._told)
 

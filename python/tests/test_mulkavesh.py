@@ -23,8 +23,8 @@ from unittest import mock
 import mulkavesh
 import packing
 from mulkavesh import (
-    Alone, Beginning, Cause, Counts, Export, Fault, FaultKind, Function, Import, InvalidModule, Item, Link, MulkaveshError, NotFound, Reason, Report, Root, Rule, Section,
-    Sections, Sizes, TooLarge,
+    Alone, BadEdit, BadModule, Beginning, Cause, Counts, Export, Fault, FaultKind, Function, Import, InvalidModule, Item, Link, MulkaveshError, NotFound, Reason, Report,
+    Root, Rule, Section, Sections, Sizes, TooLarge,
 )
 from tests import worked
 
@@ -453,13 +453,13 @@ class Refusals(unittest.TestCase):
 
     def test_each_status(self) -> None:
         """What each status raises; those that only huge modules come to are told by a library that answers nothing else."""
-        wanted = {1: InvalidModule, 2: TooLarge, 3: MemoryError, 5: MulkaveshError, 6: NotFound, 7: MulkaveshError}
+        wanted = {1: InvalidModule, 2: TooLarge, 3: MemoryError, 5: MulkaveshError, 6: NotFound, 7: BadEdit, 9: MulkaveshError}
         for status, kind in wanted.items():
             library = types.SimpleNamespace(**{f"mulkavesh_{call}": lambda *words, status=status: status for call in ("gc", "diagnose")})
             with mock.patch.object(mulkavesh, "_library", library), self.assertRaises(Exception) as raised:
                 mulkavesh.gc(worked.TWO)
             self.assertIs(type(raised.exception), kind)
-        for kind in (InvalidModule, TooLarge, NotFound):
+        for kind in (InvalidModule, TooLarge, NotFound, BadEdit, BadModule):
             self.assertTrue(issubclass(kind, MulkaveshError))
 
     def test_memory_runs_out(self) -> None:
