@@ -554,8 +554,10 @@ def _answer(
 
 def _bad_module(number: int) -> BadModule:
     """The refusal of what edits left, for the cause of this number."""
-    cause = Cause(number) if number in _CAUSES else Rule(number)
-    return BadModule(f"the changed module is invalid: {_CAUSES[cause] if isinstance(cause, Cause) else _BROKEN[cause]}", cause)
+    front = "the changed module is invalid: "
+    if number in _CAUSES:
+        return BadModule(front + _CAUSES[Cause(number)], Cause(number))
+    return BadModule(front + _BROKEN[Rule(number)], Rule(number))
 
 
 def _list(*names: Tuple[Sequence[Name], bool]) -> bytes:

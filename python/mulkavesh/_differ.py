@@ -4,7 +4,9 @@ from typing import Any, Callable, Dict, Iterator, List, NamedTuple, Optional, Se
 
 from mulkavesh._told import GLOBAL_SHARED, HAS_MAXIMUM, HAS_PAGE, LIMITS_SHARED, MUTABLE, NAMED, SECTIONS, WIDE, Items
 from mulkavesh._wire import block, name, number, value_type, value_types, vector
-from mulkavesh.items import FUNCTION, GLOBAL, KINDS, MEMORY, TABLE, TAG, Arena, CustomSection, Data, Element, Export, Function, Global, Import, Memory, Type
+from mulkavesh.items import (
+    FUNCTION, GLOBAL, KINDS, MEMORY, TABLE, TAG, Arena, CustomSection, Data, Element, Export, Function, FunctionId, Global, Import, Memory, Type,
+)
 
 _ADD_FUNCTION, _SET, _DELETE, _BRING, _NAME, _PRODUCER, _NO_PRODUCERS, _FRONT = range(16, 24)
 _CUSTOM = 0
@@ -24,6 +26,9 @@ _EXPORT = "what it exports isn't there"
 _SECTION = "the library writes sections of its name itself, or none"
 _FIELD = "its field isn't `language`, `processed-by` or `sdk`"
 _ABSENT = "it isn't there"
+
+_NOTHING: List[FunctionId] = []
+_NO_ELEMENTS = Element(_NOTHING)
 
 # What an item is called, and its id, which the module and the start function don't have.
 Which = Tuple[str, Optional[int]]
@@ -280,7 +285,7 @@ class Differ:
                     raise Refused(it.which, _FIXED)
                 continue
             if it.is_new:
-                self.edits.add(9, _element(it.now or Element([])), it.which, _ELEMENT)
+                self.edits.add(9, _element(it.now or _NO_ELEMENTS), it.which, _ELEMENT)
             if it.now is None:
                 self.edits.delete(9, it.which)
 

@@ -77,7 +77,9 @@ class Items:
             self.tables._put(_table(it, imported))
         elif kind == MEMORY:
             flags = it.byte()
-            self.memories._put(items.Memory(*_limits(it, flags), *_has(flags, LIMITS_SHARED, WIDE), it.number() if flags & HAS_PAGE else None, imported))
+            initial, maximum = _limits(it, flags)
+            page = it.number() if flags & HAS_PAGE else None
+            self.memories._put(items.Memory(initial, maximum, bool(flags & LIMITS_SHARED), bool(flags & WIDE), page, imported))
         elif kind == GLOBAL:
             type_, flags = it.value_type(), it.byte()
             init = it.block() if imported is None else None
@@ -135,10 +137,12 @@ class Items:
 
     def of(self, kind: str) -> "items.Arena[int, Any]":
         """The items of a kind."""
-        return {
+        all_kinds: Dict[str, Any] = {
             "type": self.types, FUNCTION: self.funcs, TABLE: self.tables, MEMORY: self.memories, GLOBAL: self.globals, TAG: self.tags, "element": self.elements,
             "data": self.data,
-        }[kind]
+        }
+        found: "items.Arena[int, Any]" = all_kinds[kind]
+        return found
 
 
 NAMED = ("type", FUNCTION, TABLE, MEMORY, GLOBAL, TAG, "element", "data")
@@ -148,10 +152,6 @@ _OF_NAMES = {SECTIONS[kind]: kind for kind in NAMED}
 
 def _limits(it: Reader, flags: int) -> Tuple[int, Optional[int]]:
     return it.number(), it.number() if flags & HAS_MAXIMUM else None
-
-
-def _has(flags: int, *bits: int) -> Tuple[bool, ...]:
-    return tuple(bool(flags & bit) for bit in bits)
 
 
 def _table(it: Reader, imported: Optional[ImportId]) -> items.Table:

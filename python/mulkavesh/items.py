@@ -1,6 +1,6 @@
 """What items are, and items by their ids. Which fields can't be changed, each class says; `Module.emit_wasm` refuses them, with the item."""
 from dataclasses import dataclass, field
-from typing import Any, Callable, Dict, Generic, Iterator, List, NamedTuple, NewType, Optional, Tuple, TypeVar, Union
+from typing import Callable, Dict, Generic, Iterator, List, NamedTuple, NewType, Optional, Tuple, TypeVar, Union, cast
 
 from mulkavesh._wire import RefType, TypeId, ValType
 from mulkavesh.code import Body
@@ -210,13 +210,11 @@ class Arena(Generic[Id, It]):
 
     def __iter__(self) -> Iterator[Id]:
         """The ids, of what is there now."""
-        ids: Any = list(self._items)
-        return iter(ids)
+        return iter(cast(List[Id], list(self._items)))
 
     def items(self) -> List[Tuple[Id, It]]:
         """The items with their ids, of what is there now."""
-        pairs: Any = list(self._items.items())
-        return pairs
+        return cast(List[Tuple[Id, It]], list(self._items.items()))
 
     def values(self) -> List[It]:
         """The items."""
@@ -233,8 +231,7 @@ class Arena(Generic[Id, It]):
     def _put(self, item: It) -> Id:
         self._items[self._next] = item
         self._next += 1
-        id_: Any = self._next - 1
-        return id_
+        return cast(Id, self._next - 1)
 
     def _take(self, id_: Id) -> It:
         return self._items.pop(id_)
