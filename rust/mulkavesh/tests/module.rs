@@ -1,5 +1,9 @@
 //! Each field of each item of a small module is written, and comes out so or is refused by name.
 
+#[path = "support/made.rs"]
+mod made;
+
+use made::module_of;
 use mulkavesh::module::{
     opcodes::{DATA_DROP, I32_ADD, I32_LOAD},
     AbstractHeapType, BlockType, Body, Cause, ConstExpr, Data, DataKind, ElementItems, ElementKind,
@@ -7,22 +11,6 @@ use mulkavesh::module::{
     InstrSeqBuilder, Item, MemoryId, Module, Producer, RefType, TableId, TypeId, ValType,
 };
 use mulkavesh::{gc, Beginning, Error as CallError, Fault, Flags, Roots, Rule};
-
-const HEADER: &[u8] = b"\0asm\x01\0\0\0";
-
-fn section(id: u8, content: &[u8]) -> Vec<u8> {
-    let size = u8::try_from(content.len()).expect("a short section");
-    assert!(size < 128, "a short section");
-    [&[id, size], content].concat()
-}
-
-/// What an id and its bytes are.
-type Part<'a> = (u8, &'a [u8]);
-
-fn module_of(parts: &[Part<'_>]) -> Vec<u8> {
-    let sections = parts.iter().map(|(id, content)| section(*id, content));
-    [HEADER.to_vec(), sections.collect::<Vec<_>>().concat()].concat()
-}
 
 /// A module with an item of each kind, or two. Function 0 and global 0 are imported.
 fn input() -> Vec<u8> {
