@@ -3,7 +3,8 @@
 
 A slice is a pointer and its length, a `&mut usize` a pointer, and a `Global` nothing. Compared are the names, the types and the order of the
 parameters, the constants (those of what is wrong with bytes, of items and of roots are numbers of crates/walrus_tools), the words of docs/FORMATS.md for these with the header's
-comments and with tests/faults.txt, and the version with those of the packages; no compiler is needed. Prints what differs, a line each, and ends with
+comments and with tests/faults.txt, the operators of the packages by their names with those of crates/wasm_opcodes, and the version with those of the packages; no
+compiler is needed. Prints what differs, a line each, and ends with
 status 1 where there is any.
 """
 import pathlib
@@ -134,6 +135,31 @@ def unlike_the_words(header):
         yield f"docs/FORMATS.md: {len(rows)} rows say what is wrong with bytes, and not 23"
 
 
+def number_of(text):
+    return int(text.replace("_", ""), 16)
+
+
+def opcodes_of_sources():
+    """The operators by their names, of the modules that opcodes.rt names."""
+    folder = ("crates", "wasm_opcodes", "src")
+    for module, name in re.findall(r"pub use crate::(\w+)::(\w+);", read(*folder, "opcodes.rt")):
+        yield name, number_of(re.search(rf"pub const {name}: u32 = (0x[0-9A-F_]+);", read(*folder, f"{module}.rt"))[1])
+
+
+def opcodes_of_packages():
+    """Each file that has them, and what stands in it."""
+    rust, python, web = (read(*parts) for parts in (("rust", "mulkavesh", "src", "module", "opcodes.rs"), ("python", "mulkavesh", "opcodes.py"), ("web", "opcodes.js")))
+    if rust is not None:
+        yield "rust/mulkavesh/src/module/opcodes.rs", {name: number_of(it) for name, it in re.findall(r"(\w+) (0x[0-9A-F_]+),", rust)}
+    if python is not None:
+        lines = (line.split(" = ") for line in python.splitlines() if " = 0x" in line)
+        yield "python/mulkavesh/opcodes.py", {name: number_of(it) for names, numbers in lines for name, it in zip(names.split(", "), numbers.split(", "))}
+    if web is not None:
+        found = {name: number_of(it) for name, it in re.findall(r"(\w+) = (0x[0-9A-F_]+)", web)}
+        yield "web/opcodes.js", found
+        yield "web/opcodes.d.ts", {name: found.get(name) for name in re.findall(r"(\w+): number", read("web", "opcodes.d.ts"))}
+
+
 def versions(number):
     """Where the packages tell their version, and what it has to be."""
     wanted = f"{number >> 16}.{number >> 8 & 255}.{number & 255}"
@@ -160,6 +186,9 @@ def wrong():
         others = ("VERSION", "NO_NAMES", "NO_PRODUCERS", "NO_LEGACY", "GC", "FAULT_NONE", "ROOT_NONE")
         numbers = {name: number for name, number in constants.items() if name not in others}
         yield from differing("python/mulkavesh", numbers, constants_of_python(python))
+    opcodes = dict(opcodes_of_sources())
+    for file, found in opcodes_of_packages():
+        yield from differing(file, opcodes, found)
     yield from versions(constants["VERSION"])
 
 
