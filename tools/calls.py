@@ -59,6 +59,8 @@ GROUPS = {
 OF_MODULES = ("walrus_module", "walrus_items", "walrus")
 # What calls ask, by what their clauses say: the first pattern that fits.
 ASKED = (
+    (r"^IsReady ", "the module is ready"),
+    (r"^IsLive \(parts_view parts\)", "the item is there"),
     (r"IsLive \((?:exports|held|locals|slots|type_slots)\b", "the id is live"),
     (r"\w+\.IsAlwaysCallable (\w+)", r"`\1` may always be called"),
     (r"F\.pre make id$", "`make` may be called with the id of the next place"),

@@ -34,7 +34,7 @@ MOST_LINES_OF_A_BODY = 40
 WIDEST_CLAUSE = 110
 MOST_LINES_OF_CLAUSES = 16
 # The crates whose contracts users read, and which have to be shorter.
-CRATES_OF_USERS = ("walrus", "walrus_module", "walrus_plan", "walrus_tools", "mulkavesh")
+CRATES_OF_USERS = ("walrus", "walrus_module", "walrus_plan", "walrus_sections", "walrus_tools", "mulkavesh")
 MOST_LINES_OF_CLAUSES_OF_USERS = 12
 MOST_LINES_OF_THE_README = 112
 MOST_COLUMNS_OF_THE_README = 100
@@ -59,7 +59,7 @@ FILES_OF_NUMBERS = (
     "wasm_frames/src/read.rt",
     "wasm_writer/src/writer.rt",
     # the bytes by which files of other kinds are known
-    "walrus_tools/specs/Beginnings.antt",
+    "walrus_sections/specs/Beginnings.antt",
     # counts of pages, no bytes
     "wasm_wire/src/rules/limits.rt",
     # operators that no code names
@@ -209,11 +209,12 @@ def wrong_in_ways():
 
 
 def handed_on():
-    """What a Lib.antt hands on: crate, part and name, each with the crate, the part and the file that it comes from."""
+    """What a file of specs or proofs hands on: crate, part and name, behind the file's own where it isn't Lib, each with where it comes from."""
     handed = {}
-    for lib in [*CRATES.glob("*/specs/Lib.antt"), *CRATES.glob("*/proofs/Lib.antt")]:
-        for crate, part, way, name in re.findall(r"(?m)^pub use Rattle\.(\w+)\.(specs|proofs)\.([\w.]+)(?: as (\w+))?$", lib.read_text(encoding="utf-8")):
-            handed[lib.parts[-3], lib.parts[-2], name or way.split(".")[-1]] = crate, part, way.split(".")[0]
+    for file in [*CRATES.glob("*/specs/*.antt"), *CRATES.glob("*/proofs/*.antt")]:
+        for crate, part, way, name in re.findall(r"(?m)^pub use Rattle\.(\w+)\.(specs|proofs)\.([\w.]+)(?: as (\w+))?$", file.read_text(encoding="utf-8")):
+            inner = name or way.split(".")[-1]
+            handed[file.parts[-3], file.parts[-2], inner if file.stem == "Lib" else f"{file.stem}.{inner}"] = crate, part, way.split(".")[0]
     return handed
 
 
@@ -221,6 +222,7 @@ def wrong_in_lemmas():
     """Files of lemmas that speak of one crate and what it stands on, and stand above it."""
     listed, handed = listed_crates(), handed_on()
     files = {(path.parts[-3], path.stem): path.read_text(encoding="utf-8") for path in CRATES.glob("*/proofs/*.antt") if path.stem != "Lib"}
+    files = {key: text for key, text in files.items() if re.search(r"(?m)^(?!pub use|--|$)", text)}
 
     @functools.cache
     def below(crate):
@@ -229,7 +231,8 @@ def wrong_in_lemmas():
     @functools.cache
     def spoken_of(key):
         found = set()
-        for place in re.findall(r"Rattle\.(\w+)\.(specs|proofs)\.(\w+)", files[key]):
+        for crate, part, way in re.findall(r"Rattle\.(\w+)\.(specs|proofs)\.(\w+(?:\.\w+)?)", files[key]):
+            place = crate, part, way if (crate, part, way) in handed else way.split(".")[0]
             while place in handed:
                 place = handed[place]
             crate, part, file = place

@@ -64,7 +64,7 @@ def faults_of_sources():
     text = read("crates", "walrus_tools", "src", "tool", "diagnose.rt")
     kinds = re.findall(r"(None|Fault::\w+)(?:\(\w+\))?\)? => \((\d+),", text)
     yield from ((f"FAULT_{name.removeprefix('Fault::').upper()}", int(number)) for name, number in kinds)
-    for name, number in re.findall(r"Beginning::(\w+) => (\d+),", read("crates", "walrus_tools", "src", "beginnings.rt")):
+    for name, number in re.findall(r"Beginning::(\w+) => (\d+),", read("crates", "walrus_sections", "src", "beginnings.rt")):
         yield "BEGINS" + re.sub(r"([A-Z])", r"_\1", name).upper(), int(number)
     for name, number in re.findall(r"BrokenRule::(\w+) => (\d+),", text):
         yield "RULE" + re.sub(r"([A-Z])", r"_\1", name).upper(), int(number)
@@ -83,7 +83,7 @@ def items_of_sources():
 def constants_of_sources():
     """The statuses, flags, the version, what parts are told as, items, roots and what is wrong with bytes, by the names that the header gives them."""
     text = "".join(path.read_text(encoding="utf-8") for path in sorted((CRATES / CRATE / "src").glob("*.rt")))
-    text += read("crates", "walrus_tools", "src", "tool", "section_parts.rt")
+    text += read("crates", "walrus_sections", "src", "tool", "section_parts.rt")
     named = {name: int(number) for name, number in re.findall(r"const (\w+): u(?:8|32) = (\d+);", text)}
     return {**named, **dict(items_of_sources()), **dict(faults_of_sources())}
 

@@ -177,6 +177,9 @@ def find(way, name):
         lib = file_at(CRATES / crate / "specs" / "Lib.antt")
         if inner in lib.aliases:
             return find((*lib.aliases[inner], *rest), name)
+        between = CRATES / crate / "specs" / f"{inner}.antt"
+        if rest and between.is_file() and rest[0] in file_at(between).aliases:
+            return find((*file_at(between).aliases[rest[0]], *rest[1:]), name)
         raise SystemExit(f"tools/specs.py: there is no module {'.'.join(way)}")
     file = file_at(path)
     if name in file.own or name in file.inner:

@@ -2,7 +2,7 @@
 use Rattle.std.specs.Prelude.{◌≡◌, ℕ, Bool, true, false, not, ◌&&◌, ◌||◌, List, [], ◌++◌, Option, Some, None, String, bytes_eq, codes, drop, eqb, length, string_bytes, if◌then◌else◌}
 use Rattle.std.specs.List.{list_any, starts_with}
 use Rattle.std.specs.declared.alloc.Global.{Global}
-use Rattle.walrus_tools.specs.declared.wanted.Wanted.{Wanted}
+use Rattle.walrus_tools.specs.WantedValue.{Wanted}
 use Rattle.mulkavesh.specs.declared.order.Work.{Work}
 use Rattle.mulkavesh.specs.declared.order.Work.TheVariants as work
 use Rattle.mulkavesh.specs.declared.order.Flag.{Flag}

@@ -3,7 +3,7 @@ use Rattle.std.proofs.Common.{◌≡◌, ◌≢◌, ℕ, Bool, true, false, List
 use Rattle.std.specs.Prelude.{Ok, Err, if◌then◌else◌}
 use Rattle.std.proofs.lemmas.Option.{none-some}
 use Rattle.walrus_tools.specs.Facade.{Error, InvalidWasm, Memory, NotFound, TooLarge}
-use Rattle.walrus_tools.specs.declared.wanted.Wanted.{Wanted}
+use Rattle.walrus_tools.specs.WantedValue.{Wanted}
 use Rattle.mulkavesh_c.specs.Flags.{is_known, wanted}
 use Rattle.mulkavesh_c.specs.Answer.{Answer, Gives, NoNumber, Puts, Tells, status_of, told_of}
 use Rattle.mulkavesh_c.specs.declared.answer.Made.{Made}

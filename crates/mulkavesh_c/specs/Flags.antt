@@ -1,6 +1,6 @@
 -- What the flags of a call ask for.
 use Rattle.std.specs.Prelude.{◌≡◌, ℕ, Bool, true, bit_and, nat_eq, nat_lt}
-use Rattle.walrus_tools.specs.declared.wanted.Wanted.{Wanted}
+use Rattle.walrus_tools.specs.WantedValue.{Wanted}
 
 -- each flag has a bit of its own: 1 turns names off, 2 producers, 4 legacy exceptions; there are no others
 abbrev pub is_known : (flags : ℕ) → Bool

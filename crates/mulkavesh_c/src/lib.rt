@@ -15,15 +15,15 @@ mod question;
 
 ghost use Rattle.std.specs.Prelude.{◌≡◌, ◌↔◌, true, ⊤};
 ghost use Rattle.walrus_tools.specs.Faults.{AnswersFault};
-ghost use Rattle.walrus_tools.specs.PartList.{AnswersPartList};
-ghost use Rattle.walrus_tools.specs.Choice.{AllGo, IsList};
+ghost use Rattle.walrus_sections.specs.PartList.{AnswersPartList};
+ghost use Rattle.walrus_sections.specs.Choice.{AllGo, IsList};
 ghost use Rattle.walrus_tools.specs.ChosenModule.{AnswersChosen};
 ghost use Rattle.walrus_tools.specs.DroppedList.{AnswersDroppedList};
 ghost use Rattle.walrus_tools.specs.ExportList.{AnswersExportList};
 ghost use Rattle.walrus_tools.specs.FunctionList.{AnswersFunctions};
 ghost use Rattle.walrus_tools.specs.ImportList.{AnswersImportList};
-ghost use Rattle.walrus_tools.specs.Sections.{AnswersSections};
-ghost use Rattle.walrus_tools.specs.StripAnswers.{AnswersStripped};
+ghost use Rattle.walrus_sections.specs.Sections.{AnswersSections};
+ghost use Rattle.walrus_sections.specs.StripAnswers.{AnswersStripped};
 ghost use Rattle.walrus_tools.specs.StubMatching.{AnswersMatching};
 ghost use Rattle.walrus_tools.specs.TrapEdit.{AnswersMeant};
 ghost use Rattle.walrus_tools.specs.Wanted.{config_wanted};
@@ -37,7 +37,7 @@ use crate::answer::{Made, UNKNOWN_FLAG, put, refused};
 use crate::flags::{edit_wanted_by, wanted_by};
 use crate::question::Question;
 use std::alloc::Global;
-use walrus_tools::{all_go, are_choices};
+use walrus_sections::{all_go, are_choices};
 
 /// The version: the major number times 2^16, the minor one times 2^8, and the patch.
 const VERSION: u32 = 256;
@@ -297,7 +297,7 @@ pub extern "C" fn mulkavesh_diagnose(
     put(Made::of(made), output, length)
 }
 
-/// The bytes without the custom sections that go by a list of choices: `walrus_tools::strip`.
+/// The bytes without the custom sections that go by a list of choices: `walrus_sections::strip`.
 #[unsafe(no_mangle)]
 pub extern "C" fn mulkavesh_strip(
     alloc: Global,
@@ -316,7 +316,7 @@ pub extern "C" fn mulkavesh_strip(
     put(Made::of(made), output, length)
 }
 
-/// The sections, with the place and the size of each, whatever they hold: `walrus_tools::section_list`.
+/// The sections, with the place and the size of each, whatever they hold: `walrus_sections::section_list`.
 #[unsafe(no_mangle)]
 pub extern "C" fn mulkavesh_sections(
     alloc: Global,
@@ -326,11 +326,11 @@ pub extern "C" fn mulkavesh_sections(
 ) -> u32
     ensures { Gives ⊤ (AnswersSections input.now) NoNumber output.old output.new length.new result }
 {
-    let made = walrus_tools::section_list(alloc, input);
+    let made = walrus_sections::section_list(alloc, input);
     put(Made::of(made), output, length)
 }
 
-/// The sections of a module and what stands in them, with the place and the size of each: `walrus_tools::part_list`.
+/// The sections of a module and what stands in them, with the place and the size of each: `walrus_sections::part_list`.
 #[unsafe(no_mangle)]
 pub extern "C" fn mulkavesh_parts(
     alloc: Global,
@@ -340,7 +340,7 @@ pub extern "C" fn mulkavesh_parts(
 ) -> u32
     ensures { Gives ⊤ (AnswersPartList input.now) NoNumber output.old output.new length.new result }
 {
-    let made = walrus_tools::part_list(alloc, input);
+    let made = walrus_sections::part_list(alloc, input);
     put(Made::of(made), output, length)
 }
 

@@ -20,3 +20,16 @@ pub mod WholeLemmas
 pub mod ListedRoots
 pub mod MoveLemmas
 pub mod StateLemmas
+pub mod FinishLemmas
+pub mod AnswerLemmas
+pub mod EditEnds
+pub mod FreeNames
+pub mod Base
+pub mod Contents
+pub mod Items
+pub mod Model
+pub mod Modules
+pub mod Theorem
+pub mod Forms
+pub mod Frames
+pub mod Operators

@@ -8,6 +8,7 @@
 pub mod below;
 mod command;
 mod device;
+mod finish;
 pub mod law;
 mod message;
 pub mod passes;
@@ -16,8 +17,11 @@ mod sections;
 mod slices;
 pub mod tool;
 mod transfer;
+mod wanted;
 mod work;
 
+pub use finish::finished;
+pub use finish::finished_ready;
 pub use sections::ListedSection;
 pub use sections::PlacesSection;
 pub use walrus_ir::CustomSectionKey;
@@ -149,4 +153,5 @@ pub use walrus_module::TypeIter;
 pub use walrus_module::UntypedCustomSectionId;
 pub use walrus_module::ValType;
 pub use walrus_module::Value;
+pub use wanted::Wanted;
 pub use wasm_opcodes::opcodes;

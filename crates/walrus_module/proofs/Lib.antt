@@ -28,3 +28,11 @@ pub mod Checked
 pub mod CheckedWell
 pub mod FirstRaw
 pub mod RawStays
+mod TakenRaws
+pub use Rattle.walrus_bodies.proofs.LawNamed
+pub use Rattle.walrus_bodies.proofs.MoreNames
+pub use Rattle.walrus_reading.proofs.AllHeld
+pub use Rattle.walrus_reading.proofs.EditedSlots
+pub use Rattle.walrus_writing.proofs.NamesLemmas
+pub use Rattle.walrus_writing.proofs.Parted
+pub use Rattle.wasm_frames.proofs.Modules

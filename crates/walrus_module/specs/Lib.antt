@@ -6,6 +6,7 @@ pub mod Edits
 pub mod Emission
 pub mod Entry
 pub mod Flags
+pub mod Flaws
 pub mod Following
 pub mod Imported
 pub mod Laws
@@ -24,3 +25,15 @@ pub mod Written
 pub mod OnlyMemory
 pub use Rattle.walrus_writing.specs.Emitted
 pub use Rattle.walrus_reading.specs.Parsed
+pub use Rattle.walrus_bodies.specs.Body
+pub use Rattle.walrus_bodies.specs.BodyRead
+pub use Rattle.walrus_bodies.specs.Emitting
+pub use Rattle.walrus_bodies.specs.FunctionTypes
+pub use Rattle.walrus_bodies.specs.declared.features.Features
+pub use Rattle.walrus_reading.specs.Faults
+pub use Rattle.walrus_reading.specs.Taken
+pub use Rattle.walrus_reading.specs.declared.faults.Fault
+pub use Rattle.walrus_writing.specs.Parts
+pub use Rattle.walrus_writing.specs.Transform
+pub use Rattle.wasm_frames.specs.Frames
+pub use Rattle.wasm_frames.specs.Record

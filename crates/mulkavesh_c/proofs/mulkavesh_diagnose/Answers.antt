@@ -1,7 +1,7 @@
 use Rattle.std.proofs.Common.{sym, ◌∙◌}
 use Rattle.walrus_tools.specs.Faults.{AnswersFault}
 use Rattle.walrus_tools.specs.Wanted.{config_wanted}
-use Rattle.walrus_tools.specs.declared.wanted.Wanted.{Wanted}
+use Rattle.walrus_tools.specs.WantedValue.{Wanted}
 use Rattle.mulkavesh_c.specs.Answer.{Answer}
 use Rattle.mulkavesh_c.proofs.AnswerLemmas.{gives_flagged}
 use Rattle.mulkavesh_c.proofs.mulkavesh_diagnose.Goals as goal

@@ -1,8 +1,8 @@
 use Rattle.std.proofs.Common.{refl, sym, ◌∙◌}
-use Rattle.walrus_tools.specs.Choice.{AllGo}
+use Rattle.walrus_sections.specs.Choice.{AllGo}
 use Rattle.walrus_tools.specs.TrapEdit.{AnswersMeant}
 use Rattle.walrus_tools.specs.Wanted.{config_wanted}
-use Rattle.walrus_tools.specs.declared.wanted.Wanted.{Wanted}
+use Rattle.walrus_tools.specs.WantedValue.{Wanted}
 use Rattle.mulkavesh_c.specs.Answer.{Answer}
 use Rattle.mulkavesh_c.specs.Flags.{is_known, wanted}
 use Rattle.mulkavesh_c.specs.Names.{UnderTexts}

@@ -1,12 +1,11 @@
 //! What the program does, from bytes to bytes: a module without what nothing reaches, as its words ask for.
 
 ghost use Rattle.walrus.specs.Headline.{RunsOn};
-ghost use Rattle.walrus_tools.specs.Wanted.{config_wanted};
+ghost use Rattle.walrus.specs.Wanted.{config_wanted};
 
-use crate::wanted::Wanted;
 use std::alloc::Global;
 use walrus::tool::smaller_of;
-use walrus::{ModuleConfig, Result};
+use walrus::{ModuleConfig, Result, Wanted};
 
 /// The bytes of the module without what nothing reaches.
 ///

@@ -2,16 +2,15 @@
 
 ghost use Rattle.walrus_tools.specs.FunctionMeaning.{texts};
 ghost use Rattle.walrus_tools.specs.TrapEdit.{RefusesMeant, SnipsMeant};
-ghost use Rattle.walrus_tools.specs.Wanted.{config_wanted};
+ghost use Rattle.walrus.specs.Wanted.{config_wanted};
 ghost use Rattle.walrus_tools.specs.Weigh.{AnswersWeighed};
 
 use crate::function_meaning::Meant;
 use crate::kinds::kinds_of;
 use crate::trap_bodies::trap_meant;
-use crate::wanted::Wanted;
 use crate::weigh::{Smaller, finished_weighed};
 use std::alloc::Global;
-use walrus::{ModuleConfig, Result};
+use walrus::{ModuleConfig, Result, Wanted};
 
 /// The bytes that [`snip_functions`](crate::snip_functions) makes, and what is told of them: how many items and bytes were read, and how many are
 /// left. The body of a function that traps now and stays isn't counted as dropped.

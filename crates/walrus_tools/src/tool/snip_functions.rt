@@ -2,14 +2,12 @@
 
 ghost use Rattle.walrus_tools.specs.FunctionMeaning.{texts};
 ghost use Rattle.walrus_tools.specs.TrapEdit.{AnswersMeant};
-ghost use Rattle.walrus_tools.specs.Wanted.{config_wanted};
+ghost use Rattle.walrus.specs.Wanted.{config_wanted};
 
-use crate::finish::finished_ready;
 use crate::function_meaning::Meant;
 use crate::trap_bodies::trap_meant;
-use crate::wanted::Wanted;
 use std::alloc::Global;
-use walrus::{ModuleConfig, Result};
+use walrus::{ModuleConfig, Result, Wanted, finished_ready};
 
 /// The bytes of the module where each function that one of these texts means traps at once, under its own id, so that whoever calls it
 /// traps; then without what nothing reaches. For a name without a star the functions and the exports are walked once each, and so they are for

@@ -1,4 +1,4 @@
-use Rattle.walrus_tools.specs.Wanted.{config_wanted}
+use Rattle.walrus.specs.Wanted.{config_wanted}
 use Rattle.walrus_tools.proofs.FaultEnds.{found_so}
 use Rattle.walrus_tools.proofs.tool.diagnose.diagnose.Goals as goal
 

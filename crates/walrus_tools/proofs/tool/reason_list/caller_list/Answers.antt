@@ -1,9 +1,9 @@
 use Rattle.std.proofs.Common.{List, map, subst, sym}
 use Rattle.std.proofs.lemmas.Result.{err_from_is_err_and}
-use Rattle.walrus_tools.specs.Choice.{choices_seen}
+use Rattle.walrus_sections.specs.Choice.{choices_seen}
 use Rattle.walrus_tools.specs.Links.{link_seen}
 use Rattle.walrus_tools.specs.ReasonAnswers.{AreAsked}
-use Rattle.walrus_tools.specs.Wanted.{config_wanted}
+use Rattle.walrus.specs.Wanted.{config_wanted}
 use Rattle.walrus_tools.specs.declared.links.Link.{Link}
 use Rattle.walrus_tools.proofs.ReasonSpelled.{callers_refused, callers_spelled}
 use Rattle.walrus_tools.proofs.tool.reason_list.caller_list.Goals as goal

@@ -1,7 +1,7 @@
 use Rattle.std.proofs.lemmas.Result.{err_from_is_err_and}
-use Rattle.walrus_tools.specs.Choice.{choices_seen}
+use Rattle.walrus_sections.specs.Choice.{choices_seen}
 use Rattle.walrus_tools.specs.ReasonBytes.{reason_seen}
-use Rattle.walrus_tools.specs.Wanted.{config_wanted}
+use Rattle.walrus.specs.Wanted.{config_wanted}
 use Rattle.walrus_tools.proofs.ReasonSpelled.{reason_refused, reason_spelled}
 use Rattle.walrus_tools.proofs.tool.reason_list.reason_list.Goals as goal
 

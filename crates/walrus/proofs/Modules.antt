@@ -1,0 +1,21 @@
+-- Lemmas of `walrus_module`, for those who stand on this crate.
+pub use Rattle.walrus_module.proofs.AllHeld
+pub use Rattle.walrus_module.proofs.CountedBodies
+pub use Rattle.walrus_module.proofs.EditedCustoms
+pub use Rattle.walrus_module.proofs.EditedExports
+pub use Rattle.walrus_module.proofs.EditedFunctions
+pub use Rattle.walrus_module.proofs.EditedItems
+pub use Rattle.walrus_module.proofs.EditedReplaced
+pub use Rattle.walrus_module.proofs.EditedSlots
+pub use Rattle.walrus_module.proofs.Emission
+pub use Rattle.walrus_module.proofs.FirstRaw
+pub use Rattle.walrus_module.proofs.FollowedSlots
+pub use Rattle.walrus_module.proofs.KeptRaw
+pub use Rattle.walrus_module.proofs.LawNamed
+pub use Rattle.walrus_module.proofs.MoreNames
+pub use Rattle.walrus_module.proofs.NamesLemmas
+pub use Rattle.walrus_module.proofs.OwnSections
+pub use Rattle.walrus_module.proofs.Parted
+pub use Rattle.walrus_module.proofs.RawStays
+pub use Rattle.walrus_module.proofs.ReplacedLemmas
+pub use Rattle.walrus_module.proofs.WrittenSections

@@ -1,0 +1,34 @@
+-- Words of `walrus_items`, for those who stand on this crate.
+pub use Rattle.walrus_items.specs.Data
+pub use Rattle.walrus_items.specs.Elements
+pub use Rattle.walrus_items.specs.Errors
+pub use Rattle.walrus_items.specs.Exports
+pub use Rattle.walrus_items.specs.Function
+pub use Rattle.walrus_items.specs.FunctionKinds
+pub use Rattle.walrus_items.specs.Functions
+pub use Rattle.walrus_items.specs.Globals
+pub use Rattle.walrus_items.specs.Held
+pub use Rattle.walrus_items.specs.Imports
+pub use Rattle.walrus_items.specs.Items
+pub use Rattle.walrus_items.specs.Kinds
+pub use Rattle.walrus_items.specs.LendsItem
+pub use Rattle.walrus_items.specs.LocalFunction
+pub use Rattle.walrus_items.specs.Memories
+pub use Rattle.walrus_items.specs.Roots
+pub use Rattle.walrus_items.specs.Searches
+pub use Rattle.walrus_items.specs.Seen
+pub use Rattle.walrus_items.specs.Tables
+pub use Rattle.walrus_items.specs.Tags
+pub use Rattle.walrus_items.specs.Transform
+pub use Rattle.walrus_items.specs.declared.custom.CustomSection
+pub use Rattle.walrus_items.specs.declared.error.Error
+pub use Rattle.walrus_items.specs.declared.error.ErrorKind
+pub use Rattle.walrus_items.specs.declared.function_kind.FunctionKind
+pub use Rattle.walrus_items.specs.declared.function_kind.ImportedFunction
+pub use Rattle.walrus_items.specs.declared.functions.Function as FunctionValue
+pub use Rattle.walrus_items.specs.declared.kinds.ExportItem
+pub use Rattle.walrus_items.specs.declared.kinds.ImportKind
+pub use Rattle.walrus_items.specs.declared.raw_section.RawCustomSection
+pub use Rattle.walrus_items.specs.declared.segments.DataKind
+pub use Rattle.walrus_items.specs.declared.segments.ElementKind
+pub use Rattle.walrus_items.specs.declared.transform.CodeTransform

@@ -1,0 +1,25 @@
+-- Words of `walrus_model`, for those who stand on this crate.
+pub use Rattle.walrus_model.specs.Abstract
+pub use Rattle.walrus_model.specs.BlockHandlers
+pub use Rattle.walrus_model.specs.BodyRead
+pub use Rattle.walrus_model.specs.Config
+pub use Rattle.walrus_model.specs.Customs
+pub use Rattle.walrus_model.specs.Dead
+pub use Rattle.walrus_model.specs.EmittedBody
+pub use Rattle.walrus_model.specs.Kept
+pub use Rattle.walrus_model.specs.Live
+pub use Rattle.walrus_model.specs.Names
+pub use Rattle.walrus_model.specs.Order
+pub use Rattle.walrus_model.specs.Out
+pub use Rattle.walrus_model.specs.Pipeline
+pub use Rattle.walrus_model.specs.Reached
+pub use Rattle.walrus_model.specs.ReadFunction
+pub use Rattle.walrus_model.specs.Reads
+pub use Rattle.walrus_model.specs.Refers
+pub use Rattle.walrus_model.specs.Renaming
+pub use Rattle.walrus_model.specs.Roots
+pub use Rattle.walrus_model.specs.Rules
+pub use Rattle.walrus_model.specs.Same
+pub use Rattle.walrus_model.specs.Sections
+pub use Rattle.walrus_model.specs.Transform
+pub use Rattle.walrus_model.specs.WellMade
