@@ -70,6 +70,16 @@ def faults_of_sources():
         yield "RULE" + re.sub(r"([A-Z])", r"_\1", name).upper(), int(number)
 
 
+# What the header calls a cause that isn't a rule.
+CAUSES = {"DeadItem": "GONE", "TwoIndices": "TWO_INDICES", "NoIndex": "NO_INDEX", "NotWritable": "NO_SPELLING"}
+
+
+def causes_of_sources():
+    """Why what edits left can't be written, beside the rules, by the names that the header gives them."""
+    for name, number in re.findall(r"Error::(\w+) => (\d+),", read("crates", "walrus_module", "src", "flaw.rt") or ""):
+        yield f"CAUSE_{CAUSES[name]}", int(number)
+
+
 def items_of_sources():
     """The kinds of items, those of exports and imports, and what makes an item a root, by the names that the header gives them."""
     tools = ("crates", "walrus_tools", "src")
@@ -85,7 +95,7 @@ def constants_of_sources():
     text = "".join(path.read_text(encoding="utf-8") for path in sorted((CRATES / CRATE / "src").glob("*.rt")))
     text += read("crates", "walrus_sections", "src", "tool", "section_parts.rt")
     named = {name: int(number) for name, number in re.findall(r"const (\w+): u(?:8|32) = (\d+);", text)}
-    return {**named, **dict(items_of_sources()), **dict(faults_of_sources())}
+    return {**named, **dict(items_of_sources()), **dict(faults_of_sources()), **dict(causes_of_sources())}
 
 
 def constants_of_header(text):

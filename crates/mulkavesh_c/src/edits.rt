@@ -1,7 +1,7 @@
 //! What a list of edits comes to that is refused: its status, and the number that is told as the length.
 
 use crate::answer::{refused, status_of};
-use walrus_edits::{Cause, Refusal};
+use walrus_edits::{Flaw, Refusal};
 use walrus_tools::Error;
 
 /// An edit isn't of its form, or can't be made of what the ones before it left; how many these are is told.
@@ -24,17 +24,24 @@ fn refuse_edit(applied: usize, error: &Error, length: &mut usize) -> u32 {
     status
 }
 
+// The status where this is wrong with what all edits left.
+fn status_of_flaw(flaw: &Flaw) -> u32 {
+    match flaw {
+        Flaw::Form(Error::TooLarge) => status_of(&Error::TooLarge),
+        Flaw::Form(Error::Memory(error)) => status_of(&Error::Memory(*error)),
+        _ => BAD_MODULE,
+    }
+}
+
 /// Nothing is written: this is why.
 pub(crate) fn refuse(refusal: &Refusal, length: &mut usize) -> u32 {
     match refusal {
         Refusal::Input(error) => refused(length, status_of(error)),
         Refusal::Edit(applied, error) => refuse_edit(*applied, error, length),
-        Refusal::Whole(cause) => refuse_whole(cause, length),
+        Refusal::Whole(flaw) => {
+            // None where memory ran out, or what is left is too large.
+            *length = flaw.number() as usize;
+            status_of_flaw(flaw)
+        }
     }
 }
-
-// What is told of a cause: the rules have the numbers of what is wrong with bytes, and the others those behind them.
-const CAUSE_GONE: u32 = 11;
-const CAUSE_TWO_INDICES: u32 = 12;
-const CAUSE_NO_INDEX: u32 = 13;
-const CAUSE_NO_SPELLING: u32 = 14;
