@@ -1,5 +1,8 @@
 //! What a list of edits comes to that is refused: its status, and the number that is told as the length.
 
+ghost use Rattle.std.specs.Prelude.{◌≡◌};
+ghost use Rattle.mulkavesh_c.specs.Edits.{status_of_edit, status_of_flaw, status_of_refusal, told_of_edit, told_of_refusal};
+
 use crate::answer::{refused, status_of};
 use walrus_edits::{Flaw, Refusal};
 use walrus_tools::Error;
@@ -10,7 +13,9 @@ const BAD_EDIT: u32 = 7;
 const BAD_MODULE: u32 = 8;
 
 // The status of an edit that is refused.
-fn status_of_edit(error: &Error) -> u32 {
+fn status_of_edit(error: &Error) -> u32
+    ensures { result ≡ status_of_edit error.now }
+{
     match error {
         Error::TooLarge | Error::Memory(_) => status_of(error),
         _ => BAD_EDIT,
@@ -18,14 +23,21 @@ fn status_of_edit(error: &Error) -> u32 {
 }
 
 // An edit is refused, and so many before it were made.
-fn refuse_edit(applied: usize, error: &Error, length: &mut usize) -> u32 {
-    let status = status_of_edit(error);
-    *length = if status == BAD_EDIT { applied } else { 0 };
-    status
+fn refuse_edit(applied: usize, error: &Error, length: &mut usize) -> u32
+    ensures status { result ≡ status_of_edit error.now }
+    ensures told { length.new ≡ told_of_edit applied error.now }
+{
+    *length = match error {
+        Error::TooLarge | Error::Memory(_) => 0,
+        _ => applied,
+    };
+    status_of_edit(error)
 }
 
 // The status where this is wrong with what all edits left.
-fn status_of_flaw(flaw: &Flaw) -> u32 {
+fn status_of_flaw(flaw: &Flaw) -> u32
+    ensures { result ≡ status_of_flaw flaw.now }
+{
     match flaw {
         Flaw::Form(Error::TooLarge) => status_of(&Error::TooLarge),
         Flaw::Form(Error::Memory(error)) => status_of(&Error::Memory(*error)),
@@ -34,7 +46,10 @@ fn status_of_flaw(flaw: &Flaw) -> u32 {
 }
 
 /// Nothing is written: this is why.
-pub(crate) fn refuse(refusal: &Refusal, length: &mut usize) -> u32 {
+pub(crate) fn refuse(refusal: &Refusal, length: &mut usize) -> u32
+    ensures status { result ≡ status_of_refusal refusal.now }
+    ensures told { length.new ≡ told_of_refusal refusal.now }
+{
     match refusal {
         Refusal::Input(error) => refused(length, status_of(error)),
         Refusal::Edit(applied, error) => refuse_edit(*applied, error, length),

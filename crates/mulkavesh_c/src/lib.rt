@@ -27,14 +27,17 @@ ghost use Rattle.walrus_sections.specs.StripAnswers.{AnswersStripped};
 ghost use Rattle.walrus_tools.specs.StubMatching.{AnswersMatching};
 ghost use Rattle.walrus_tools.specs.TrapEdit.{AnswersMeant};
 ghost use Rattle.walrus_tools.specs.Wanted.{config_wanted};
+ghost use Rattle.walrus_edits.specs.Edited.{AnswersEdit};
+ghost use Rattle.walrus_edits.specs.Items.{AnswersItems};
 ghost use Rattle.mulkavesh_c.specs.Answer.{Gives, NoNumber};
 ghost use Rattle.mulkavesh_c.specs.ChosenRoots.{GivesChosen};
-ghost use Rattle.mulkavesh_c.specs.Flags.{IsKnown, wanted};
+ghost use Rattle.mulkavesh_c.specs.Edits.{GivesEdited};
+ghost use Rattle.mulkavesh_c.specs.Flags.{IsKnown, IsKnownOfEdits, collects, wanted};
 ghost use Rattle.mulkavesh_c.specs.Names.{AreLists, UnderChoices, UnderLists, UnderTexts};
 ghost use Rattle.mulkavesh_c.specs.Questions.{AnswersCallers, AnswersLines, AnswersTo, AnswersWhy};
 
 use crate::answer::{Made, UNKNOWN_FLAG, put, refused};
-use crate::flags::{edit_wanted_by, wanted_by};
+use crate::flags::{collects, edit_wanted_by, wanted_by};
 use crate::question::Question;
 use std::alloc::Global;
 use walrus_sections::{all_go, are_choices};
@@ -403,7 +406,10 @@ pub extern "C" fn mulkavesh_read(
     flags: u32,
     output: &mut [u8],
     length: &mut usize,
-) -> u32 {
+) -> u32
+    ensures { Gives (IsKnown flags) (AnswersItems (config_wanted (wanted flags)) input.now) NoNumber
+        output.old output.new length.new result }
+{
     let Some(wanted) = wanted_by(flags) else {
         return refused(length, UNKNOWN_FLAG);
     };
@@ -420,11 +426,15 @@ pub extern "C" fn mulkavesh_edit(
     edits: &[u8],
     output: &mut [u8],
     length: &mut usize,
-) -> u32 {
-    let Some((wanted, collects)) = edit_wanted_by(flags) else {
+) -> u32
+    ensures { GivesEdited (IsKnownOfEdits flags)
+        (AnswersEdit (config_wanted (wanted flags)) (collects flags) input.now edits.now)
+        output.old output.new length.new result }
+{
+    let Some(wanted) = edit_wanted_by(flags) else {
         return refused(length, UNKNOWN_FLAG);
     };
-    match walrus_edits::edit(alloc, input, edits, wanted, collects) {
+    match walrus_edits::edit(alloc, input, edits, wanted, collects(flags)) {
         Ok(bytes) => put(Made::of(Ok(bytes)), output, length),
         Err(refusal) => edits::refuse(&refusal, length),
     }
