@@ -8,6 +8,8 @@ Each function is a call of the shared library libmulkavesh.so, goes from the byt
 nothing. The library is looked for as this file is imported: in the folder that the environment variable MULKAVESH_LIB names; where that
 isn't set, beside this file, in crates/mulkavesh_c/out/lib of the repository, and where the system has its libraries.
 
+`mulkavesh.module` reads a module into items that a program changes, over the calls `read` and `edit`.
+
 A module or a name may be `bytes`, a `bytearray` or a `memoryview`. `bytes` are lent to the library as they are; the others are copied
 first, so that nothing can change them during the call. Other threads go on meanwhile, and may call too. In a child that was forked from
 a process with threads no call may be made (`multiprocessing` with the start method "fork").
@@ -32,9 +34,9 @@ from dataclasses import dataclass
 from typing import Any, Dict, Iterable, Iterator, List, Optional, Sequence, Tuple, Type, Union
 
 __all__ = [
-    "Alone", "Beginning", "Counts", "Export", "Fault", "FaultKind", "Function", "Import", "InvalidModule", "Item", "Link", "MulkaveshError", "NotFound", "Reason",
-    "Report", "Root", "Rule", "Section", "Sections", "Sizes", "TooLarge", "callers", "diagnose", "dropped", "exports", "gc", "imports", "list_functions", "parts",
-    "report", "sections", "snip", "strip", "stub", "version", "why",
+    "Alone", "BadEdit", "BadModule", "Beginning", "Cause", "Counts", "Export", "Fault", "FaultKind", "Function", "Import", "InvalidModule", "Item", "Link",
+    "MulkaveshError", "NotFound", "Reason", "Report", "Root", "Rule", "Section", "Sections", "Sizes", "TooLarge", "callers", "diagnose", "dropped", "edit", "exports",
+    "gc", "imports", "list_functions", "parts", "read", "report", "sections", "snip", "strip", "stub", "version", "why",
 ]
 
 Bytes = Union[bytes, bytearray, memoryview]
@@ -52,6 +54,8 @@ class Status(enum.IntEnum):
     NO_ROOM = 4
     UNKNOWN_FLAG = 5
     NOT_FOUND = 6
+    BAD_EDIT = 7
+    BAD_MODULE = 8
 
 
 class MulkaveshError(Exception):
@@ -83,6 +87,24 @@ class NotFound(MulkaveshError):
     def __init__(self, text: str = "", name: Optional[Name] = None) -> None:
         super().__init__(text)
         self.name = name
+
+
+class BadEdit(MulkaveshError):
+    """An edit isn't of its form, names what isn't there, has a body that isn't well formed, brings what is imported, or is a front of what has no body. `made` edits in
+    front of it can be made.
+    """
+
+    def __init__(self, text: str, made: int) -> None:
+        super().__init__(text)
+        self.made = made
+
+
+class BadModule(MulkaveshError):
+    """All edits can be made, and what they leave can't be written. `cause` says why: the `Rule` that is broken, or a `Cause`."""
+
+    def __init__(self, text: str, cause: Union["Rule", "Cause"]) -> None:
+        super().__init__(text)
+        self.cause = cause
 
 
 @dataclass(frozen=True)
@@ -290,6 +312,15 @@ class Rule(enum.IntEnum):
     LOCALS = 10
 
 
+class Cause(enum.IntEnum):
+    """Why what edits left can't be written, beside that it breaks a rule."""
+
+    GONE = 11
+    TWO_INDICES = 12
+    NO_INDEX = 13
+    NO_SPELLING = 14
+
+
 # What is said of bytes that don't begin as a module, behind that they don't.
 _BEGINS: Dict[Beginning, str] = {
     Beginning.OTHER: "",
@@ -317,6 +348,14 @@ _BROKEN: Dict[Rule, str] = {
     Rule.START: "the start function has parameters or results",
     Rule.OFFSETS: "the offset of a segment isn't of the type of addresses",
     Rule.LOCALS: "a body declares more than 50,000 locals",
+}
+
+# What is said of what edits left.
+_CAUSES: Dict[Cause, str] = {
+    Cause.GONE: "it names an item that is gone",
+    Cause.TWO_INDICES: "an item stands in it twice",
+    Cause.NO_INDEX: "it names an item that stands nowhere",
+    Cause.NO_SPELLING: "a body or an expression can't be spelled",
 }
 
 
@@ -365,13 +404,15 @@ _BETWEEN: Dict[str, Tuple[Any, ...]] = {
     "sections": (),
     "parts": (),
     "strip": _READ,
+    "read": _FLAGS,
+    "edit": (*_FLAGS, *_READ),
 }
 
 
 def _path() -> str:
     """Where the library is."""
     here, named = pathlib.Path(__file__).resolve().parent, os.environ.get("MULKAVESH_LIB")
-    folders = [pathlib.Path(named)] if named else [here, here.parent / "crates" / "mulkavesh_c" / "out" / "lib"]
+    folders = [pathlib.Path(named)] if named else [here, here.parent.parent / "crates" / "mulkavesh_c" / "out" / "lib"]
     for folder in folders:
         if (folder / _LIBRARY).is_file():
             return str(folder / _LIBRARY)
@@ -401,7 +442,7 @@ def _loaded() -> ctypes.CDLL:
     except (OSError, AttributeError) as error:
         raise ImportError(f"{path} can't be used: {error}") from error
     if (major, minor) != _VERSION:
-        raise ImportError(f"{path} is of version {major}.{minor}, and mulkavesh.py is for {_VERSION[0]}.{_VERSION[1]}")
+        raise ImportError(f"{path} is of version {major}.{minor}, and this package is for {_VERSION[0]}.{_VERSION[1]}")
     return library
 
 
@@ -419,7 +460,7 @@ _ROOM_OF_SECTIONS = 1024
 # What is wrong, and the place, the rule or the index.
 _FAULT = struct.Struct("<II")
 # The flags.
-_NO_NAMES, _NO_PRODUCERS, _NO_LEGACY = 1, 2, 4
+_NO_NAMES, _NO_PRODUCERS, _NO_LEGACY, _GC = 1, 2, 4, 8
 # The numbers in front of each name in a list, and what stands there for the length of a name, or for a size, that isn't there.
 _ENTRY, _NO_NAME = struct.Struct("<III"), 2**32 - 1
 # What stands in front of the names of an export or an import; in front of a text; and in front of a reason and of the name of a link.
@@ -503,8 +544,20 @@ def _answer(
         raise NotFound(f"no export fits {roots[length]!r}", roots[length])
     if status == Status.NOT_FOUND:
         raise NotFound(missing)
+    if status == Status.BAD_EDIT:
+        raise BadEdit(f"edit {length}, counted from 0, isn't of its form, or can't be made of what those in front of it left", length)
+    if status == Status.BAD_MODULE:
+        raise _bad_module(length)
     kind, text = _REFUSALS.get(status, (MulkaveshError, f"the library answered status {status}"))
     raise kind(text)
+
+
+def _bad_module(number: int) -> BadModule:
+    """The refusal of what edits left, for the cause of this number."""
+    front = "the changed module is invalid: "
+    if number in _CAUSES:
+        return BadModule(front + _CAUSES[Cause(number)], Cause(number))
+    return BadModule(front + _BROKEN[Rule(number)], Rule(number))
 
 
 def _list(*names: Tuple[Sequence[Name], bool]) -> bytes:
@@ -750,3 +803,20 @@ def stub(module: Bytes, *modules: Name, imports: Names = (), names: bool = True,
     chosen, named = _list((modules, False)), _list((some, False))
     missing = _fits("no function is imported from", modules) + (_fits(" as", some) if some else "")
     return _answer("stub", module, flags, chosen, len(chosen), named, len(named), missing=missing, legacy=legacy)
+
+
+def read(module: Bytes, *, legacy: bool = True) -> bytes:
+    """The items of a module, each with its id, as records: docs/FORMATS.md, "A list of items". `mulkavesh.module` reads them into items."""
+    return _answer("read", module, _flags(True, True, legacy), legacy=legacy)
+
+
+def edit(
+    module: Bytes, edits: Bytes, *, gc: bool = False, names: bool = True, producers: bool = True, legacy: bool = True
+) -> bytes:
+    """The module that a list of edits makes of it, each in its turn: docs/FORMATS.md, "A list of edits". With `gc`, what nothing reaches then goes. `mulkavesh.module`
+    makes lists.
+
+    `BadEdit` where one is refused, `BadModule` where what all of them left is.
+    """
+    flags, given = _flags(names, producers, legacy) | (_GC if gc else 0), _whole(edits)
+    return _answer("edit", module, flags, given, len(given), room=len(module) + len(given) + _MARGIN, legacy=legacy)
