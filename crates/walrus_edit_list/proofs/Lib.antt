@@ -1,28 +1,25 @@
-pub mod EditRows
-pub mod FineItems
-mod FineSlots
-mod Places
-pub mod FineSegments
-mod Found
-mod Numbered
 mod BodiesKept
 mod Counting
+pub mod EditRows
+mod Exporting
 mod FineFronts
 mod FineFunctions
+pub mod FineItems
+pub mod FineSegments
+mod FineSlots
+mod Folding
+mod Found
 mod FrontFormed
 mod FrontNamed
 mod FrontNests
 mod FunctionRefusals
+mod Keeping
+mod Numbered
 mod ParsedFormed
+mod Places
 mod ReadFormed
 mod Refusing
-mod SegmentSets
-mod Turns
 pub mod RefusingBodies
-mod Exporting
-pub mod FineItems
-mod FineSlots
-mod Places
-mod Folding
-mod Keeping
+mod SegmentSets
 mod TagsKept
+mod Turns
