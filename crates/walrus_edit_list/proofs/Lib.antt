@@ -1,6 +1,7 @@
 pub mod EditRows
 pub mod FineSegments
 mod Found
+mod Importing
 mod Numbered
 mod BodiesKept
 mod Counting
