@@ -2,7 +2,7 @@ use Rattle.std.proofs.Common.{List, ap}
 use Rattle.std.specs.Prelude.{ℕ, Option}
 use Rattle.walrus_base.specs.Id.{place}
 use Rattle.walrus_items.specs.Globals.{global_value}
-use Rattle.walrus_edit_list.specs.Naming.{name_given}
+use Rattle.walrus_edit_list.specs.Edits.{name_given}
 use Rattle.walrus_edit_list.proofs.Places.{changed}
 use Rattle.walrus_edit_list.proofs.names.name_global.Goals as goal
 
