@@ -38,7 +38,7 @@ use Rattle.walrus_edit_list.specs.Held.{Held}
 use Rattle.walrus_edit_list.specs.Ids.{given, ids_of, tag_types}
 use Rattle.walrus_edit_list.specs.Types.{AddsTypes}
 use Rattle.walrus_edit_list.proofs.BodiesKept.{Said, added_kept, all_kept, said_of, set_kept}
-use Rattle.walrus_edit_list.proofs.ReadFormed.{formed, reads_grow}
+use Rattle.walrus_edit_list.proofs.ReadFormed.{formed_by, reads_grow}
 
 pub local_is : (l made : LocalFunction) → kinds.Local made ≡ kinds.Local l → made ≡ l
 local_is l made same = cc
@@ -105,6 +105,14 @@ below_is n found false is = absurd (cc)
 pub ids_in_place : (m : Contents) (space : Space) (n found : ℕ) → ids_of m space n ≡ Some found → found ≡ n
 ids_in_place m space n found is = below_is n found (nat_lt n (given m space)) is
 
+-- bodies are formed still, where types, functions and locals are what they were
+pub same_formed : (c : Config) (a b : Contents) → b.types ≡ a.types → b.funcs ≡ a.funcs → b.locals ≡ a.locals → AreFormed c (contents_view a) → AreFormed c (contents_view b)
+same_formed c a b types funcs all was =
+    subst (λ slots. (i : ℕ) → Said (IsFormed c (contents_view b)) b.locals (item_at slots i)) (sym (ap functions funcs))
+    (all_kept (IsFormed c (contents_view a)) (IsFormed c (contents_view b)) a.locals b.locals
+    (still_formed c a b ([], ap type_slots types ∙ sym (append-nil (type_slots a.types))) ([], ap locals all ∙ sym (append-nil (locals a.locals))))
+    (functions a.funcs) was)
+
 -- ---- a body that was read
 
 module _ (c : Config) (ty : ℕ) (code : List ℕ) (old new : Contents) (made : LocalFunction) (r : IsReadAs (features_of c) ty code old new made) where
@@ -112,8 +120,7 @@ module _ (c : Config) (ty : ℕ) (code : List ℕ) (old new : Contents) (made : 
   locals_stay = (new_locals r.read.ids (r.read.params ++ r.read.declared), r.read.added.added)
 
   pub read_formed : IsFormed c (contents_view new) ty (body new.locals made)
-  unfolding formed
-  read_formed = (formed c (contents_view new) old.locals new.locals old.types new.types (ids_of old) (tag_types old.tags) ty code made r.types_stay (λ t. refl) r.typed r.read, ids_in_place old)
+  read_formed = formed_by c (contents_view new) old.locals new.locals old.types new.types (ids_of old) (tag_types old.tags) ty code made r.types_stay (λ t. refl) r.typed r.read (ids_in_place old)
 
   -- of a function with this body it is said
   pub body_formed : (g : FunctionValue) → g.kind ≡ kinds.Local made → Said (IsFormed c (contents_view new)) new.locals (Some g)

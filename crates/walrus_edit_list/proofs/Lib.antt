@@ -10,6 +10,8 @@ mod FineFunctions
 mod FrontFormed
 mod FrontNamed
 mod FrontNests
+mod FunctionRefusals
+mod ParsedFormed
 mod ReadFormed
 mod Refusing
 mod SegmentSets

@@ -12,7 +12,7 @@ use Rattle.walrus_base.specs.Arena.{item_at}
 use Rattle.walrus_base.specs.Id.{place}
 use Rattle.walrus_base.specs.Locals.{locals}
 use Rattle.walrus_base.specs.ModuleTypes.{type_slots}
-use Rattle.walrus_base.specs.Operators.{OfType, NoResult, OneResult, Arg, Block, Index, Access, Value, Heap, Label, Local, Number, Count, Byte, S32, S64, Bits32, Bits64, Op}
+use Rattle.walrus_base.specs.Operators.{Space, OfType, NoResult, OneResult, Arg, Block, Index, Access, Value, Heap, Label, Local, Number, Count, Byte, S32, S64, Bits32, Bits64, Op}
 use Rattle.walrus_base.specs.TypeDef.{TypeDef}
 use Rattle.walrus_base.specs.Types.{CompType, ValType, Func, Struct, Array}
 use Rattle.walrus_base.specs.Value.{val_type}
@@ -38,11 +38,11 @@ use Rattle.walrus_reading.proofs.DeclaredLocals.{range_apart}
 use Rattle.walrus_reading.proofs.EditedLocals.{new_typed}
 use Rattle.walrus_theorem.specs.Features.{features_of}
 use Rattle.walrus_theorem.specs.WellMade.{IsWellFormed}
-use Rattle.walrus_edit_list.specs.Formed.{ReadIsFormed}
+use Rattle.walrus_edit_list.specs.Formed.{IsFormed, ReadIsFormed}
 
 -- ---- lists
 
-range_both : (first n m : ℕ) → range_with_len first n ++ range_with_len (first + n) m ≡ range_with_len first (n + m)
+pub range_both : (first n m : ℕ) → range_with_len first n ++ range_with_len (first + n) m ≡ range_with_len first (n + m)
 range_both first zero m =
     let from : first + 0 ≡ first = omega arith in
     let count : 0 + m ≡ m = omega arith in
@@ -160,7 +160,7 @@ module _ (c : Config) (w : Abstract) (old new : ModuleLocals) (old_types new_typ
       (length-map (range_with_len a n) T ∙ length-range_with_len a n ∙ sym (length-map r.params val_type) ∙ sym (length-map (map val_type r.params) (λ (t : ValType ℕ). Some t)))
       all_typed
 
-  unfoldable pub formed : IsWellFormed c w ty (body new f)
+  pub formed : IsWellFormed c w ty (body new f)
   formed = record {
     function_type = is_type w ty (item_at (type_slots old_types) ty) (stays ty typed) typed;
     distinct = subst (λ (xs : List ℕ). AllPairs (λ (x : ℕ) (y : ℕ). x ≢ y) xs) (sym r.parameters) (range_apart a n);
@@ -174,6 +174,11 @@ module _ (c : Config) (w : Abstract) (old new : ModuleLocals) (old_types new_typ
         (sym (ap (λ (xs : List ℕ). xs ++ range_with_len (a + n) m) r.parameters ∙ range_both a n m))
         (reads_grow (is_function_at old_types) (λ t. is_function_def (w.types t)) grows names (features_of c) (locals_from a (n + m)) bytes (map val_type r.declared) (body_of f) r.reads);
   }
+
+  -- each index is the id of what it names, if the look-up says so
+  pub formed_by : ((space : Space) (index id : ℕ) → names space index ≡ Some id → id ≡ index) → IsFormed c w ty (body new f)
+  unfolding formed
+  formed_by own = (formed, own)
 
 pub read_formed : ReadIsFormed
 read_formed c w old new old_types new_types names tags ty bytes f grown here typed r = formed c w old new old_types new_types names tags ty bytes f grown here typed r

@@ -80,6 +80,21 @@ module _ (names : Lookup) (tags : ℕ → Option ℕ) (f : Features) (ty : ℕ) 
   RefusesBody types all (InvalidWasm kind) = (MOST_LOCALS < declared_count code) ⊎ IsNoBody types all
   RefusesBody types all _ = ⊥
 
+-- ---- the import of a function
+
+-- the import that brings a function, by its place
+abbrev pub brought_by : FunctionKind → Option ℕ
+brought_by (Import i) = Some (place i.«import»)
+brought_by (Local l) = None
+brought_by (Uninitialized ty) = None
+
+-- the imports without this one, if it is told
+abbrev pub without : Option ℕ → List (Option ImportValue) → List (Option ImportValue)
+without None all = all
+without (Some i) all = slice_set all i None
+
+-- ---- in a module
+
 module _ (f : Features) where
   -- so the bytes were read in a module, where each id is its index
   abbrev pub IsReadAs : (ty : ℕ) (code : List ℕ) (old new : Contents) → LocalFunction → Type 0
@@ -104,17 +119,6 @@ module _ (f : Features) where
 
   abbrev pub RefusesFunction : (ty : ℕ) (code : List ℕ) → Held → Error → Type 0
   RefusesFunction ty code old e = RefusesRead ty code old.contents e
-
-  -- the import that brings a function, by its place
-  abbrev pub brought_by : FunctionKind → Option ℕ
-  brought_by (Import i) = Some (place i.«import»)
-  brought_by (Local l) = None
-  brought_by (Uninitialized ty) = None
-
-  -- the imports without this one, if it is told
-  abbrev pub without : Option ℕ → List (Option ImportValue) → List (Option ImportValue)
-  without None all = all
-  without (Some i) all = slice_set all i None
 
   -- the function of this id has this body; its type and its name stay, and the import that brought it, if one did, is gone
   pub record SetsFunction (id : ℕ) (code : List ℕ) (old new : Held) : Type 0 where

@@ -7,6 +7,7 @@ pub mod Edits
 pub mod Elements
 pub mod Exports
 pub mod Fine
+pub mod Formed
 pub mod Fronts
 pub mod Functions
 pub mod Globals
@@ -23,4 +24,3 @@ pub mod SegmentSets
 pub mod Start
 pub mod Turns
 pub mod Types
-pub mod Formed

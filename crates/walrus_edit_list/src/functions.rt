@@ -61,21 +61,21 @@ fn is_typed(types: &ModuleTypes, ty: TypeId) -> bool
     types.contains(ty) && types.get(ty).is_function()
 }
 
-// Reads a function of this type with this body. `tag_types` are the types of the tags, by their places. Refused, locals and types may have come.
+// Reads a function of this type with this body. `tags` are the types of the tags, by their places. Refused, locals and types may have come.
 fn read_function(
     alloc: Global,
     ty: TypeId,
     body: &[u8],
     features: &Features,
     ids: &IndicesToIds,
-    tag_types: &[TypeId],
+    tags: &[TypeId],
     types: &mut ModuleTypes,
     module_locals: &mut ModuleLocals,
 ) -> Result<LocalFunction>
     ensures { MatchResult result
-        (IsBodyOf (ids_at ids.now) (tag_places tag_types.now) features.now (place ty) body.now types.old
+        (IsBodyOf (ids_at ids.now) (tag_places tags.now) features.now (place ty) body.now types.old
         types.new module_locals.old module_locals.new)
-        (RefusesBody (ids_at ids.now) (tag_places tag_types.now) features.now (place ty) body.now types.old
+        (RefusesBody (ids_at ids.now) (tag_places tags.now) features.now (place ty) body.now types.old
         module_locals.old) }
 {
     if !is_typed(types, ty) {
@@ -89,7 +89,7 @@ fn read_function(
         0,
         features,
         ty,
-        tag_types,
+        tags,
         ids,
         types,
         module_locals,
@@ -99,7 +99,7 @@ fn read_function(
     )?)
 }
 
-/// Adds a function of the type of this number with this body, without a name, behind the others. `tag_types` are the types of the tags, by their
+/// Adds a function of the type of this number with this body, without a name, behind the others. `tags` are the types of the tags, by their
 /// places.
 ///
 /// # Errors
@@ -111,11 +111,11 @@ pub(crate) fn add_function<S>(
     number: u32,
     body: &[u8],
     features: &Features,
-    tag_types: &[TypeId],
+    tags: &[TypeId],
     module: &mut Module<S>,
     beside: &mut Beside,
 ) -> Result<()>
-    requires tags { tag_places tag_types.now ≡ tag_types «module».old.tags }
+    requires typed { tag_places tags.now ≡ tag_types «module».old.tags }
     ensures { MatchResult result
         (λ _. AddsFunction features.now number body.now (held «module».old beside.old)
         (held «module».new beside.new))
@@ -129,7 +129,7 @@ pub(crate) fn add_function<S>(
         body,
         features,
         &ids,
-        tag_types,
+        tags,
         &mut module.types,
         &mut module.locals,
     )?;
@@ -170,7 +170,7 @@ fn give_body(all: &mut ModuleFunctions, id: FunctionId, made: LocalFunction)
 }
 
 /// Gives the function of this number this body. Its type, its name and its id stay. One that was imported is the module's own then, and its import
-/// goes. `tag_types` are the types of the tags, by their places.
+/// goes. `tags` are the types of the tags, by their places.
 ///
 /// # Errors
 ///
@@ -181,11 +181,11 @@ pub(crate) fn set_function<S>(
     number: u32,
     body: &[u8],
     features: &Features,
-    tag_types: &[TypeId],
+    tags: &[TypeId],
     module: &mut Module<S>,
     beside: &mut Beside,
 ) -> Result<()>
-    requires tags { tag_places tag_types.now ≡ tag_types «module».old.tags }
+    requires typed { tag_places tags.now ≡ tag_types «module».old.tags }
     ensures { MatchResult result
         (λ _. SetsFunction features.now number body.now (held «module».old beside.old)
         (held «module».new beside.new))
@@ -204,7 +204,7 @@ pub(crate) fn set_function<S>(
         body,
         features,
         &ids,
-        tag_types,
+        tags,
         &mut module.types,
         &mut module.locals,
     )?;

@@ -33,6 +33,6 @@ mod types;
 
 pub use beside::Beside;
 pub use edit::{Deletion, Edit, Naming, Replacement};
-pub use law::{edits_keep_fine, one_list};
+pub use law::{bodies_read_are_formed, edits_keep_fine, one_list, sets_stay_formed};
 pub use list::{Refusal, apply_all};
 pub use read::read_edit;

@@ -26,8 +26,8 @@ pub all_after : (told : List Told) (names : List Named) → after_all after_name
 all_after told [] = sym (append-nil told)
 all_after told (name ∷ names) = all_after (told ++ local_named name) names ∙ append_assoc told (local_named name) (flat_map local_named names)
 
-pub handed_none : (known : ℕ → Bool) → AreHanded known [] []
-handed_none known = record { namings = []; read = tt; are = refl }
+pub handed_none : (known : ℕ → Bool) (told : List Told) → told ≡ [] → AreHanded known [] told
+handed_none known told none = record { namings = []; read = tt; are = none }
 
 pub handed_more : (known : ℕ → Bool) (sections : List RawCustom) (i : ℕ) (x : RawCustom) (told new : List Told) (names : List Named) → i < length sections → x ≡ get_or sections i x → AreHanded known (take i sections) told
     → Names known x.bytes.now names → new ≡ after_all after_named told names → AreHanded known (take (i + 1) sections) new

@@ -100,18 +100,24 @@ fn brings_function(import: &RawImport<'_>) -> bool
     matches!(import.desc(), RawDesc::Function(_))
 }
 
-/// How many functions there are.
-fn functions_of(raw: &Raw<'_>) -> Functions
-    ensures imported { result.imported ≡ length (filter brings_function (sections raw.now).imports) }
-    ensures defined { result.defined ≡ length (sections raw.now).functions }
+/// How many functions these imports bring.
+fn count_imported(imports: &[RawImport<'_>]) -> usize
+    ensures { result ≡ length (filter (λ i. brings_function (import_entry i)) imports.now) }
 {
-    let imported = raw
-        .imports
+    imports
         .iter()
         .filter(|import| brings_function(import))
-        .count();
+        .count()
+}
+
+/// How many functions there are.
+fn functions_of(raw: &Raw<'_>) -> Functions
+    ensures imported { result.imported ≡ length (filter (λ i. brings_function (import_entry i))
+        raw.now.imports.items) }
+    ensures defined { result.defined ≡ length (sections raw.now).functions }
+{
     Functions {
-        imported,
+        imported: count_imported(&raw.imports),
         defined: raw.functions.len(),
     }
 }

@@ -1,10 +1,12 @@
-use Rattle.std.proofs.Common.{◌∙◌, ℕ, Bool, refl, subst, arith}
+use Rattle.std.proofs.Common.{◌∙◌, ℕ, Bool, ap, map, refl, subst, arith}
+use Rattle.wasm_frames.specs.declared.record.RawCustom.{RawCustom}
 use Rattle.wasm_payloads.specs.Names.{Names}
+use Rattle.walrus_edits.specs.LocalNames.{local_told}
 use Rattle.walrus_edits.proofs.LocalSteps.{handed_all, handed_more, handed_none}
 use Rattle.walrus_edits.proofs.local_names.local_names.Goals as goal
 
 pub sections-init : goal.sections-init
-sections-init c = (refl, handed_none _)
+sections-init c = (refl, handed_none _ _ (ap (map local_told) c.new.ensures.items))
 
 pub sections-preserved : goal.sections-preserved
 sections-preserved c =
@@ -16,4 +18,4 @@ sections-preserved c =
     )
 
 pub returns-clause-value : goal.returns-clause-value
-returns-clause-value c = handed_all _ _ _ _ _ c.in_ok-name_sections.ensures c.sections.invariant.1 (omega arith)
+returns-clause-value c = handed_all _ _ _ _ _ (ap (map (λ (s : RawCustom). s.bytes.now)) c.deref-section-items.ensures.value ∙ c.in_ok-sections.ensures) c.sections.invariant.1 (omega arith)
