@@ -1,26 +1,26 @@
-pub mod EditRows
-pub mod FineSegments
-mod Found
-mod Importing
-mod Numbered
 mod BodiesKept
 mod Counting
+pub mod EditRows
+mod Exporting
 mod FineFronts
 mod FineFunctions
+pub mod FineItems
+pub mod FineSegments
+mod FineSlots
+mod Folding
+mod Found
 mod FrontFormed
 mod FrontNamed
 mod FrontNests
 mod FunctionRefusals
+mod Importing
+mod Keeping
+mod Numbered
 mod ParsedFormed
+mod Places
 mod ReadFormed
 mod Refusing
-mod SegmentSets
-mod Turns
 pub mod RefusingBodies
-mod Exporting
-pub mod FineItems
-mod FineSlots
-mod Places
-mod Folding
-mod Keeping
+mod SegmentSets
 mod TagsKept
+mod Turns
