@@ -1,5 +1,5 @@
 -- Imports that come with what they bring, and imports under other names ("Structure > Modules > Imports").
-use Rattle.std.specs.Prelude.{ℕ, List, Option, Some, None, ◌≡◌, ⊤}
+use Rattle.std.specs.Prelude.{ℕ, List, Some, None, ◌≡◌, ⊤}
 use Rattle.walrus_base.specs.Id.{place}
 use Rattle.walrus_base.specs.Operators.{Types}
 use Rattle.walrus_base.specs.Types.{ValType}
