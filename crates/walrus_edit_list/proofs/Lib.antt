@@ -13,6 +13,7 @@ mod FrontFormed
 mod FrontNamed
 mod FrontNests
 mod FunctionRefusals
+mod Importing
 mod Keeping
 mod Numbered
 mod ParsedFormed

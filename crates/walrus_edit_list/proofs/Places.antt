@@ -1,7 +1,7 @@
 -- What is put back at a place of a collection.
 use Rattle.std.proofs.Common.{◌≡◌, ℕ, ◌<◌, ◌≤◌, zero, suc, List, [], ◌∷◌, length, map, get_or, ap, sym, subst, ◌∙◌, arith}
 use Rattle.std.specs.Prelude.{Option, Some, None, IsSome, option_map, slice_set}
-use Rattle.std.proofs.lemmas.List.{get_or-map, length-map, map-set}
+use Rattle.std.proofs.lemmas.List.{get_or-map, map-set}
 use Rattle.walrus_base.specs.Arena.{IsLive, item_at}
 use Rattle.walrus_edit_list.specs.Places.{ChangesAt, DeletesAt, IsGone}
 

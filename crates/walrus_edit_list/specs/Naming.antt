@@ -1,5 +1,5 @@
 -- Names that something gets or loses (Appendix > Custom Sections > Name Section).
-use Rattle.std.specs.Prelude.{ℕ, List, Option, Some, None, option_map, slice_set, nat_eq, if◌then◌else◌, ◌≡◌}
+use Rattle.std.specs.Prelude.{ℕ, List, Option, Some, None, slice_set, nat_eq, if◌then◌else◌, ◌≡◌}
 use Rattle.walrus_base.specs.Arena.{IsLive}
 use Rattle.walrus_base.specs.ModuleTypes.{type_names, type_slots}
 use Rattle.walrus_base.specs.Operators.{Space, Types, Functions, Tables, Memories, Tags, Globals, Elements, DataSegments}

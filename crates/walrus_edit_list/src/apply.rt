@@ -70,11 +70,11 @@ fn set_item<S>(
     alloc: Global,
     replacement: Replacement<'_>,
     features: &Features,
-    tag_types: &[TypeId],
+    tags: &[TypeId],
     module: &mut Module<S>,
     beside: &mut Beside,
 ) -> Result<()>
-    requires tags { tag_places tag_types.now ≡ tag_types «module».old.tags }
+    requires tags { tag_places tags.now ≡ tag_types «module».old.tags }
     ensures { MatchResult result
         (λ _. SetsItem features.now (setting_seen replacement.entry) (held «module».old beside.old) (held «module».new beside.new))
         (RefusesSet features.now (setting_seen replacement.entry) (held «module».old beside.old)) }
@@ -86,7 +86,7 @@ fn set_item<S>(
         }
         Replacement::Export(number, export) => set_export(alloc, number, &export, module),
         Replacement::Function(number, body) => {
-            set_function(alloc, number, body, features, tag_types, module, beside)
+            set_function(alloc, number, body, features, tags, module, beside)
         }
         Replacement::Global(number, global) => set_global(alloc, number, &global, module),
         Replacement::Memory(number, size) => set_memory(number, size, module),
@@ -117,11 +117,11 @@ fn apply<S>(
     alloc: Global,
     edit: Edit<'_>,
     features: &Features,
-    tag_types: &[TypeId],
+    tags: &[TypeId],
     module: &mut Module<S>,
     beside: &mut Beside,
 ) -> Result<()>
-    requires tags { tag_places tag_types.now ≡ tag_types «module».old.tags }
+    requires tags { tag_places tags.now ≡ tag_types «module».old.tags }
     ensures { MatchResult result
         (λ _. Makes features.now (edit_seen edit.entry) (held «module».old beside.old) (held «module».new beside.new))
         (RefusesMake features.now (edit_seen edit.entry) (held «module».old beside.old)) }
@@ -129,10 +129,10 @@ fn apply<S>(
     match edit {
         Edit::Add(section) => add_section(alloc, section, module, beside),
         Edit::AddFunction(ty, body) => {
-            add_function(alloc, ty, body, features, tag_types, module, beside)
+            add_function(alloc, ty, body, features, tags, module, beside)
         }
         Edit::Set(replacement) => {
-            set_item(alloc, replacement, features, tag_types, module, beside)
+            set_item(alloc, replacement, features, tags, module, beside)
         }
         Edit::Delete(deletion) => delete_item(deletion, module, beside),
         Edit::BringFunction(number, from, name) => bring_function(number, from, name, module),
@@ -159,14 +159,14 @@ pub(crate) fn apply_first<'a, S>(
     alloc: Global,
     edits: &'a [u8],
     features: &Features,
-    tag_types: &[TypeId],
+    tags: &[TypeId],
     module: &mut Module<S>,
     beside: &mut Beside,
 ) -> Result<&'a [u8]>
-    requires tags { tag_places tag_types.now ≡ tag_types «module».old.tags }
+    requires tags { tag_places tags.now ≡ tag_types «module».old.tags }
     ensures { AppliesFirst features.now edits.now (held «module».old beside.old) (held «module».new beside.new) result }
 {
     let (edit, behind) = read_edit(alloc, edits)?;
-    apply(alloc, edit, features, tag_types, module, beside)?;
+    apply(alloc, edit, features, tags, module, beside)?;
     Ok(behind)
 }

@@ -6,3 +6,5 @@ mod RowSteps
 mod TellSteps
 mod TypeSteps
 mod ZipSteps
+mod Assembled
+mod Ended

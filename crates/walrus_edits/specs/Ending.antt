@@ -1,12 +1,12 @@
 -- What comes of a module of which only bodies and the names of custom sections are known to be fine: it is checked, collected where that is asked
 -- for, and written.
-use Rattle.std.specs.Prelude.{ℕ, Bool, true, false, List, Contains, map, Result, Ok, Err, ◌≡◌}
+use Rattle.std.specs.Prelude.{ℕ, Bool, true, false, List, Contains, Result, Ok, Err, ◌≡◌}
 use Rattle.std.specs.Global.{Vec}
-use Rattle.std.specs.String.{string_bytes}
 use Rattle.walrus_model.specs.Abstract.{Abstract, Custom}
 use Rattle.walrus_model.specs.Config.{Config}
 use Rattle.walrus_model.specs.Pipeline.{Collected}
 use Rattle.walrus_items.specs.declared.custom.CustomSection.{Ghosts}
+use Rattle.walrus_items.specs.declared.error.Error.{Error}
 use Rattle.walrus_items.specs.declared.error.Error.TheVariants.{DeadItem, TooLarge}
 use Rattle.walrus_theorem.specs.Chain.{Leaves}
 use Rattle.walrus_theorem.specs.Refused.{PassesLimits}
@@ -14,7 +14,7 @@ use Rattle.walrus_theorem.specs.Sound.{IsFreeName}
 use Rattle.walrus_theorem.specs.WellMade.{IsWellMade}
 use Rattle.walrus_module.specs.Answered.{IsWellWritten}
 use Rattle.walrus_module.specs.Asked.{OneMayRefuse}
-use Rattle.walrus_module.specs.Check.{BodiesAreFormed, IsFlaw}
+use Rattle.walrus_module.specs.Check.{BodiesAreFormed, IsFlaw, PassesCheck}
 use Rattle.walrus_module.specs.Flags.{config_of}
 use Rattle.walrus_module.specs.Settings.{settings}
 use Rattle.walrus_module.specs.View.{held_view, meanings, view}
@@ -60,6 +60,11 @@ abbrev pub Ends : (collects : Bool) → Config → (held v : Abstract) → Resul
 Ends collects c held v (Ok output) = IsEnded collects c v output.items
 Ends collects c held v (Err f) = RefusesEnd collects c held v f
 
+-- an error, told as what is wrong beside the rules
+abbrev pub told_as_flaw : {X : Type 0} → Result X Error → Result X Flaw
+told_as_flaw (Ok x) = Ok x
+told_as_flaw (Err e) = Err (Form e)
+
 module _ {V : Type 0} {O : V → Type 0} (G : (v : V) → Ghosts (O v)) where
   -- all that a check doesn't look at: bodies are well formed, custom sections have free names and refuse nothing, and none is told where the code went
   pub record IsFormed (m : Module (SectionEntry V O)) : Type 0 where
@@ -68,5 +73,10 @@ module _ {V : Type 0} {O : V → Type 0} (G : (v : V) → Ghosts (O v)) where
     pub quiet : OneMayRefuse (meanings G m) → ⊥
     pub still : (settings m).preserve_code_transform ≡ false
 
+  -- so it ends where it passed the check
+  abbrev pub EndsChecked : Module (SectionEntry V O) → (collects : Bool) → Result (Vec ℕ) Error → Type 0
+  EndsChecked m collects result = IsFormed m → PassesCheck (held_view m) → Ends collects (config_of (settings m)) (held_view m) (view G m) (told_as_flaw result)
+
+  -- so it ends
   abbrev pub EndsFormed : Module (SectionEntry V O) → (collects : Bool) → Result (Vec ℕ) Flaw → Type 0
   EndsFormed m collects result = IsFormed m → Ends collects (config_of (settings m)) (held_view m) (view G m) result

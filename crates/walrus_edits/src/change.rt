@@ -8,10 +8,13 @@ ghost use Rattle.walrus_edits.specs.Edited.{AnswersEdit};
 ghost use Rattle.walrus_edits.specs.declared.refusal.Refusal.TheVariants.{Edit, Input, Whole};
 
 use crate::ending::written;
+use crate::put::put_contents;
 use crate::refusal::Refusal;
 use std::alloc::Global;
 use std::{mem, result};
-use walrus::{ModuleConfig, ModuleCustomSections, RawCustomSection, Result, SectionEntry, Wanted};
+use walrus::{
+    Module, ModuleConfig, ModuleCustomSections, RawCustomSection, Result, SectionEntry, Wanted,
+};
 use walrus_bodies::Features;
 use walrus_edit_list::{Beside, apply_all};
 
@@ -61,7 +64,8 @@ pub fn edit(
     };
     apply_all(alloc, edits, &features, &mut module, &mut beside)?;
     let left = sections_left(alloc, beside.customs)?;
-    module.customs = ModuleCustomSections::keeping(alloc, left)?;
-    let output = written(alloc, module, collects)?;
+    let mut whole = put_contents(module, Module::with_config(alloc, config)?);
+    whole.customs = ModuleCustomSections::keeping(alloc, left)?;
+    let output = written(alloc, whole, collects)?;
     Ok(output)
 }

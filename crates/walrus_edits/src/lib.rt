@@ -11,6 +11,7 @@ mod item_list;
 mod local_names;
 mod name_records;
 mod producer_records;
+mod put;
 mod records;
 mod refusal;
 mod section_records;
