@@ -1,13 +1,21 @@
 mod BodiesKept
 mod Counting
+pub mod EditRows
 mod FineFronts
-mod FineFunctions
+pub mod FineFunctions
+pub mod FineItems
+pub mod FineSegments
+pub mod FineSlots
+mod Found
 mod FrontFormed
 mod FrontNamed
 mod FrontNests
 mod FunctionRefusals
+mod FunctionsUnread
+mod Numbered
 mod ParsedFormed
+mod Places
 mod ReadFormed
 mod Refusing
+mod SegmentSets
 mod Turns
-pub mod EditRows

@@ -1,9 +1,10 @@
 -- Names that something gets or loses (Appendix > Custom Sections > Name Section).
 use Rattle.std.specs.Prelude.{ℕ, List, Option, Some, None, option_map, slice_set, nat_eq, if◌then◌else◌, ◌≡◌}
 use Rattle.walrus_base.specs.Arena.{IsLive}
-use Rattle.walrus_base.specs.ModuleTypes.{ModuleTypes, type_names, type_slots}
+use Rattle.walrus_base.specs.ModuleTypes.{type_names, type_slots}
 use Rattle.walrus_base.specs.Operators.{Space, Types, Functions, Tables, Memories, Tags, Globals, Elements, DataSegments}
 use Rattle.walrus_base.specs.TypeDef.{name_bytes}
+use Rattle.walrus_base.specs.declared.module_types.ModuleTypes.{ModuleTypes}
 use Rattle.walrus_contents.specs.There.{IsRefusal}
 use Rattle.walrus_contents.specs.declared.parts.Contents.{Contents}
 use Rattle.walrus_items.specs.Data.{data_segments}

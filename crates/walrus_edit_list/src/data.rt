@@ -81,9 +81,10 @@ fn put_in(memory: MemoryId, segment: DataId, all: &mut ModuleMemories) -> Result
         ≡ changed_at (memory_with true (place segment)) (Some (place memory)) (memories all.old)) }
     ensures fails { IsOkUnless result out_of_memory }
 {
-    if all.contains(memory) {
-        all.get_mut(memory).data_segments.insert(segment)?;
+    if !all.contains(memory) {
+        return Ok(());
     }
+    all.get_mut(memory).data_segments.insert(segment)?;
     Ok(())
 }
 

@@ -128,9 +128,10 @@ fn put_in(table: TableId, segment: ElementId, all: &mut ModuleTables) -> Result<
         ≡ changed_at (table_with true (place segment)) (Some (place table)) (tables all.old)) }
     ensures fails { IsOkUnless result out_of_memory }
 {
-    if all.contains(table) {
-        all.get_mut(table).elem_segments.insert(segment)?;
+    if !all.contains(table) {
+        return Ok(());
     }
+    all.get_mut(table).elem_segments.insert(segment)?;
     Ok(())
 }
 

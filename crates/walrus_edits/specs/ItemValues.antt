@@ -37,9 +37,8 @@ is_function (descs.Global ty) = false
 is_function (descs.Tag ty) = false
 
 -- an import, and what it brings
-abbrev pub imports_in : List Import → List Told
-imports_in [] = []
-imports_in (i ∷ is) = AnImport i ∷ Brought i.desc ∷ imports_in is
+abbrev pub with_brought : Import → List Told
+with_brought i = AnImport i ∷ Brought i.desc ∷ []
 
 -- an import brings a function
 abbrev pub brings_function : Import → Bool
@@ -92,10 +91,10 @@ local_named (ModuleName name) = []
 local_named (ItemName space i name) = []
 local_named (LocalName f x name) = ALocalName f x name ∷ []
 
--- what sections hold but types and custom sections
-abbrev pub sections_in : wire.Module → List Told
-sections_in s = imports_in s.imports ++ functions_in (zip s.bodies s.functions) ++ map ATable s.tables ++ map AMemory s.memories ++ map ATag s.tags
-    ++ map AGlobal s.globals ++ map AnExport s.exports ++ map TheStart (option_to_list s.start) ++ map AnElement s.elements ++ map ASegment s.data_segments
+-- what sections hold but types and custom sections, kind by kind
+abbrev pub section_parts : wire.Module → List (List Told)
+section_parts s = flat_map with_brought s.imports ∷ functions_in (zip s.bodies s.functions) ∷ map ATable s.tables ∷ map AMemory s.memories ∷ map ATag s.tags
+    ∷ map AGlobal s.globals ∷ map AnExport s.exports ∷ map TheStart (option_to_list s.start) ∷ map AnElement s.elements ∷ map ASegment s.data_segments ∷ []
 
 -- ---- all of it
 
@@ -105,11 +104,14 @@ pub record AreGroups (types : ModuleTypes) (groups : List Group) : Type 0 where
   pub numbered : NumbersTypes names (type_slots types)
   pub indexed : AreIndexed names (items (type_slots types)) groups
 
--- What is told of a module whose sections hold this, whose types are these groups, and which holds these contents: its types; what its sections
--- hold; custom sections, by the number of such in front; producers; names; and the names of locals as the sections called `name` say them, in
--- their order.
+-- What is told of a module whose sections hold this, whose types are these groups, which holds these contents, and where these names of locals are
+-- told: its types; what its sections hold; custom sections, each by the number of such in front; producers; names; and those of locals.
+abbrev pub told_parts : wire.Module → List Group → Contents → List Told → List (List Told)
+told_parts s groups c locals = map AGroup groups ∷ (section_parts s
+    ++ customs_from 0 (with_ids s.customs) ∷ producers_in (producers c.producers) ∷ all_names c ∷ locals ∷ [])
+
+-- all that is told; the names of locals are those that the sections called `name` say, in their order
 pub record AreTold (sections : wire.Module) (groups : List Group) (contents : Contents) (told : List Told) : Type 0 where
   pub namings : List (List Named)
   pub named : AllZip (Names (has_function sections)) (payloads (codes "name") sections) namings
-  pub are : told ≡ map AGroup groups ++ sections_in sections ++ customs_from 0 (with_ids sections.customs) ++ producers_in (producers contents.producers)
-      ++ all_names contents ++ flat_map local_named (flat_map (λ ns. ns) namings)
+  pub are : told ≡ flat_map (λ part. part) (told_parts sections groups contents (flat_map local_named (flat_map (λ ns. ns) namings)))

@@ -1,14 +1,19 @@
 -- The names of locals that sections called `name` give (Appendix > Custom Sections > Name Section).
-use Rattle.std.specs.Prelude.{ℕ, Bool, List, bytes_eq, codes, filter, flat_map, map, string_bytes, ◌≡◌}
+use Rattle.std.specs.Prelude.{ℕ, ◌+◌, Bool, List, bytes_eq, codes, filter, flat_map, map, nat_lt, string_bytes, ◌≡◌}
 use Rattle.std.specs.List.{AllZip}
 use Rattle.wasm_frames.specs.Record as wire
 use Rattle.wasm_payloads.specs.Names.{Named, Names}
 use Rattle.walrus_edits.specs.ItemRecords.{Told, ALocalName}
 use Rattle.walrus_edits.specs.ItemValues.{local_named}
+use Rattle.walrus_edits.specs.declared.local_names.Functions.{Functions}
 use Rattle.walrus_edits.specs.declared.local_names.NameOfLocal.{NameOfLocal}
 
 abbrev pub local_told : NameOfLocal → Told
 local_told n = ALocalName n.function n.local (string_bytes n.name)
+
+-- the functions with an index below the count of all
+abbrev pub are_known : Functions → ℕ → Bool
+are_known fs f = nat_lt f (fs.imported + fs.defined)
 
 -- the payloads of those of these sections that are called `name`
 abbrev pub name_payloads : List wire.Custom → List (List ℕ)

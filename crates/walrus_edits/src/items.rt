@@ -1,23 +1,22 @@
 //! The items of a module, as a list of records for callers of other languages.
 
-ghost use Rattle.std.specs.Prelude.{◌≡◌, IfErr, IfOk, filter, length, map, option_to_list, zip};
-ghost use Rattle.wasm_forms.specs.Spelling.{row_bytes};
-ghost use Rattle.wasm_forms.specs.Writing.{Adds, EachFits};
+ghost use Rattle.std.specs.Prelude.{◌≡◌, filter, flat_map, length, map, option_to_list, zip};
 ghost use Rattle.wasm_entries.specs.Record.{group, import_entry};
 ghost use Rattle.wasm_frames.specs.Record.{body_record, sections};
 ghost use Rattle.walrus_contents.specs.View.{lent};
 ghost use Rattle.walrus_module.specs.View.{contents_of};
 ghost use Rattle.walrus.specs.Wanted.{config_wanted};
-ghost use Rattle.walrus_edits.specs.ItemRecords.{TheStart, ToldFits, told_bytes};
-ghost use Rattle.walrus_edits.specs.ItemValues.{brings_function, functions_in, imports_in, sections_in};
+ghost use Rattle.walrus_edits.specs.ItemRecords.{TheStart};
+ghost use Rattle.walrus_edits.specs.ItemValues.{brings_function, functions_in, section_parts, told_parts, with_brought};
+ghost use Rattle.walrus_edits.specs.ItemSteps.{ListsItems, PutsAll, PutsParts};
+ghost use Rattle.walrus_edits.specs.LocalNames.{local_told};
 ghost use Rattle.walrus_edits.specs.Items.{AnswersItems};
-ghost use Rattle.walrus_edits.specs.ItemSteps.{ListsItems};
 
-use crate::local_names::{Functions, local_names};
-use crate::name_records::tell_all_names;
+use crate::local_names::{Functions, NameOfLocal, local_names};
+use crate::name_records::tell_names;
 use crate::producer_records::{tell_customs, tell_producers};
-use crate::records::{tell, tell_all};
-use crate::section_records::{DefinedFunction, Start};
+use crate::records::{tell, tell_all, write_told};
+use crate::section_records::{Start, defined_functions};
 use crate::type_records::type_groups;
 use std::alloc::Global;
 use std::result;
@@ -27,19 +26,29 @@ use wasm_entries::{RawDesc, RawGroup, RawImport};
 use wasm_forms::WireError;
 use wasm_frames::{Raw, RawBody, read_module};
 
+/// Tells an import, and what it brings behind it.
+fn tell_import(
+    alloc: Global,
+    to: &mut Vec<u8>,
+    import: &RawImport<'_>,
+) -> result::Result<(), WireError>
+    ensures { PutsAll result to.old.items to.new.items (with_brought (import_entry «import».now)) }
+{
+    write_told(alloc, to, import)?;
+    write_told(alloc, to, &import.desc())
+}
+
 /// Tells imports, and what each brings behind it.
 fn tell_imports(
     alloc: Global,
     to: &mut Vec<u8>,
     imports: &[RawImport<'_>],
 ) -> result::Result<(), WireError>
-    ensures { Adds result to.old.items to.new.items
-        (row_bytes told_bytes (imports_in (map import_entry imports.now)))
-        (EachFits ToldFits (imports_in (map import_entry imports.now))) }
+    ensures { PutsAll result to.old.items to.new.items
+        (flat_map with_brought (map import_entry imports.now)) }
 {
     'imports: for import in imports {
-        tell(alloc, to, import)?;
-        tell(alloc, to, &import.desc())?;
+        tell_import(alloc, to, import)?;
     }
     Ok(())
 }
@@ -51,27 +60,16 @@ fn tell_functions(
     bodies: &[RawBody<'_>],
     types: &[u32],
 ) -> result::Result<(), WireError>
-    ensures { Adds result to.old.items to.new.items
-        (row_bytes told_bytes (functions_in (zip (map body_record bodies.now) types.now)))
-        (EachFits ToldFits (functions_in (zip (map body_record bodies.now) types.now))) }
+    ensures { PutsAll result to.old.items to.new.items
+        (functions_in (zip (map body_record bodies.now) types.now)) }
 {
-    'functions: for (body, ty) in bodies.iter().zip(types.iter()) {
-        tell(
-            alloc,
-            to,
-            &DefinedFunction {
-                ty: *ty,
-                body: *body,
-            },
-        )?;
-    }
-    Ok(())
+    let all = defined_functions(alloc, bodies, types)?;
+    tell_all(alloc, to, &all)
 }
 
 /// Tells the start function, if there is one.
 fn tell_start(alloc: Global, to: &mut Vec<u8>, start: Option<u32>) -> result::Result<(), WireError>
-    ensures { Adds result to.old.items to.new.items (row_bytes told_bytes (map TheStart (option_to_list start)))
-        (EachFits ToldFits (map TheStart (option_to_list start))) }
+    ensures { PutsAll result to.old.items to.new.items (map TheStart (option_to_list start)) }
 {
     match start {
         Some(function) => tell(alloc, to, &Start(function)),
@@ -79,10 +77,9 @@ fn tell_start(alloc: Global, to: &mut Vec<u8>, start: Option<u32>) -> result::Re
     }
 }
 
-/// Tells what sections hold but types and custom sections.
-fn tell_sections(alloc: Global, to: &mut Vec<u8>, raw: &Raw<'_>) -> result::Result<(), WireError>
-    ensures { Adds result to.old.items to.new.items (row_bytes told_bytes (sections_in (sections raw.now)))
-        (EachFits ToldFits (sections_in (sections raw.now))) }
+/// Tells what sections hold but types and custom sections, part by part.
+fn tell_parts(alloc: Global, to: &mut Vec<u8>, raw: &Raw<'_>) -> result::Result<(), WireError>
+    ensures { PutsParts result to.old.items to.new.items (section_parts (sections raw.now)) }
 {
     tell_imports(alloc, to, &raw.imports)?;
     tell_functions(alloc, to, &raw.bodies, &raw.functions)?;
@@ -119,6 +116,26 @@ fn functions_of(raw: &Raw<'_>) -> Functions
     }
 }
 
+/// Tells a module's types, what its sections hold, custom sections, producers, names, and these names of locals.
+fn tell_module(
+    alloc: Global,
+    to: &mut Vec<u8>,
+    groups: &[RawGroup],
+    raw: &Raw<'_>,
+    parts: Parts<'_>,
+    locals: &[NameOfLocal],
+) -> result::Result<(), WireError>
+    ensures { PutsParts result to.old.items to.new.items (told_parts (sections raw.now)
+        (map group groups.now) (lent parts.entry) (map local_told locals.now)) }
+{
+    tell_all(alloc, to, groups)?;
+    tell_parts(alloc, to, raw)?;
+    tell_customs(alloc, to, &raw.customs)?;
+    tell_producers(alloc, to, parts.producers.fields())?;
+    tell_names(alloc, to, parts)?;
+    tell_all(alloc, to, locals)
+}
+
 /// The list of a module whose sections hold this, whose types are these groups, and which holds these parts.
 fn listed(
     alloc: Global,
@@ -130,12 +147,7 @@ fn listed(
 {
     let locals = local_names(alloc, &raw.customs, functions_of(raw))?;
     let mut list = Vec::new(alloc);
-    tell_all(alloc, &mut list, groups)?;
-    tell_sections(alloc, &mut list, raw)?;
-    tell_customs(alloc, &mut list, &raw.customs)?;
-    tell_producers(alloc, &mut list, parts.producers.fields())?;
-    tell_all_names(alloc, &mut list, parts)?;
-    tell_all(alloc, &mut list, &locals)?;
+    tell_module(alloc, &mut list, groups, raw, parts, &locals)?;
     Ok(list)
 }
 

@@ -1,11 +1,11 @@
 //! What is told of the names of locals.
 
-ghost use Rattle.std.specs.Prelude.{List, ◌≡◌, ◌+◌, ◌++◌, IfErr, IfOk, alloc_error, map, nat_lt};
+ghost use Rattle.std.specs.Prelude.{List, ◌≡◌, ◌++◌, IfErr, IfOk, alloc_error, map};
 ghost use Rattle.wasm_forms.specs.declared.error.WireError.TheVariants.{Memory};
 ghost use Rattle.wasm_frames.specs.Record.{custom_record};
 ghost use Rattle.walrus_edits.specs.ItemRecords.{Told};
 ghost use Rattle.walrus_edits.specs.ItemValues.{local_named};
-ghost use Rattle.walrus_edits.specs.LocalNames.{AreLocalNames, local_told, name_payloads};
+ghost use Rattle.walrus_edits.specs.LocalNames.{AreLocalNames, are_known, local_told, name_payloads};
 
 use crate::records::{LOCAL_NAME, Tells, put_number};
 use std::alloc::{AllocError, Global};
@@ -59,7 +59,7 @@ impl NameSink for LocalNames {
 
     ghost after = { λ told naming. told ++ local_named naming };
 
-    ghost known = { λ s f. nat_lt f (s.functions.imported + s.functions.defined) };
+    ghost known = { λ s. are_known s.functions };
 
     ghost refuses = { λ _ _ e. e ≡ Memory alloc_error };
 
@@ -107,7 +107,7 @@ pub(crate) fn local_names(
     customs: &[RawCustom<'_>],
     functions: Functions,
 ) -> result::Result<Vec<NameOfLocal>, WireError>
-    ensures value { IfOk result (λ names. AreLocalNames (λ f. nat_lt f (functions.imported + functions.defined))
+    ensures value { IfOk result (λ names. AreLocalNames (are_known functions)
         (map custom_record customs.now) (map local_told names.items)) }
     ensures fails { IfErr result (λ e. e ≡ Memory alloc_error) }
 {

@@ -1,26 +1,16 @@
 //! What is told of the names of items.
 
-ghost use Rattle.std.specs.Prelude.{List, Option, ℕ, ◌≡◌};
-ghost use Rattle.wasm_forms.specs.Spelling.{row_bytes};
-ghost use Rattle.wasm_forms.specs.Writing.{Adds, EachFits};
+ghost use Rattle.std.specs.Prelude.{List, Option, ℕ, ◌≡◌, ◌++◌, IfOk, OnOk, map};
 ghost use Rattle.walrus_base.specs.Arena.{entries, live_places};
 ghost use Rattle.walrus_base.specs.ModuleTypes.{type_names, type_slots};
 ghost use Rattle.walrus_items.specs.Held.{held};
 ghost use Rattle.walrus_items.specs.Seen.{text_of};
-ghost use Rattle.walrus_items.specs.Data.{data_segments};
-ghost use Rattle.walrus_items.specs.Elements.{elements};
-ghost use Rattle.walrus_items.specs.Functions.{functions};
-ghost use Rattle.walrus_items.specs.Globals.{globals};
-ghost use Rattle.walrus_items.specs.Memories.{memories};
-ghost use Rattle.walrus_items.specs.Tables.{tables};
-ghost use Rattle.walrus_items.specs.Tags.{tags};
-ghost use Rattle.walrus_edit_list.specs.declared.numbers.TheConstants.{OF_DATA, OF_ELEMENT, OF_FUNCTION, OF_GLOBAL, OF_MEMORY, OF_TABLE, OF_TAG};
 ghost use Rattle.walrus_contents.specs.View.{lent};
-ghost use Rattle.walrus_edits.specs.ItemRecords.{AName, ToldFits, told_bytes};
+ghost use Rattle.walrus_edits.specs.ItemSteps.{IsNameOf, PutsAll, name_told};
 ghost use Rattle.walrus_edits.specs.ItemValues.{all_names, named, names_in, type_names_in};
 
-use crate::records::{Tells, put_byte, put_number, tell};
-use std::alloc::Global;
+use crate::records::{Tells, put_byte, put_number, tell_all};
+use std::alloc::{AllocError, Global};
 use std::result;
 use walrus_base::ModuleTypes;
 use walrus_contents::Parts;
@@ -28,10 +18,7 @@ use walrus_edit_list::numbers::{
     NAME, OF_DATA, OF_ELEMENT, OF_FUNCTION, OF_GLOBAL, OF_MEMORY, OF_MODULE, OF_TABLE, OF_TAG,
     OF_TYPE,
 };
-use walrus_items::{
-    Data, Element, Function, Item, Items, Memory, ModuleData, ModuleElements, ModuleFunctions,
-    ModuleGlobals, ModuleMemories, ModuleTables, ModuleTags, Table, Tag,
-};
+use walrus_items::{Data, Element, Function, Item, Items, Memory, Table, Tag};
 use wasm_forms::{WireError, write_name};
 
 /// A name, what it is the name of, and that one's place.
@@ -43,7 +30,7 @@ struct NameOf<'a> {
 }
 
 impl<'a> Tells for NameOf<'a> {
-    ghost told = { λ n. AName n.what n.place n.name.now };
+    ghost told = { name_told };
 
     fn number(&self) -> u8 {
         NAME
@@ -56,29 +43,24 @@ impl<'a> Tells for NameOf<'a> {
     }
 }
 
-/// Tells the name of that of this place, where it has one.
-fn tell_name(
-    alloc: Global,
-    to: &mut Vec<u8>,
+/// Puts the name of that of this place behind the others, where it has one.
+fn push_name<'a>(
+    to: &mut Vec<NameOf<'a>>,
     what: u8,
     place: usize,
-    name: &Option<String>,
-) -> result::Result<(), WireError>
-    ensures { Adds result to.old.items to.new.items (row_bytes told_bytes (named what place (text_of name.now)))
-        (EachFits ToldFits (named what place (text_of name.now))) }
+    name: &'a Option<String>,
+) -> result::Result<(), AllocError>
+    ensures { OnOk result (map name_told to.new.items ≡ map name_told to.old.items
+        ++ named what place (text_of name.now)) }
 {
-    match name {
-        Some(name) => tell(
-            alloc,
-            to,
-            &NameOf {
-                what,
-                place,
-                name: name.as_str(),
-            },
-        ),
-        None => Ok(()),
+    if let Some(text) = name {
+        to.push(NameOf {
+            what,
+            place,
+            name: text.as_str(),
+        })?;
     }
+    Ok(())
 }
 
 /// An item that may have a name: `own`.
@@ -146,136 +128,64 @@ impl MayHaveName for Data {
     }
 }
 
-/// Tells the names of the items of one kind, by rising id.
-fn tell_names<K, T: MayHaveName>(
-    alloc: Global,
-    to: &mut Vec<u8>,
+/// Puts the names of the items of one kind behind the others, by rising id.
+fn push_names<'a, K, T: MayHaveName>(
+    to: &mut Vec<NameOf<'a>>,
     what: u8,
-    all: &Items<K, T>,
-) -> result::Result<(), WireError>
-    ensures { (name_of : T.Seen → Option (List ℕ)) → ((x : T) → T.own x ≡ name_of (T.value x))
-        → Adds result to.old.items to.new.items
-        (row_bytes told_bytes (names_in what name_of (entries (held T.value all.now))))
-        (EachFits ToldFits (names_in what name_of (entries (held T.value all.now)))) }
+    all: &'a Items<K, T>,
+) -> result::Result<(), AllocError>
+    ensures { OnOk result ((name_of : T.Seen → Option (List ℕ)) → IsNameOf T.own T.value name_of
+        → map name_told to.new.items ≡ map name_told to.old.items
+        ++ names_in what name_of (entries (held T.value all.now))) }
 {
     'items: for (id, item) in all.iter_entries() {
-        tell_name(alloc, to, what, id.index(), item.own_name())?;
+        push_name(to, what, id.index(), item.own_name())?;
     }
     Ok(())
 }
 
-/// Tells the names of functions.
-fn tell_functions(
+/// Puts the names of types behind the others, by rising id.
+fn push_type_names<'a>(
     alloc: Global,
-    to: &mut Vec<u8>,
-    all: &ModuleFunctions,
-) -> result::Result<(), WireError>
-    ensures { Adds result to.old.items to.new.items
-        (row_bytes told_bytes (names_in OF_FUNCTION (λ f. f.name) (entries (functions all.now))))
-        (EachFits ToldFits (names_in OF_FUNCTION (λ f. f.name) (entries (functions all.now)))) }
-{
-    tell_names(alloc, to, OF_FUNCTION, all)
-}
-
-/// Tells the names of tables.
-fn tell_tables(alloc: Global, to: &mut Vec<u8>, all: &ModuleTables) -> result::Result<(), WireError>
-    ensures { Adds result to.old.items to.new.items
-        (row_bytes told_bytes (names_in OF_TABLE (λ t. t.name) (entries (tables all.now))))
-        (EachFits ToldFits (names_in OF_TABLE (λ t. t.name) (entries (tables all.now)))) }
-{
-    tell_names(alloc, to, OF_TABLE, all)
-}
-
-/// Tells the names of memories.
-fn tell_memories(
-    alloc: Global,
-    to: &mut Vec<u8>,
-    all: &ModuleMemories,
-) -> result::Result<(), WireError>
-    ensures { Adds result to.old.items to.new.items
-        (row_bytes told_bytes (names_in OF_MEMORY (λ m. m.name) (entries (memories all.now))))
-        (EachFits ToldFits (names_in OF_MEMORY (λ m. m.name) (entries (memories all.now)))) }
-{
-    tell_names(alloc, to, OF_MEMORY, all)
-}
-
-/// Tells the names of globals.
-fn tell_globals(
-    alloc: Global,
-    to: &mut Vec<u8>,
-    all: &ModuleGlobals,
-) -> result::Result<(), WireError>
-    ensures { Adds result to.old.items to.new.items
-        (row_bytes told_bytes (names_in OF_GLOBAL (λ g. g.name) (entries (globals all.now))))
-        (EachFits ToldFits (names_in OF_GLOBAL (λ g. g.name) (entries (globals all.now)))) }
-{
-    tell_names(alloc, to, OF_GLOBAL, all)
-}
-
-/// Tells the names of tags.
-fn tell_tags(alloc: Global, to: &mut Vec<u8>, all: &ModuleTags) -> result::Result<(), WireError>
-    ensures { Adds result to.old.items to.new.items
-        (row_bytes told_bytes (names_in OF_TAG (λ t. t.name) (entries (tags all.now))))
-        (EachFits ToldFits (names_in OF_TAG (λ t. t.name) (entries (tags all.now)))) }
-{
-    tell_names(alloc, to, OF_TAG, all)
-}
-
-/// Tells the names of segments of elements.
-fn tell_elements(
-    alloc: Global,
-    to: &mut Vec<u8>,
-    all: &ModuleElements,
-) -> result::Result<(), WireError>
-    ensures { Adds result to.old.items to.new.items
-        (row_bytes told_bytes (names_in OF_ELEMENT (λ e. e.name) (entries (elements all.now))))
-        (EachFits ToldFits (names_in OF_ELEMENT (λ e. e.name) (entries (elements all.now)))) }
-{
-    tell_names(alloc, to, OF_ELEMENT, all)
-}
-
-/// Tells the names of segments of data.
-fn tell_data(alloc: Global, to: &mut Vec<u8>, all: &ModuleData) -> result::Result<(), WireError>
-    ensures { Adds result to.old.items to.new.items
-        (row_bytes told_bytes (names_in OF_DATA (λ d. d.name) (entries (data_segments all.now))))
-        (EachFits ToldFits (names_in OF_DATA (λ d. d.name) (entries (data_segments all.now)))) }
-{
-    tell_names(alloc, to, OF_DATA, all)
-}
-
-/// Tells the names of types, by rising id.
-fn tell_type_names(
-    alloc: Global,
-    to: &mut Vec<u8>,
-    types: &ModuleTypes,
-) -> result::Result<(), WireError>
-    ensures { Adds result to.old.items to.new.items
-        (row_bytes told_bytes (type_names_in (type_names types.now) (live_places (type_slots types.now))))
-        (EachFits ToldFits (type_names_in (type_names types.now) (live_places (type_slots types.now)))) }
+    to: &mut Vec<NameOf<'a>>,
+    types: &'a ModuleTypes,
+) -> result::Result<(), AllocError>
+    ensures { OnOk result (map name_told to.new.items ≡ map name_told to.old.items
+        ++ type_names_in (type_names types.now) (live_places (type_slots types.now))) }
 {
     let ids = types.ids(alloc)?;
     'types: for id in &ids {
-        tell_name(alloc, to, OF_TYPE, id.index(), &types.get(*id).name)?;
+        push_name(to, OF_TYPE, id.index(), &types.get(*id).name)?;
     }
     Ok(())
 }
 
-/// Tells all names: the module's, and those of types, functions, tables, memories, globals, tags, segments of elements and of data.
-pub(crate) fn tell_all_names(
+/// All names that a module holds but those of locals: the module's, and those of types, functions, tables, memories, globals, tags, segments of
+/// elements and of data.
+fn names_of<'a>(alloc: Global, parts: Parts<'a>) -> result::Result<Vec<NameOf<'a>>, AllocError>
+    ensures { IfOk result (λ names. map name_told names.items ≡ all_names (lent parts.entry)) }
+{
+    let mut names = Vec::new(alloc);
+    push_name(&mut names, OF_MODULE, 0, parts.name)?;
+    push_type_names(alloc, &mut names, parts.types)?;
+    push_names(&mut names, OF_FUNCTION, parts.funcs)?;
+    push_names(&mut names, OF_TABLE, parts.tables)?;
+    push_names(&mut names, OF_MEMORY, parts.memories)?;
+    push_names(&mut names, OF_GLOBAL, parts.globals)?;
+    push_names(&mut names, OF_TAG, parts.tags)?;
+    push_names(&mut names, OF_ELEMENT, parts.elements)?;
+    push_names(&mut names, OF_DATA, parts.data_)?;
+    Ok(names)
+}
+
+/// Tells all names that a module holds but those of locals.
+pub(crate) fn tell_names(
     alloc: Global,
     to: &mut Vec<u8>,
     parts: Parts<'_>,
 ) -> result::Result<(), WireError>
-    ensures { Adds result to.old.items to.new.items (row_bytes told_bytes (all_names (lent parts.entry)))
-        (EachFits ToldFits (all_names (lent parts.entry))) }
+    ensures { PutsAll result to.old.items to.new.items (all_names (lent parts.entry)) }
 {
-    tell_name(alloc, to, OF_MODULE, 0, parts.name)?;
-    tell_type_names(alloc, to, parts.types)?;
-    tell_functions(alloc, to, parts.funcs)?;
-    tell_tables(alloc, to, parts.tables)?;
-    tell_memories(alloc, to, parts.memories)?;
-    tell_globals(alloc, to, parts.globals)?;
-    tell_tags(alloc, to, parts.tags)?;
-    tell_elements(alloc, to, parts.elements)?;
-    tell_data(alloc, to, parts.data_)
+    let names = names_of(alloc, parts)?;
+    tell_all(alloc, to, &names)
 }

@@ -1,15 +1,13 @@
 //! What is told of producers and of custom sections.
 
-ghost use Rattle.std.specs.Prelude.{ℕ, ◌≡◌, IfOk, map, not};
-ghost use Rattle.wasm_forms.specs.Spelling.{row_bytes};
-ghost use Rattle.wasm_forms.specs.Writing.{Adds, EachFits};
+ghost use Rattle.std.specs.Prelude.{◌≡◌, ◌++◌, IfOk, OnOk, map, not};
 ghost use Rattle.wasm_frames.specs.Record.{custom_record};
 ghost use Rattle.walrus_model.specs.Sections.{is_apart};
-ghost use Rattle.walrus_producers.specs.Seen.{fields_seen, field_seen, values_seen};
-ghost use Rattle.walrus_edits.specs.ItemRecords.{ACustom, AProducer, ToldFits, told_bytes};
+ghost use Rattle.walrus_producers.specs.Seen.{fields_seen, values_seen};
+ghost use Rattle.walrus_edits.specs.ItemSteps.{PutsAll, custom_told, producer_told};
 ghost use Rattle.walrus_edits.specs.ItemValues.{customs_from, producers_in, producers_of, with_ids};
 
-use crate::records::{Tells, put_number, tell};
+use crate::records::{Tells, put_number, tell_all};
 use std::alloc::{AllocError, Global};
 use std::result;
 use walrus_edit_list::numbers::{OF_CUSTOM, PRODUCER};
@@ -27,7 +25,7 @@ struct Producer<'a> {
 }
 
 impl<'a> Tells for Producer<'a> {
-    ghost told = { λ p. AProducer p.field.now p.name.now p.version.now };
+    ghost told = { producer_told };
 
     fn number(&self) -> u8 {
         PRODUCER
@@ -40,29 +38,37 @@ impl<'a> Tells for Producer<'a> {
     }
 }
 
-/// Tells the producers of a field.
-fn tell_values(
-    alloc: Global,
-    to: &mut Vec<u8>,
-    field: &str,
-    values: &[ProducerValue],
-) -> result::Result<(), WireError>
-    ensures { Adds result to.old.items to.new.items
-        (row_bytes told_bytes (producers_of field.now (values_seen values.now)))
-        (EachFits ToldFits (producers_of field.now (values_seen values.now))) }
+/// Puts the producers of a field behind the others.
+fn push_values<'a>(
+    to: &mut Vec<Producer<'a>>,
+    field: &'a str,
+    values: &'a [ProducerValue],
+) -> result::Result<(), AllocError>
+    ensures { OnOk result (map producer_told to.new.items ≡ map producer_told to.old.items
+        ++ producers_of field.now (values_seen values.now)) }
 {
     'values: for value in values {
-        tell(
-            alloc,
-            to,
-            &Producer {
-                field,
-                name: value.name(),
-                version: value.version(),
-            },
-        )?;
+        to.push(Producer {
+            field,
+            name: value.name(),
+            version: value.version(),
+        })?;
     }
     Ok(())
+}
+
+/// The producers of all fields.
+fn producers_of_fields<'a>(
+    alloc: Global,
+    fields: &'a [ProducerField],
+) -> result::Result<Vec<Producer<'a>>, AllocError>
+    ensures { IfOk result (λ all. map producer_told all.items ≡ producers_in (fields_seen fields.now)) }
+{
+    let mut all = Vec::new(alloc);
+    'fields: for field in fields {
+        push_values(&mut all, field.name(), field.values())?;
+    }
+    Ok(all)
 }
 
 /// Tells the producers of all fields.
@@ -71,13 +77,10 @@ pub(crate) fn tell_producers(
     to: &mut Vec<u8>,
     fields: &[ProducerField],
 ) -> result::Result<(), WireError>
-    ensures { Adds result to.old.items to.new.items (row_bytes told_bytes (producers_in (fields_seen fields.now)))
-        (EachFits ToldFits (producers_in (fields_seen fields.now))) }
+    ensures { PutsAll result to.old.items to.new.items (producers_in (fields_seen fields.now)) }
 {
-    'fields: for field in fields {
-        tell_values(alloc, to, field.name(), field.values())?;
-    }
-    Ok(())
+    let all = producers_of_fields(alloc, fields)?;
+    tell_all(alloc, to, &all)
 }
 
 /// A custom section and its id.
@@ -88,7 +91,7 @@ struct CustomWithId<'a> {
 }
 
 impl<'a> Tells for CustomWithId<'a> {
-    ghost told = { λ c. ACustom c.id (custom_record c.custom) };
+    ghost told = { custom_told };
 
     fn number(&self) -> u8 {
         OF_CUSTOM
@@ -109,44 +112,25 @@ fn has_id(name: &str) -> bool
     !(CustomGroup::Names.has(name) || (CustomGroup::Producers.has(name) || is_debug(name)))
 }
 
-/// Those of these sections that have an id, in their order.
+/// Those of these sections that have an id, in their order, each with it.
 fn numbered<'a>(
     alloc: Global,
     customs: &[RawCustom<'a>],
-) -> result::Result<Vec<RawCustom<'a>>, AllocError>
-    ensures { IfOk result
-        (λ kept. map custom_record kept.items ≡ with_ids (map custom_record customs.now)) }
+) -> result::Result<Vec<CustomWithId<'a>>, AllocError>
+    ensures { IfOk result (λ kept. map custom_told kept.items
+        ≡ customs_from 0 (with_ids (map custom_record customs.now))) }
 {
     let mut kept = Vec::new(alloc);
     'sections: for custom in customs {
         if has_id(custom.name) {
-            kept.push(*custom)?;
+            let id = kept.len();
+            kept.push(CustomWithId {
+                id,
+                custom: *custom,
+            })?;
         }
     }
     Ok(kept)
-}
-
-/// Tells custom sections, each by its place as its id.
-fn tell_each_custom(
-    alloc: Global,
-    to: &mut Vec<u8>,
-    customs: &[RawCustom<'_>],
-) -> result::Result<(), WireError>
-    ensures { Adds result to.old.items to.new.items
-        (row_bytes told_bytes (customs_from 0 (map custom_record customs.now)))
-        (EachFits ToldFits (customs_from 0 (map custom_record customs.now))) }
-{
-    'customs: for id in 0..customs.len() {
-        tell(
-            alloc,
-            to,
-            &CustomWithId {
-                id,
-                custom: customs[id],
-            },
-        )?;
-    }
-    Ok(())
 }
 
 /// Tells the custom sections that have an id.
@@ -155,10 +139,9 @@ pub(crate) fn tell_customs(
     to: &mut Vec<u8>,
     customs: &[RawCustom<'_>],
 ) -> result::Result<(), WireError>
-    ensures { Adds result to.old.items to.new.items
-        (row_bytes told_bytes (customs_from 0 (with_ids (map custom_record customs.now))))
-        (EachFits ToldFits (customs_from 0 (with_ids (map custom_record customs.now)))) }
+    ensures { PutsAll result to.old.items to.new.items
+        (customs_from 0 (with_ids (map custom_record customs.now))) }
 {
     let kept = numbered(alloc, customs)?;
-    tell_each_custom(alloc, to, &kept)
+    tell_all(alloc, to, &kept)
 }

@@ -1,8 +1,9 @@
 //! Records that tell of items: a byte, a size and so many bytes. docs/FORMATS.md has their forms.
 
 ghost use Rattle.std.specs.Prelude.{◌≡◌, ◌∷◌, [], map};
-ghost use Rattle.wasm_forms.specs.Spelling.{block_bytes, number_bytes, row_bytes};
-ghost use Rattle.wasm_forms.specs.Writing.{Adds, EachFits, FitsLength};
+ghost use Rattle.wasm_forms.specs.Spelling.{block_bytes, number_bytes};
+ghost use Rattle.wasm_forms.specs.Writing.{Adds, FitsLength};
+ghost use Rattle.walrus_edits.specs.ItemSteps.{PutsAll};
 ghost use Rattle.walrus_edits.specs.ItemRecords.{PayloadFits, Told, ToldFits, number_of, payload, told_bytes};
 
 use std::alloc::Global;
@@ -50,17 +51,29 @@ fn write_record(to: &mut Vec<u8>, number: u8, held: &[u8]) -> result::Result<(),
     write_block(to, held)
 }
 
+/// Puts the byte of an item, the size of what its record holds and that behind the bytes.
+pub(crate) fn write_told<T: Tells>(
+    alloc: Global,
+    to: &mut Vec<u8>,
+    item: &T,
+) -> result::Result<(), WireError>
+    ensures { Adds result to.old.items to.new.items (told_bytes (T.told item.now))
+        (ToldFits (T.told item.now)) }
+{
+    let mut held = Vec::new(alloc);
+    item.write_payload(alloc, &mut held)?;
+    write_record(to, item.number(), &held)
+}
+
 /// Puts the record of an item behind the bytes.
 pub(crate) fn tell<T: Tells>(
     alloc: Global,
     to: &mut Vec<u8>,
     item: &T,
 ) -> result::Result<(), WireError>
-    ensures { Adds result to.old.items to.new.items (told_bytes (T.told item.now)) (ToldFits (T.told item.now)) }
+    ensures { PutsAll result to.old.items to.new.items (T.told item.now ∷ []) }
 {
-    let mut held = Vec::new(alloc);
-    item.write_payload(alloc, &mut held)?;
-    write_record(to, item.number(), &held)
+    write_told(alloc, to, item)
 }
 
 /// Puts the records of items behind the bytes, one behind another.
@@ -69,8 +82,7 @@ pub(crate) fn tell_all<T: Tells>(
     to: &mut Vec<u8>,
     all: &[T],
 ) -> result::Result<(), WireError>
-    ensures { Adds result to.old.items to.new.items (row_bytes told_bytes (map T.told all.now))
-        (EachFits ToldFits (map T.told all.now)) }
+    ensures { PutsAll result to.old.items to.new.items (map T.told all.now) }
 {
     'items: for item in all {
         tell(alloc, to, item)?;

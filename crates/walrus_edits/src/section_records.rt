@@ -1,14 +1,16 @@
 //! What is told of the entries of sections.
 
-ghost use Rattle.std.specs.Prelude.{ℕ, map};
+ghost use Rattle.std.specs.Prelude.{◌≡◌, IfOk, map, zip};
 ghost use Rattle.wasm_forms.specs.Spelling.{row_bytes, vector_bytes};
 ghost use Rattle.wasm_forms.specs.Writing.{Adds, EachFits, FitsVector};
 ghost use Rattle.wasm_entries.specs.Record.{data_entry, data_mode, element_entry, element_mode, export_entry, expression, global_entry, group, import_entry, items_of, table_entry};
 ghost use Rattle.wasm_frames.specs.Record.{body_record};
-ghost use Rattle.walrus_edits.specs.ItemRecords.{ACustom, AFunction, AGlobal, AGroup, AMemory, ASegment, ATable, ATag, AnElement, AnExport, AnImport, Brought, DataModeFits, ElementModeFits, ElementsFit, InitialFits, SizedFits, TheStart, data_mode_bytes, element_mode_bytes, elements_bytes, initial_bytes, sized, table_of};
+ghost use Rattle.walrus_edits.specs.ItemSteps.{defined_told};
+ghost use Rattle.walrus_edits.specs.ItemValues.{functions_in};
+ghost use Rattle.walrus_edits.specs.ItemRecords.{AGlobal, AGroup, AMemory, ASegment, ATable, ATag, AnElement, AnExport, AnImport, Brought, DataModeFits, ElementModeFits, ElementsFit, InitialFits, SizedFits, TheStart, data_mode_bytes, element_mode_bytes, elements_bytes, initial_bytes, sized, table_of};
 
 use crate::records::{Tells, put_byte, put_number};
-use std::alloc::Global;
+use std::alloc::{AllocError, Global};
 use std::result;
 use walrus_edit_list::numbers::{
     OF_DATA, OF_ELEMENT, OF_EXPORT, OF_FUNCTION, OF_GLOBAL, OF_IMPORT, OF_MEMORY, OF_START,
@@ -130,7 +132,7 @@ pub(crate) struct DefinedFunction<'a> {
 }
 
 impl<'a> Tells for DefinedFunction<'a> {
-    ghost told = { λ f. AFunction f.ty (body_record f.body) };
+    ghost told = { defined_told };
 
     fn number(&self) -> u8 {
         OF_FUNCTION
@@ -142,6 +144,25 @@ impl<'a> Tells for DefinedFunction<'a> {
         put_number(to, self.body.start as u64)?;
         put_number(to, self.body.bytes.len() as u64)
     }
+}
+
+/// The functions of these bodies and types.
+pub(crate) fn defined_functions<'a>(
+    alloc: Global,
+    bodies: &[RawBody<'a>],
+    types: &[u32],
+) -> result::Result<Vec<DefinedFunction<'a>>, AllocError>
+    ensures { IfOk result (λ all. map defined_told all.items
+        ≡ functions_in (zip (map body_record bodies.now) types.now)) }
+{
+    let mut all = Vec::new(alloc);
+    'functions: for index in 0..bodies.len().min(types.len()) {
+        all.push(DefinedFunction {
+            ty: types[index],
+            body: bodies[index],
+        })?;
+    }
+    Ok(all)
 }
 
 /// Puts the initialiser of a table behind the bytes, where it has one.

@@ -1,9 +1,5 @@
 //! What is told of types.
 
-ghost use Rattle.std.specs.Prelude.{◌<◌, ◌^◌, ◌⊎◌, length, map};
-ghost use Rattle.wasm_entries.specs.Record.{group};
-ghost use Rattle.walrus_base.specs.Arena.{items, live_places};
-ghost use Rattle.walrus_base.specs.ModuleTypes.{type_slots};
 ghost use Rattle.walrus_edits.specs.TypeRecords.{GroupsTypes};
 
 use std::alloc::Global;
@@ -17,10 +13,10 @@ use wasm_entries::RawGroup;
 pub(crate) fn type_groups(alloc: Global, types: &ModuleTypes) -> Result<Vec<RawGroup>>
     ensures { GroupsTypes types.now result }
 {
-    if types.len() > 1 << 32 {
+    let ids = types.ids(alloc)?;
+    if ids.len() > 1 << 32 {
         return Err(Error::TooLarge);
     }
-    let ids = types.ids(alloc)?;
     let mut indices = IdsToIndices::new(alloc);
     indices.types = Numbering::along(alloc, &ids)?;
     Ok(index_types(alloc, types, &indices)?)

@@ -125,7 +125,7 @@ fn are_names_kept(alloc: Global, parts: Parts<'_>) -> result::Result<bool, Alloc
 
 // Which of these rules is broken, the number of locals that a body declares among them.
 fn broken_rule(alloc: Global, parts: Parts<'_>) -> result::Result<Option<BrokenRule>, AllocError>
-    requires there { HasDead (parts_view parts.entry) → ⊥ }
+    requires there { HasDead (parts_view parts) → ⊥ }
     ensures { IfOk result (Judges (parts_view parts.entry)) }
 {
     if !are_limits_kept(parts) {

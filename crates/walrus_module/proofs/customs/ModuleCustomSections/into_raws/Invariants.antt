@@ -7,4 +7,4 @@ use Rattle.walrus_module.proofs.customs.ModuleCustomSections.into_raws.Given as 
 abbrev pub invariant-places : goal.invariant-places
 invariant-places g l =
     (length (sections l.all) ≡ l.places)
-    × (l.raws.items ++ map raw_in (drop l.places-index (sections l.all)) ≡ map raw_in (sections l.fn.self))
+    × (l.raws.items ++ map raw_in (drop l.place (sections l.all)) ≡ map raw_in (sections l.fn.self))

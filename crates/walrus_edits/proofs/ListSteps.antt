@@ -1,0 +1,65 @@
+-- The list of a module's items, from the module that was parsed on.
+use Rattle.std.proofs.Common.{◌≡◌, ℕ, ◌+◌, Bool, List, [], ◌∷◌, ◌++◌, length, map, flat_map, refl, sym, ap, subst, ◌∙◌, inl, inr, arith, length-append}
+use Rattle.std.specs.Prelude.{Err, Ok, Some, None, codes, filter, nat_lt}
+use Rattle.std.specs.Global.{Vec}
+use Rattle.std.specs.List.{AllZip}
+use Rattle.wasm_entries.specs.Record.{Group, Import, group}
+use Rattle.wasm_entries.specs.declared.record.RawDesc.{RawDesc}
+use Rattle.wasm_entries.specs.declared.record.RawDesc.TheVariants as descs
+use Rattle.wasm_entries.specs.declared.record.RawSub.{RawSub}
+use Rattle.wasm_forms.specs.Reading.{Refuses}
+use Rattle.wasm_forms.specs.Spelling.{row_bytes}
+use Rattle.wasm_forms.specs.Writing.{Adds, EachFits}
+use Rattle.wasm_forms.specs.declared.error.WireError.{WireError}
+use Rattle.wasm_forms.specs.declared.error.WireError.TheVariants as wires
+use Rattle.wasm_frames.specs.Frames.{Frames}
+use Rattle.wasm_frames.specs.Record as wire
+use Rattle.wasm_payloads.specs.Names.{Names}
+use Rattle.walrus_contents.specs.declared.parts.Contents.{Contents}
+use Rattle.walrus_model.specs.Sections.{function_types, imported, imported_type}
+use Rattle.walrus_theorem.specs.Headline.{has_function, payloads}
+use Rattle.walrus_edits.specs.ItemRecords.{Told, ToldFits, told_bytes}
+use Rattle.walrus_edits.specs.ItemSteps.{ListsItems, RowsFit, rows}
+use Rattle.walrus_edits.specs.ItemValues.{AreTold, brings_function, told_parts}
+use Rattle.walrus_edits.specs.LocalNames.{AreLocalNames, are_known}
+use Rattle.walrus_edits.specs.declared.local_names.Functions.{Functions}
+use Rattle.walrus_edits.proofs.TellSteps.{fits_rows, rows_fit, rows_flat}
+
+-- ---- how many functions there are
+
+by_kind : (i : ℕ) (is : List Import) (x : Import) (d : RawDesc) → x.desc ≡ d → length (imported imported_type (i + 1) is) ≡ length (filter brings_function is) → length (imported imported_type i (x ∷ is)) ≡ length (filter brings_function (x ∷ is))
+by_kind i is x (descs.Function ty) at h = rw at (ap (λ n. n + 1) h)
+by_kind i is x (descs.Table ty) at h = rw at h
+by_kind i is x (descs.Memory l) at h = rw at h
+by_kind i is x (descs.Global ty) at h = rw at h
+by_kind i is x (descs.Tag ty) at h = rw at h
+
+pub imported_count : (i : ℕ) (is : List Import) → length (imported imported_type i is) ≡ length (filter brings_function is)
+imported_count i [] = refl
+imported_count i (x ∷ is) = by_kind i is x x.desc refl (imported_count (i + 1) is)
+
+pub functions_known : (s : wire.Module) (fs : Functions) → fs.imported ≡ length (filter brings_function s.imports) → fs.defined ≡ length s.functions → are_known fs ≡ has_function s
+functions_known s fs b d =
+    let count : fs.imported + fs.defined ≡ length (function_types s) = omega (arith, b, d, imported_count 0 s.imports, length-append (imported imported_type 0 s.imports) s.functions) in
+    ap (λ (n : ℕ) (f : ℕ). nat_lt f n) count
+
+-- ---- the list
+
+module _ (s : wire.Module) (groups : List Group) (c : Contents) where
+  abbrev pub Parts : List Told → List (List Told)
+  Parts locals = told_parts s groups c locals
+
+  pub are_told : (known : ℕ → Bool) (locals : List Told) → known ≡ has_function s → AreLocalNames known s.customs locals → AreTold s groups c (flat_map (λ part. part) (Parts locals))
+  are_told known locals same h = record {
+    namings = h.namings;
+    named = subst (λ (k : ℕ → Bool). AllZip (Names k) (payloads (codes "name") s) h.namings) same h.read;
+    are = ap (λ (ls : List Told). flat_map (λ part. part) (Parts ls)) h.are;
+  }
+
+  pub lists : (locals : List Told) (list : Vec ℕ) → AreTold s groups c (flat_map (λ part. part) (Parts locals)) → (list.items ≡ [] ++ rows (Parts locals)) × RowsFit (Parts locals) → ListsItems s groups c (Ok list)
+  lists locals list told h = (flat_map (λ part. part) (Parts locals), told, h.0 ∙ rows_flat (Parts locals), rows_fit (Parts locals) h.1)
+
+  pub lists_not : (X : Type 0) (e : WireError) (old new : List ℕ) (locals : List Told) → AreTold s groups c (flat_map (λ part. part) (Parts locals)) → Adds {X = X} (Err e) old new (rows (Parts locals)) (RowsFit (Parts locals)) → ListsItems s groups c (Err e)
+  lists_not X wires.Malformed old new locals told h = h
+  lists_not X (wires.Memory m) old new locals told h = tt
+  lists_not X wires.TooLarge old new locals told h = (flat_map (λ part. part) (Parts locals), told, λ fits. h (fits_rows (Parts locals) fits))

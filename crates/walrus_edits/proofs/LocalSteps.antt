@@ -1,0 +1,53 @@
+-- The names of locals of one section more.
+use Rattle.std.proofs.Common.{◌≡◌, ℕ, ◌+◌, ◌<◌, ◌≤◌, Bool, List, [], ◌∷◌, ◌++◌, length, get_or, take, map, flat_map, refl, sym, ap, subst, ◌∙◌, append_assoc, append-nil}
+use Rattle.std.proofs.lemmas.Grind.{flat_map-append}
+use Rattle.std.proofs.lemmas.List.{take_all}
+use Rattle.std.specs.List.{AllZip}
+use Rattle.walrus_base.proofs.ZipTurns.{zip_turn}
+use Rattle.wasm_frames.specs.Record as wire
+use Rattle.wasm_frames.specs.declared.record.RawCustom.{RawCustom}
+use Rattle.wasm_payloads.specs.Names.{Named, Names}
+use Rattle.wasm_payloads.specs.Sink.{after_all}
+use Rattle.walrus_edits.specs.ItemRecords.{Told}
+use Rattle.walrus_edits.specs.ItemValues.{local_named}
+use Rattle.walrus_edits.specs.LocalNames.{AreLocalNames, name_payloads}
+
+-- these sections say these names of locals
+pub record AreHanded (known : ℕ → Bool) (sections : List RawCustom) (told : List Told) : Type 0 where
+  pub namings : List (List Named)
+  pub read : AllZip (λ (c : RawCustom) (names : List Named). Names known c.bytes.now names) sections namings
+  pub are : told ≡ flat_map local_named (flat_map (λ ns. ns) namings)
+
+-- what a sink shows once it took these
+abbrev pub after_named : List Told → Named → List Told
+after_named told naming = told ++ local_named naming
+
+pub all_after : (told : List Told) (names : List Named) → after_all after_named told names ≡ told ++ flat_map local_named names
+all_after told [] = sym (append-nil told)
+all_after told (name ∷ names) = all_after (told ++ local_named name) names ∙ append_assoc told (local_named name) (flat_map local_named names)
+
+pub handed_none : (known : ℕ → Bool) → AreHanded known [] []
+handed_none known = record { namings = []; read = tt; are = refl }
+
+pub handed_more : (known : ℕ → Bool) (sections : List RawCustom) (i : ℕ) (x : RawCustom) (told new : List Told) (names : List Named) → i < length sections → x ≡ get_or sections i x → AreHanded known (take i sections) told
+    → Names known x.bytes.now names → new ≡ after_all after_named told names → AreHanded known (take (i + 1) sections) new
+handed_more known sections i x told new names below at h read shown = record {
+  namings = h.namings ++ names ∷ [];
+  read = zip_turn (λ (c : RawCustom) (ns : List Named). Names known c.bytes.now ns) sections i x h.namings names below h.read (subst (λ (c : RawCustom). Names known c.bytes.now names) at read);
+  are = shown ∙ all_after told names ∙ ap (λ l. l ++ flat_map local_named names) h.are
+      ∙ sym (ap (flat_map local_named) (flat_map-append (λ ns. ns) h.namings (names ∷ []) ∙ ap (λ l. flat_map (λ ns. ns) h.namings ++ l) (append-nil names))
+      ∙ flat_map-append local_named (flat_map (λ ns. ns) h.namings) names);
+}
+
+zip_seen : (known : ℕ → Bool) (sections : List RawCustom) (namings : List (List Named)) → AllZip (λ (c : RawCustom) (names : List Named). Names known c.bytes.now names) sections namings
+    → AllZip (Names known) (map (λ (c : RawCustom). c.bytes.now) sections) namings
+zip_seen known [] [] h = tt
+zip_seen known [] (n ∷ ns) h = elim h [ ]
+zip_seen known (c ∷ cs) [] h = elim h [ ]
+zip_seen known (c ∷ cs) (n ∷ ns) h = (h.0, zip_seen known cs ns h.1)
+
+pub handed_all : (known : ℕ → Bool) (customs : List wire.Custom) (sections : List RawCustom) (i : ℕ) (told : List Told) → length sections ≤ i → map (λ (c : RawCustom). c.bytes.now) sections ≡ name_payloads customs → AreHanded known (take i sections) told
+    → AreLocalNames known customs told
+handed_all known customs sections i told past same h =
+    let whole = subst (λ (l : List RawCustom). AllZip (λ (c : RawCustom) (names : List Named). Names known c.bytes.now names) l h.namings) (take_all sections i past) h.read in
+    record { namings = h.namings; read = subst (λ (l : List (List ℕ)). AllZip (Names known) l h.namings) same (zip_seen known sections h.namings whole); are = h.are }

@@ -1,0 +1,5 @@
+use Rattle.walrus_edits.proofs.TellSteps.{adds_same}
+use Rattle.walrus_edits.proofs.producer_records.tell_producers.Goals as goal
+
+pub returns : goal.returns
+returns c = adds_same _ _ _ _ _ c.in_ok-producers_of_fields.ensures c.tell_all.ensures

@@ -1,0 +1,25 @@
+use Rattle.std.proofs.Common.{◌≡◌, ◌≤◌, List, [], ◌∷◌, length, arith}
+use Rattle.std.proofs.lemmas.Result.{err_from_is_err_and}
+use Rattle.wasm_forms.specs.Spelling.{row_bytes}
+use Rattle.wasm_forms.specs.Writing.{Adds, EachFits}
+use Rattle.walrus_edits.specs.ItemRecords.{Told, ToldFits, told_bytes}
+use Rattle.walrus_edits.proofs.TellSteps.{adds_same, flat_single, leaves, tells_all, tells_none, told_through, turn}
+use Rattle.walrus_edits.proofs.records.tell_all.Goals as goal
+
+pub items-init : goal.items-init
+items-init g c = tells_none c.args.to.now.items
+
+pub items-preserved : goal.items-preserved
+items-preserved g c = turn (λ x. g.T.Tells.told x ∷ []) c.args.all.now c.items.item-index c.item-item.result _ _ _ c.items-test.true c.item-item.is c.items.invariant c.in_ok-tell.ensures
+
+pub returns-in_err-tell : goal.returns-in_err-tell
+returns-in_err-tell g c =
+    let p = err_from_is_err_and c.from_residual.result c.from_residual.ensures.1 in
+    rw (p.1, p.2)
+    (adds_same _ _ _ _ _ (flat_single g.T.Tells.told c.args.all.now) (leaves (λ x. g.T.Tells.told x ∷ []) (Unit {0}) (Unit {0}) c.in_err-tell.field-0.0 c.args.all.now c.items.item-index c.item-item.result _ _ _ _ c.items-test.true c.item-item.is c.items.invariant c.in_err-tell.ensures))
+
+pub returns : goal.returns
+returns g c =
+    let xs = c.args.all.now in
+    let past : length xs ≤ c.items.item-index = omega arith in
+    adds_same _ _ _ _ _ (told_through g.T.Tells.told xs c.items.item-index past) (tells_all _ _ _ c.items.invariant)
