@@ -15,13 +15,13 @@ use Rattle.walrus_model.specs.Abstract.{Body, Function, LocalFunction}
 use Rattle.walrus_model.specs.Config.{Config}
 use Rattle.walrus_model.specs.Customs.{is_debug_name}
 use Rattle.walrus_model.specs.Sections.{is_apart}
-use Rattle.walrus_module.specs.Check.{BodiesAreFormed}
 use Rattle.walrus_module.specs.Edits.{brought}
 use Rattle.walrus_theorem.specs.Sound.{IsFreeName}
 use Rattle.wasm_entries.specs.Record.{Export, Import}
 use Rattle.wasm_entries.specs.declared.record.RawDesc.{RawDesc}
 use Rattle.wasm_entries.specs.declared.record.RawDesc.TheVariants as descs
 use Rattle.wasm_frames.specs.Record.{Custom}
+use Rattle.walrus_edit_list.specs.Formed.{AreFormed}
 use Rattle.walrus_edit_list.specs.Customs.{AddsCustom, DeletesCustom, SetsCustom}
 use Rattle.walrus_edit_list.specs.Edits.{Named, The, TheModule}
 use Rattle.walrus_edit_list.specs.Exports.{AddsExport, AddsExports, DeletesExport, SetsExport}
@@ -36,7 +36,7 @@ use Rattle.walrus_edit_list.proofs.FineSlots.{added_too, among, carried, same_se
 
 module _ (c : Config) where
   abbrev Formed : Contents → Type 0
-  Formed m = BodiesAreFormed c (contents_view m)
+  Formed m = AreFormed c (contents_view m)
 
   -- where functions, types and locals are the same
   same : (old new : Contents) (bare : Contents) → new ≡ bare → ((t : ℕ) → (contents_view bare).types t ≡ (contents_view old).types t)
@@ -65,9 +65,9 @@ module _ (c : Config) where
   brings_fine (descs.Function n) from name old new (ty, ids, is, imported, only) formed =
       same old new (record old { funcs = new.funcs; imports = new.imports }) only (λ t. refl)
       (λ i f b at has.
-        seen_before (function old.locals) (functions old.funcs) (brought ty _ ids.1) i f
-        (sym (ap (λ (xs : List (Option FunctionValue)). option_map (function old.locals) (item_at xs i)) imported.items) ∙ at)
-        (λ own. let no : (function old.locals (brought ty _ ids.1)).kind ≡ LocalFunction b = ap (λ (g : Function). g.kind) own ∙ has in absurd cc))
+      seen_before (function old.locals) (functions old.funcs) (brought ty _ ids.1) i f
+      (sym (ap (λ (xs : List (Option FunctionValue)). option_map (function old.locals) (item_at xs i)) imported.items) ∙ at)
+      (λ own. let no : (function old.locals (brought ty _ ids.1)).kind ≡ LocalFunction b = ap (λ (g : Function). g.kind) own ∙ has in absurd cc))
       formed
   brings_fine (descs.Global g) from name old new brings formed =
       same old new (record old { globals = new.globals; imports = new.imports }) brings.4 (λ t. refl) (λ i f b at is. at) formed
@@ -103,8 +103,8 @@ module _ (c : Config) where
   item_fine (Some Functions) i n old new names formed =
       same old new (record old { funcs = new.funcs }) names.1 (λ t. refl)
       (λ j f b at is.
-        sym (ap (λ (xs : List (Option FunctionValue)). option_map (function old.locals) (item_at xs j)) names.0.2
-        ∙ same_seen (function old.locals) (functions old.funcs) i j names.0.0 (record names.0.0 { name = n }) names.0.1 refl) ∙ at)
+      sym (ap (λ (xs : List (Option FunctionValue)). option_map (function old.locals) (item_at xs j)) names.0.2
+      ∙ same_seen (function old.locals) (functions old.funcs) i j names.0.0 (record names.0.0 { name = n }) names.0.1 refl) ∙ at)
       formed
   item_fine (Some Tables) i n old new names formed = same old new (record old { tables = new.tables }) names.1 (λ t. refl) (λ j f b at is. at) formed
   item_fine (Some Memories) i n old new names formed = same old new (record old { memories = new.memories }) names.1 (λ t. refl) (λ j f b at is. at) formed

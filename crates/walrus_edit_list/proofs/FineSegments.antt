@@ -8,13 +8,13 @@ use Rattle.walrus_base.specs.declared.locals.ModuleLocals.{ModuleLocals}
 use Rattle.walrus_base.specs.declared.module_types.ModuleTypes.{ModuleTypes}
 use Rattle.walrus_items.specs.Functions.{ModuleFunctions}
 use Rattle.walrus_model.specs.Config.{Config}
-use Rattle.walrus_module.specs.Check.{BodiesAreFormed}
-use Rattle.walrus_theorem.proofs.WellStays.{well_formed_in}
+use Rattle.walrus_edit_list.specs.Formed.{AreFormed}
 use Rattle.walrus_edit_list.specs.Data.{AddsData, AddsSegment, DeletesData, SetsData}
 use Rattle.walrus_edit_list.specs.Elements.{AddsElement, AddsElements, DeletesElement}
 use Rattle.walrus_edit_list.specs.Globals.{AddsGlobal, AddsGlobals, SetsGlobal}
 use Rattle.walrus_edit_list.specs.Memories.{SetsMemory}
 use Rattle.walrus_edit_list.specs.Turns.{InTurn}
+use Rattle.walrus_edit_list.proofs.FormedStays.{stays_formed}
 
 -- what each step keeps, all of them keep
 kept_in_turn : {A : Type 0} (Makes : A → (old new : Contents) → Type 0) (P : Contents → Type 0) → ((x : A) (a b : Contents) → Makes x a b → P a → P b)
@@ -24,16 +24,16 @@ kept_in_turn Makes P one (x ∷ xs) a b (middle, first, more) fine = kept_in_tur
 
 module _ (c : Config) where
   abbrev Formed : Contents → Type 0
-  Formed m = BodiesAreFormed c (contents_view m)
+  Formed m = AreFormed c (contents_view m)
 
   -- bodies are formed still, where types, functions and locals are what they were
-  pub same_bodies : (a b : Contents) → b.types ≡ a.types → b.funcs ≡ a.funcs → b.locals ≡ a.locals → BodiesAreFormed c (contents_view a) → BodiesAreFormed c (contents_view b)
+  pub same_bodies : (a b : Contents) → b.types ≡ a.types → b.funcs ≡ a.funcs → b.locals ≡ a.locals → AreFormed c (contents_view a) → AreFormed c (contents_view b)
   same_bodies a b types funcs locals formed i f body at is =
-      well_formed_in c (contents_view a) (contents_view b) f.ty body (ap (λ (t : ModuleTypes). types_of t f.ty) types) (λ ty has. ap (λ (t : ModuleTypes). types_of t ty) types)
+      stays_formed c (contents_view a) (contents_view b) f.ty body (λ ty. ap (λ (t : ModuleTypes). types_of t ty) types)
       (formed i f body (ap₂ (λ (l : ModuleLocals) (fs : ModuleFunctions). functions_of l fs i) (sym locals) (sym funcs) ∙ at) is)
 
   -- so are they where what is held is this, and this has them
-  kept : (a b n : Contents) → b ≡ n → n.types ≡ a.types → n.funcs ≡ a.funcs → n.locals ≡ a.locals → BodiesAreFormed c (contents_view a) → BodiesAreFormed c (contents_view b)
+  kept : (a b n : Contents) → b ≡ n → n.types ≡ a.types → n.funcs ≡ a.funcs → n.locals ≡ a.locals → AreFormed c (contents_view a) → AreFormed c (contents_view b)
   kept a b n is types funcs locals formed =
       same_bodies a b (ap (λ (m : Contents). m.types) is ∙ types) (ap (λ (m : Contents). m.funcs) is ∙ funcs) (ap (λ (m : Contents). m.locals) is ∙ locals) formed
 
@@ -41,7 +41,7 @@ module _ (c : Config) where
   global_added g a b h formed = kept a b _ h.only refl refl refl formed
 
   pub globals_added : (gs : List entries.Global) (a b : Contents) → AddsGlobals gs a b → Formed a → Formed b
-  globals_added gs a b all formed = kept_in_turn AddsGlobal (λ (m : Contents). BodiesAreFormed c (contents_view m)) global_added gs a b all formed
+  globals_added gs a b all formed = kept_in_turn AddsGlobal (λ (m : Contents). AreFormed c (contents_view m)) global_added gs a b all formed
 
   pub global_set : (number : ℕ) (g : entries.Global) (a b : Contents) → SetsGlobal number g a b → Formed a → Formed b
   global_set number g a b h formed = kept a b _ h.only refl refl refl formed
@@ -50,7 +50,7 @@ module _ (c : Config) where
   segment_added d a b h formed = kept a b _ h.only refl refl refl formed
 
   pub data_added : (ds : List entries.Segment) (a b : Contents) → AddsData ds a b → Formed a → Formed b
-  data_added ds a b all formed = kept_in_turn AddsSegment (λ (m : Contents). BodiesAreFormed c (contents_view m)) segment_added ds a b all formed
+  data_added ds a b all formed = kept_in_turn AddsSegment (λ (m : Contents). AreFormed c (contents_view m)) segment_added ds a b all formed
 
   pub data_set : (number : ℕ) (d : entries.Segment) (a b : Contents) → SetsData number d a b → Formed a → Formed b
   data_set number d a b h formed = kept a b _ h.only refl refl refl formed
@@ -62,7 +62,7 @@ module _ (c : Config) where
   element_added e a b h formed = kept a b _ h.only refl refl refl formed
 
   pub elements_added : (es : List entries.Element) (a b : Contents) → AddsElements es a b → Formed a → Formed b
-  elements_added es a b all formed = kept_in_turn AddsElement (λ (m : Contents). BodiesAreFormed c (contents_view m)) element_added es a b all formed
+  elements_added es a b all formed = kept_in_turn AddsElement (λ (m : Contents). AreFormed c (contents_view m)) element_added es a b all formed
 
   pub element_deleted : (number : ℕ) (a b : Contents) → DeletesElement number a b → Formed a → Formed b
   element_deleted number a b h formed = kept a b _ h.only refl refl refl formed

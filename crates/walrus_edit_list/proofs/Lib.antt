@@ -6,6 +6,7 @@ pub mod FineFunctions
 pub mod FineItems
 pub mod FineSegments
 pub mod FineSlots
+mod FormedStays
 mod Found
 mod FrontFormed
 mod FrontNamed
