@@ -8,6 +8,7 @@
 
 mod answer;
 mod choices;
+mod edits;
 mod flags;
 mod names;
 mod question;
@@ -26,14 +27,17 @@ ghost use Rattle.walrus_sections.specs.StripAnswers.{AnswersStripped};
 ghost use Rattle.walrus_tools.specs.StubMatching.{AnswersMatching};
 ghost use Rattle.walrus_tools.specs.TrapEdit.{AnswersMeant};
 ghost use Rattle.walrus_tools.specs.Wanted.{config_wanted};
+ghost use Rattle.walrus_edits.specs.Edited.{AnswersEdit};
+ghost use Rattle.walrus_edits.specs.Items.{AnswersItems};
 ghost use Rattle.mulkavesh_c.specs.Answer.{Gives, NoNumber};
 ghost use Rattle.mulkavesh_c.specs.ChosenRoots.{GivesChosen};
-ghost use Rattle.mulkavesh_c.specs.Flags.{IsKnown, wanted};
+ghost use Rattle.mulkavesh_c.specs.Edits.{GivesEdited};
+ghost use Rattle.mulkavesh_c.specs.Flags.{IsKnown, IsKnownOfEdits, collects, wanted};
 ghost use Rattle.mulkavesh_c.specs.Names.{AreLists, UnderChoices, UnderLists, UnderTexts};
 ghost use Rattle.mulkavesh_c.specs.Questions.{AnswersCallers, AnswersLines, AnswersTo, AnswersWhy};
 
 use crate::answer::{Made, UNKNOWN_FLAG, put, refused};
-use crate::flags::wanted_by;
+use crate::flags::{collects, edit_wanted_by, wanted_by};
 use crate::question::Question;
 use std::alloc::Global;
 use walrus_sections::{all_go, are_choices};
@@ -390,4 +394,48 @@ pub extern "C" fn mulkavesh_stub(
     }
     let made = names::stubbed(alloc, input, wanted, module, name);
     put(Made::of(made), output, length)
+}
+
+// ---- a module changed
+
+/// The items of the module, each with its id, as records: `walrus_edits::items`.
+#[unsafe(no_mangle)]
+pub extern "C" fn mulkavesh_read(
+    alloc: Global,
+    input: &[u8],
+    flags: u32,
+    output: &mut [u8],
+    length: &mut usize,
+) -> u32
+    ensures { Gives (IsKnown flags) (AnswersItems (config_wanted (wanted flags)) input.now) NoNumber
+        output.old output.new length.new result }
+{
+    let Some(wanted) = wanted_by(flags) else {
+        return refused(length, UNKNOWN_FLAG);
+    };
+    let made = walrus_edits::items(alloc, input, wanted);
+    put(Made::of(made), output, length)
+}
+
+/// The module that the edits of a list make of the input, each in its turn: `walrus_edits::edit`.
+#[unsafe(no_mangle)]
+pub extern "C" fn mulkavesh_edit(
+    alloc: Global,
+    input: &[u8],
+    flags: u32,
+    edits: &[u8],
+    output: &mut [u8],
+    length: &mut usize,
+) -> u32
+    ensures { GivesEdited (IsKnownOfEdits flags)
+        (AnswersEdit (config_wanted (wanted flags)) (collects flags) input.now edits.now)
+        output.old output.new length.new result }
+{
+    let Some(wanted) = edit_wanted_by(flags) else {
+        return refused(length, UNKNOWN_FLAG);
+    };
+    match walrus_edits::edit(alloc, input, edits, wanted, collects(flags)) {
+        Ok(bytes) => put(Made::of(Ok(bytes)), output, length),
+        Err(refusal) => edits::refuse(&refusal, length),
+    }
 }

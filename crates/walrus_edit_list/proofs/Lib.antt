@@ -1,22 +1,26 @@
 mod BodiesKept
 mod Counting
 pub mod EditRows
+mod Exporting
 mod FineFronts
 pub mod FineFunctions
 pub mod FineItems
 pub mod FineSegments
-pub mod FineSlots
+mod FineSlots
+mod Folding
 mod FormedStays
 mod Found
 mod FrontFormed
 mod FrontNamed
 mod FrontNests
 mod FunctionRefusals
-mod FunctionsUnread
+mod Keeping
 mod Numbered
 mod ParsedFormed
 mod Places
 mod ReadFormed
 mod Refusing
+pub mod RefusingBodies
 mod SegmentSets
+mod TagsKept
 mod Turns

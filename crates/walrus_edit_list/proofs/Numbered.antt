@@ -1,11 +1,8 @@
 -- The ids of a module by their numbers, as they are told.
-use Rattle.std.proofs.Common.{◌≡◌, ℕ, ◌<◌, ◌^◌, List, map, refl, sym, ap, subst, ◌∙◌}
-use Rattle.std.specs.Prelude.{option_map, slice_get, nat_lt}
+use Rattle.std.proofs.Common.{◌≡◌, ℕ, ◌<◌, ◌^◌, List, refl, ap, subst, ◌∙◌}
+use Rattle.std.specs.Prelude.{slice_get, nat_lt}
 use Rattle.std.specs.List.{range_with_len}
 use mathlib.Core.Path.{fun_ext}
-use Rattle.walrus_base.specs.Id.{place}
-use Rattle.walrus_base.specs.declared.id.Id.{Id}
-use Rattle.walrus_base.proofs.Lookups.{got_map}
 use Rattle.walrus_base.specs.Operators.{Space, Types, Functions, Tables, Memories, Tags, Globals, Elements, DataSegments}
 use Rattle.walrus_code.specs.Indices.{ids_at, places_in, places_of}
 use Rattle.walrus_code.specs.declared.indices.IndicesToIds.{IndicesToIds}
@@ -37,7 +34,3 @@ module _ (m : Contents) where
   -- where those of a space are too many, they are
   pub too_many : (space : Space) (count : ℕ) (e : Error) → count ≡ given m space → Refuses ⊥ (2 ^ 32 < count) e → Refuses ⊥ (HasTooMany m) e
   too_many space count e is h = refuses_so e (λ none. none) (λ large. (space, subst (λ (n : ℕ). 2 ^ 32 < n) is large)) h
-
--- the type of each tag is found by the tag's number
-pub typed : {K : Type 0} (ids : List (Id K)) (types : List ℕ) → map place ids ≡ types → (λ (tag : ℕ). option_map place (slice_get ids tag)) ≡ (λ (tag : ℕ). slice_get types tag)
-typed ids types same = fun_ext (λ tag. sym (got_map place ids tag) ∙ ap (λ (l : List ℕ). slice_get l tag) same)

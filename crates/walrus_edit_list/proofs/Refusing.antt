@@ -24,6 +24,10 @@ refuses_so errors.NotImported f g h = absurd h
 refuses_so errors.NotReplaceable f g h = absurd h
 refuses_so (errors.Caller text) f g h = absurd h
 
+-- where ids are too many, nothing else is looked at
+pub large_stays : (dead large : Type 0) (e : Error) → Refuses ⊥ large e → Refuses dead large e
+large_stays dead large e h = refuses_so {A = ⊥} {B = dead} {C = large} {D = large} e (λ none. absurd none) (λ x. x) h
+
 module _ {Y Z : Type 0} (k : Y → Option Z) (e : Error) where
   -- nothing is found in front
   pub refuses_first : (o : Option Y) → Refuses (o ≡ None) ⊥ e → Refuses ((o >>= k) ≡ None) ⊥ e

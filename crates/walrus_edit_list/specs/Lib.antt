@@ -1,3 +1,4 @@
+pub mod Applies
 pub mod Bringing
 pub mod Constants
 pub mod Customs
@@ -13,6 +14,7 @@ pub mod Globals
 pub mod Held
 pub mod Ids
 pub mod Imports
+pub mod Makes
 pub mod Memories
 pub mod Naming
 pub mod Places

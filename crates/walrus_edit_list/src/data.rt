@@ -123,7 +123,8 @@ fn free(kind: &DataKind, segment: DataId, all: &mut ModuleMemories)
 // Adds the segment of an entry.
 fn add_segment<S>(alloc: Global, raw: &RawData<'_>, module: &mut Module<S>) -> Result<()>
     ensures { MatchResult result
-        (λ _. AddsSegment (data_entry raw.now) (contents_of «module».old) (contents_of «module».new))
+        (λ _. AddsSegment (data_entry raw.now)
+        (contents_of «module».old) (contents_of «module».new))
         (RefusesSegment (data_entry raw.now) (contents_of «module».old)) }
 {
     let ids = ids_of(alloc, module)?;
@@ -141,7 +142,8 @@ fn add_segment<S>(alloc: Global, raw: &RawData<'_>, module: &mut Module<S>) -> R
 /// `DeadItem` only where one names what isn't there, `TooLarge` only where more than 2^32 ids of a space were given, and `Memory`.
 pub(crate) fn add_data<S>(alloc: Global, raw: &[RawData<'_>], module: &mut Module<S>) -> Result<()>
     ensures { MatchResult result
-        (λ _. AddsData (map data_entry raw.now) (contents_of «module».old) (contents_of «module».new))
+        (λ _. AddsData (map data_entry raw.now)
+        (contents_of «module».old) (contents_of «module».new))
         (RefusesData (map data_entry raw.now) (contents_of «module».old)) }
 {
     'segments: for entry in raw {
@@ -175,7 +177,8 @@ pub(crate) fn set_data<S>(
     module: &mut Module<S>,
 ) -> Result<()>
     ensures { MatchResult result
-        (λ _. SetsData number (data_entry raw.now) (contents_of «module».old) (contents_of «module».new))
+        (λ _. SetsData number (data_entry raw.now)
+        (contents_of «module».old) (contents_of «module».new))
         (RefusesSetData number (data_entry raw.now) (contents_of «module».old)) }
 {
     let id = DataId::at(number as usize);

@@ -170,7 +170,8 @@ fn free(kind: &ElementKind, segment: ElementId, all: &mut ModuleTables)
 // Adds the segment of an entry.
 fn add_segment<S>(alloc: Global, raw: &RawElement, module: &mut Module<S>) -> Result<()>
     ensures { MatchResult result
-        (λ _. AddsElement (element_entry raw.now) (contents_of «module».old) (contents_of «module».new))
+        (λ _. AddsElement (element_entry raw.now)
+        (contents_of «module».old) (contents_of «module».new))
         (RefusesElement (element_entry raw.now) (contents_of «module».old)) }
 {
     let ids = ids_of(alloc, module)?;
@@ -192,7 +193,8 @@ pub(crate) fn add_elements<S>(
     module: &mut Module<S>,
 ) -> Result<()>
     ensures { MatchResult result
-        (λ _. AddsElements (map element_entry raw.now) (contents_of «module».old) (contents_of «module».new))
+        (λ _. AddsElements (map element_entry raw.now)
+        (contents_of «module».old) (contents_of «module».new))
         (RefusesElements (map element_entry raw.now) (contents_of «module».old)) }
 {
     'segments: for entry in raw {

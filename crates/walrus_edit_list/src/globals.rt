@@ -21,7 +21,8 @@ use wasm_entries::{RawGlobal, RawGlobalType};
 // Adds the global of an entry.
 fn add_global<S>(alloc: Global, raw: &RawGlobal, module: &mut Module<S>) -> Result<()>
     ensures { MatchResult result
-        (λ _. AddsGlobal (global_entry raw.now) (contents_of «module».old) (contents_of «module».new))
+        (λ _. AddsGlobal (global_entry raw.now)
+        (contents_of «module».old) (contents_of «module».new))
         (RefusesGlobal (global_entry raw.now) (contents_of «module».old)) }
 {
     let ids = ids_of(alloc, module)?;
@@ -40,7 +41,8 @@ fn add_global<S>(alloc: Global, raw: &RawGlobal, module: &mut Module<S>) -> Resu
 /// `DeadItem` only where one names what was never there, `TooLarge` only where more than 2^32 ids of a space were given, and `Memory`.
 pub(crate) fn add_globals<S>(alloc: Global, raw: &[RawGlobal], module: &mut Module<S>) -> Result<()>
     ensures { MatchResult result
-        (λ _. AddsGlobals (map global_entry raw.now) (contents_of «module».old) (contents_of «module».new))
+        (λ _. AddsGlobals (map global_entry raw.now)
+        (contents_of «module».old) (contents_of «module».new))
         (RefusesGlobals (map global_entry raw.now) (contents_of «module».old)) }
 {
     'globals: for entry in raw {
@@ -92,7 +94,8 @@ pub(crate) fn set_global<S>(
     module: &mut Module<S>,
 ) -> Result<()>
     ensures { MatchResult result
-        (λ _. SetsGlobal number (global_entry raw.now) (contents_of «module».old) (contents_of «module».new))
+        (λ _. SetsGlobal number (global_entry raw.now)
+        (contents_of «module».old) (contents_of «module».new))
         (RefusesSetGlobal number (global_entry raw.now) (contents_of «module».old)) }
 {
     let id = GlobalId::at(number as usize);

@@ -1,9 +1,10 @@
 -- The list of a module's items, from the module that was parsed on.
-use Rattle.std.proofs.Common.{◌≡◌, ℕ, ◌+◌, Bool, List, [], ◌∷◌, ◌++◌, length, map, flat_map, refl, sym, ap, subst, ◌∙◌, inl, inr, arith, length-append}
+use Rattle.std.proofs.Common.{◌≡◌, ℕ, suc, ◌+◌, Bool, true, false, List, [], ◌∷◌, ◌++◌, length, map, flat_map, refl, sym, ap, subst, ◌∙◌, inl, inr, arith, length-append}
 use Rattle.std.specs.Prelude.{Err, Ok, Some, None, codes, filter, nat_lt}
 use Rattle.std.specs.Global.{Vec}
 use Rattle.std.specs.List.{AllZip}
-use Rattle.wasm_entries.specs.Record.{Group, Import, group}
+use Rattle.wasm_entries.specs.Record.{Group, Import, group, import_entry}
+use Rattle.wasm_entries.specs.declared.record.RawImport.{RawImport}
 use Rattle.wasm_entries.specs.declared.record.RawDesc.{RawDesc}
 use Rattle.wasm_entries.specs.declared.record.RawDesc.TheVariants as descs
 use Rattle.wasm_entries.specs.declared.record.RawSub.{RawSub}
@@ -38,9 +39,20 @@ pub imported_count : (i : ℕ) (is : List Import) → length (imported imported_
 imported_count i [] = refl
 imported_count i (x ∷ is) = by_kind i is x x.desc refl (imported_count (i + 1) is)
 
-pub functions_known : (s : wire.Module) (fs : Functions) → fs.imported ≡ length (filter brings_function s.imports) → fs.defined ≡ length s.functions → are_known fs ≡ has_function s
-functions_known s fs b d =
-    let count : fs.imported + fs.defined ≡ length (function_types s) = omega (arith, b, d, imported_count 0 s.imports, length-append (imported imported_type 0 s.imports) s.functions) in
+raw_by : (x : RawImport) (xs : List RawImport) (yes : Bool) → brings_function (import_entry x) ≡ yes → length (filter (λ i. brings_function (import_entry i)) xs) ≡ length (filter brings_function (map import_entry xs))
+    → length (filter (λ i. brings_function (import_entry i)) (x ∷ xs)) ≡ length (filter brings_function (map import_entry (x ∷ xs)))
+raw_by x xs true is h = rw is (ap suc h)
+raw_by x xs false is h = rw is h
+
+raw_count : (xs : List RawImport) → length (filter (λ i. brings_function (import_entry i)) xs) ≡ length (filter brings_function (map import_entry xs))
+raw_count [] = refl
+raw_count (x ∷ xs) = raw_by x xs (brings_function (import_entry x)) refl (raw_count xs)
+
+pub functions_known : (s : wire.Module) (fs : Functions) (imports : List RawImport) → s.imports ≡ map import_entry imports → fs.imported ≡ length (filter (λ i. brings_function (import_entry i)) imports) → fs.defined ≡ length s.functions
+    → are_known fs ≡ has_function s
+functions_known s fs imports same b d =
+    let raw : fs.imported ≡ length (filter brings_function s.imports) = b ∙ raw_count imports ∙ ap (λ is. length (filter brings_function is)) (sym same) in
+    let count : fs.imported + fs.defined ≡ length (function_types s) = omega (arith, raw, d, imported_count 0 s.imports, length-append (imported imported_type 0 s.imports) s.functions) in
     ap (λ (n : ℕ) (f : ℕ). nat_lt f n) count
 
 -- ---- the list
@@ -56,8 +68,8 @@ module _ (s : wire.Module) (groups : List Group) (c : Contents) where
     are = ap (λ (ls : List Told). flat_map (λ part. part) (Parts ls)) h.are;
   }
 
-  pub lists : (locals : List Told) (list : Vec ℕ) → AreTold s groups c (flat_map (λ part. part) (Parts locals)) → (list.items ≡ [] ++ rows (Parts locals)) × RowsFit (Parts locals) → ListsItems s groups c (Ok list)
-  lists locals list told h = (flat_map (λ part. part) (Parts locals), told, h.0 ∙ rows_flat (Parts locals), rows_fit (Parts locals) h.1)
+  pub lists : (locals : List Told) (old : List ℕ) (list : Vec ℕ) → old ≡ [] → AreTold s groups c (flat_map (λ part. part) (Parts locals)) → (list.items ≡ old ++ rows (Parts locals)) × RowsFit (Parts locals) → ListsItems s groups c (Ok list)
+  lists locals old list none told h = (flat_map (λ part. part) (Parts locals), told, h.0 ∙ ap (λ l. l ++ rows (Parts locals)) none ∙ rows_flat (Parts locals), rows_fit (Parts locals) h.1)
 
   pub lists_not : (X : Type 0) (e : WireError) (old new : List ℕ) (locals : List Told) → AreTold s groups c (flat_map (λ part. part) (Parts locals)) → Adds {X = X} (Err e) old new (rows (Parts locals)) (RowsFit (Parts locals)) → ListsItems s groups c (Err e)
   lists_not X wires.Malformed old new locals told h = h

@@ -26,8 +26,8 @@ pub all_after : (told : List Told) (names : List Named) → after_all after_name
 all_after told [] = sym (append-nil told)
 all_after told (name ∷ names) = all_after (told ++ local_named name) names ∙ append_assoc told (local_named name) (flat_map local_named names)
 
-pub handed_none : (known : ℕ → Bool) → AreHanded known [] []
-handed_none known = record { namings = []; read = tt; are = refl }
+pub handed_none : (known : ℕ → Bool) (told : List Told) → told ≡ [] → AreHanded known [] told
+handed_none known told none = record { namings = []; read = tt; are = none }
 
 pub handed_more : (known : ℕ → Bool) (sections : List RawCustom) (i : ℕ) (x : RawCustom) (told new : List Told) (names : List Named) → i < length sections → x ≡ get_or sections i x → AreHanded known (take i sections) told
     → Names known x.bytes.now names → new ≡ after_all after_named told names → AreHanded known (take (i + 1) sections) new
@@ -46,8 +46,8 @@ zip_seen known [] (n ∷ ns) h = elim h [ ]
 zip_seen known (c ∷ cs) [] h = elim h [ ]
 zip_seen known (c ∷ cs) (n ∷ ns) h = (h.0, zip_seen known cs ns h.1)
 
-pub handed_all : (known : ℕ → Bool) (customs : List wire.Custom) (sections : List RawCustom) (i : ℕ) (told : List Told) → length sections ≤ i → map (λ (c : RawCustom). c.bytes.now) sections ≡ name_payloads customs → AreHanded known (take i sections) told
-    → AreLocalNames known customs told
-handed_all known customs sections i told past same h =
+pub handed_all : (known : ℕ → Bool) (customs : List wire.Custom) (sections : List RawCustom) (i : ℕ) (told : List Told) → map (λ (c : RawCustom). c.bytes.now) sections ≡ name_payloads customs → AreHanded known (take i sections) told
+    → length sections ≤ i → AreLocalNames known customs told
+handed_all known customs sections i told same h past =
     let whole = subst (λ (l : List RawCustom). AllZip (λ (c : RawCustom) (names : List Named). Names known c.bytes.now names) l h.namings) (take_all sections i past) h.read in
     record { namings = h.namings; read = subst (λ (l : List (List ℕ)). AllZip (Names known) l h.namings) same (zip_seen known sections h.namings whole); are = h.are }

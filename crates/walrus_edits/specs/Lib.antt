@@ -4,3 +4,5 @@ pub mod ItemValues
 pub mod Items
 pub mod LocalNames
 pub mod TypeRecords
+pub mod Edited
+pub mod Ending

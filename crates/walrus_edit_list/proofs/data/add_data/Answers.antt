@@ -20,8 +20,8 @@ returns-in_err-add_segment g c =
     let p = err_from_is_err_and c.from_residual.result c.from_residual.ensures.1 in
     let entry = c.entry-item.result in
     rw (p.1, p.2)
-    (refused AddsSegment RefusesSegment data_entry c.args.raw.now c.segments.entry-index entry (map data_entry c.args.raw.now) (contents_of c.segments.module) (contents_of c.args.module.now) _ c.segments-test.true c.segments.invariant
-    (subst (λ x. RefusesSegment (data_entry x) (contents_of c.segments.module) _) c.entry-item.is c.in_err-add_segment.ensures))
+    (refused AddsSegment RefusesSegment data_entry c.args.raw.now c.segments.entry-index entry (map data_entry c.args.raw.now) (contents_of c.segments.module) (contents_of c.args.module.now) c.in_err-add_segment.field-0.0 c.segments-test.true c.segments.invariant
+    (subst (λ x. RefusesSegment (data_entry x) (contents_of c.segments.module) c.in_err-add_segment.field-0.0) c.entry-item.is c.in_err-add_segment.ensures))
 
 pub returns : goal.returns
 returns g c =

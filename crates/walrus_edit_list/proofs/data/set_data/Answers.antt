@@ -1,5 +1,5 @@
-use Rattle.std.proofs.Common.{ap, ap₂, false, inl, inr, refl, subst, true, ◌∙◌}
-use Rattle.std.specs.Prelude.{◌≡◌, Some}
+use Rattle.std.proofs.Common.{ap, false, inr, refl, subst, true, ◌∙◌}
+use Rattle.std.specs.Prelude.{None, Some, ◌≡◌, ◌⊎◌}
 use Rattle.std.proofs.lemmas.Result.{err_from_is_err_and}
 use Rattle.wasm_entries.specs.Record.{data_entry}
 use Rattle.walrus_base.specs.Arena.{item_at}
@@ -7,16 +7,21 @@ use Rattle.walrus_base.specs.Id.{place}
 use Rattle.walrus_contents.specs.View.{data_kind_of}
 use Rattle.walrus_items.specs.Data.{data_segments, data_value}
 use Rattle.walrus_items.specs.Memories.{memories}
-use Rattle.walrus_edit_list.specs.Data.{in_memory, with_data}
+use Rattle.walrus_contents.specs.declared.parts.Contents.{Contents}
+use Rattle.walrus_module.specs.View.{contents_of}
+use Rattle.walrus_edit_list.specs.Data.{data_in, in_memory, with_data}
+use Rattle.walrus_edit_list.specs.Ids.{HasTooMany}
+use Rattle.walrus_edit_list.specs.Places.{IsGone}
 use Rattle.walrus_edit_list.proofs.Found.{data_found, data_lost}
-use Rattle.walrus_edit_list.proofs.Refusing.{refuses_so}
+use Rattle.walrus_edit_list.proofs.Refusing.{large_stays, refuses_so}
 use Rattle.walrus_edit_list.proofs.SegmentSets.{set_so}
 use Rattle.walrus_edit_list.proofs.data.set_data.Goals as goal
 
 pub returns-in_err-ids : goal.returns-in_err-ids
 returns-in_err-ids g c =
     let p = err_from_is_err_and c.from_residual.result c.from_residual.ensures.1 in
-    rw (p.1, p.2) (refuses_so _ (λ none. absurd none) (λ large. large) c.in_err-ids.ensures)
+    let m : Contents = contents_of c.args.module.now in
+    rw (p.1, p.2) (large_stays (IsGone (data_segments m.data_) c.args.number ⊎ (data_in m (data_entry c.args.raw.now) ≡ None)) (HasTooMany m) c.in_err-ids.field-0.0 c.in_err-ids.ensures)
 
 pub returns-in_err-kind : goal.returns-in_err-kind
 returns-in_err-kind g c =

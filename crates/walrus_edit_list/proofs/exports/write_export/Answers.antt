@@ -8,4 +8,4 @@ use Rattle.walrus_edit_list.proofs.exports.write_export.Goals as goal
 pub returns : goal.returns
 returns c =
     changed export_value (λ was. record was { name = string_bytes c.args.name; item = c.args.item }) c.args.all.now.arena.places.items
-    (place c.at-id.result) c.args.number _ (export_value c.get_mut-export.result.now) c.at-id.ensures c.get_mut-export.ensures.value refl
+    (place c.args.id) (place c.args.id) _ (export_value c.get_mut-export.result.now) refl c.get_mut-export.ensures.value refl

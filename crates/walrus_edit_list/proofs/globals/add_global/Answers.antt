@@ -1,14 +1,20 @@
 use Rattle.std.proofs.Common.{refl}
+use Rattle.std.specs.Prelude.{◌≡◌, None}
 use Rattle.std.proofs.lemmas.Result.{err_from_is_err_and}
 use Rattle.wasm_entries.specs.Record.{global_entry}
+use Rattle.walrus_contents.specs.declared.parts.Contents.{Contents}
+use Rattle.walrus_module.specs.View.{contents_of}
+use Rattle.walrus_edit_list.specs.Globals.{global_in}
+use Rattle.walrus_edit_list.specs.Ids.{HasTooMany}
 use Rattle.walrus_edit_list.proofs.Found.{global_found, global_unbegun, global_untyped}
-use Rattle.walrus_edit_list.proofs.Refusing.{refuses_so}
+use Rattle.walrus_edit_list.proofs.Refusing.{large_stays, refuses_so}
 use Rattle.walrus_edit_list.proofs.globals.add_global.Goals as goal
 
 pub returns-in_err-ids : goal.returns-in_err-ids
 returns-in_err-ids g c =
     let p = err_from_is_err_and c.from_residual.result c.from_residual.ensures.1 in
-    rw (p.1, p.2) (refuses_so _ (λ none. absurd none) (λ large. large) c.in_err-ids.ensures)
+    let m : Contents = contents_of c.args.module.now in
+    rw (p.1, p.2) (large_stays (global_in m (global_entry c.args.raw.now) ≡ None) (HasTooMany m) c.in_err-ids.field-0.0 c.in_err-ids.ensures)
 
 pub returns-in_err-ty : goal.returns-in_err-ty
 returns-in_err-ty g c =

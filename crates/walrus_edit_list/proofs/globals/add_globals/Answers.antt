@@ -20,8 +20,8 @@ returns-in_err-add_global g c =
     let p = err_from_is_err_and c.from_residual.result c.from_residual.ensures.1 in
     let entry = c.entry-item.result in
     rw (p.1, p.2)
-    (refused AddsGlobal RefusesGlobal global_entry c.args.raw.now c.globals.entry-index entry (map global_entry c.args.raw.now) (contents_of c.globals.module) (contents_of c.args.module.now) _ c.globals-test.true c.globals.invariant
-    (subst (λ x. RefusesGlobal (global_entry x) (contents_of c.globals.module) _) c.entry-item.is c.in_err-add_global.ensures))
+    (refused AddsGlobal RefusesGlobal global_entry c.args.raw.now c.globals.entry-index entry (map global_entry c.args.raw.now) (contents_of c.globals.module) (contents_of c.args.module.now) c.in_err-add_global.field-0.0 c.globals-test.true c.globals.invariant
+    (subst (λ x. RefusesGlobal (global_entry x) (contents_of c.globals.module) c.in_err-add_global.field-0.0) c.entry-item.is c.in_err-add_global.ensures))
 
 pub returns : goal.returns
 returns g c =

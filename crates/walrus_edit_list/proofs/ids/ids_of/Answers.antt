@@ -2,6 +2,7 @@ use Rattle.std.proofs.Common.{ap, ◌∙◌}
 use Rattle.std.specs.List.{range_with_len}
 use Rattle.std.proofs.lemmas.Result.{err_from_is_err_and}
 use Rattle.walrus_base.specs.Operators.{Types, Functions, Tables, Memories, Tags, Globals, Elements, DataSegments}
+use Rattle.walrus_code.specs.declared.indices.IndicesToIds.{IndicesToIds}
 use Rattle.walrus_module.specs.View.{contents_of}
 use Rattle.walrus_edit_list.proofs.Numbered.{numbered, too_many}
 use Rattle.walrus_edit_list.proofs.ids.ids_of.Goals as goal
@@ -48,7 +49,8 @@ returns-in_err-first_ids-8 g c =
 
 pub returns : goal.returns
 returns g c =
-    numbered (contents_of c.args.module.now) _
+    let ids : IndicesToIds = record { types = c.in_ok-first_ids.field-0; functions = c.in_ok-first_ids-2.field-0; tables = c.in_ok-first_ids-3.field-0; memories = c.in_ok-first_ids-4.field-0; tags = c.in_ok-first_ids-5.field-0; globals = c.in_ok-first_ids-6.field-0; elements = c.in_ok-first_ids-7.field-0; data_ = c.in_ok-first_ids-8.field-0 } in
+    numbered (contents_of c.args.module.now) ids
     (c.in_ok-first_ids.ensures ∙ ap (range_with_len 0) (c.index.ensures ∙ c.next_id.ensures))
     (c.in_ok-first_ids-2.ensures ∙ ap (range_with_len 0) (c.index-2.ensures ∙ c.next_id-2.ensures))
     (c.in_ok-first_ids-3.ensures ∙ ap (range_with_len 0) (c.index-3.ensures ∙ c.next_id-3.ensures))

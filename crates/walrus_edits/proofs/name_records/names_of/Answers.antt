@@ -1,4 +1,4 @@
-use Rattle.std.proofs.Common.{refl}
+use Rattle.std.proofs.Common.{ap, map, refl}
 use Rattle.walrus_items.specs.Data.{DataValue}
 use Rattle.walrus_items.specs.Elements.{ElementValue}
 use Rattle.walrus_items.specs.Functions.{FunctionValue}
@@ -6,12 +6,13 @@ use Rattle.walrus_items.specs.Globals.{GlobalValue}
 use Rattle.walrus_items.specs.Memories.{MemoryValue}
 use Rattle.walrus_items.specs.Tables.{TableValue}
 use Rattle.walrus_items.specs.Tags.{TagValue}
+use Rattle.walrus_edits.specs.ItemSteps.{name_told}
 use Rattle.walrus_edits.proofs.NameSteps.{all_pushed}
 use Rattle.walrus_edits.proofs.name_records.names_of.Goals as goal
 
 pub returns : goal.returns
 returns c =
-    all_pushed _ _ _ _ _ _ _ _ _ _ _ _ _ _ _ _ _ _ c.in_ok-push_name.ensures c.in_ok-push_type_names.ensures
+    all_pushed _ _ _ _ _ _ _ _ _ _ _ _ _ _ _ _ _ _ _ (ap (map name_told) c.new-names.ensures.items) c.in_ok-push_name.ensures c.in_ok-push_type_names.ensures
     (c.in_ok-push_names.ensures (λ (f : FunctionValue). f.name) (λ f. refl))
     (c.in_ok-push_names-2.ensures (λ (t : TableValue). t.name) (λ t. refl))
     (c.in_ok-push_names-3.ensures (λ (m : MemoryValue). m.name) (λ m. refl))

@@ -6,4 +6,4 @@ use Rattle.walrus_edits.proofs.producer_records.push_values.Given as goal
 
 -- the producers so far, and those that are left
 abbrev pub invariant-values : goal.invariant-values
-invariant-values l = map producer_told l.to.items ++ producers_of l.field.now (values_seen (drop l.value-index l.values)) ≡ map producer_told l.fn.to.items ++ producers_of l.field.now (values_seen l.values)
+invariant-values l = map producer_told l.to.items ++ producers_of l.field (values_seen (drop l.value-index l.values)) ≡ map producer_told l.fn.to.items ++ producers_of l.field (values_seen l.values)
