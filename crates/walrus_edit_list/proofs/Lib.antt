@@ -13,6 +13,7 @@ mod Found
 mod FrontFormed
 mod FrontNamed
 mod FrontNests
+mod FunctionEdits
 mod FunctionRefusals
 mod Keeping
 mod Numbered
