@@ -1,5 +1,5 @@
 -- What a refusal of a step says of an edit of a function.
-use Rattle.std.proofs.Common.{◌≡◌, ℕ, List, Option, Some, sym, subst}
+use Rattle.std.proofs.Common.{◌≡◌, ℕ, List, Option, Some, None, IsSome, sym, subst}
 use Rattle.walrus_base.specs.Arena.{item_at}
 use Rattle.walrus_base.specs.Id.{place}
 use Rattle.walrus_bodies.specs.declared.features.Features.{Features}
@@ -58,6 +58,9 @@ module _ (f : Features) (ty : ℕ) (code : List ℕ) (m : Contents) where
       (subst (λ (ns : Lookup). RefusesBody ns (tag_types m.tags) f ty code m.types m.locals e) is
       (subst (λ (ts : ℕ → Option ℕ). RefusesBody names ts f ty code m.types m.locals e) are h))
 
+  pub added_refuses : (names : Lookup) (tags : ℕ → Option ℕ) → names ≡ ids_of m → tags ≡ tag_types m.tags → (own : ℕ) → own ≡ ty → (e : Error) → RefusesBody names tags f own code m.types m.locals e → RefusesRead f ty code m e
+  added_refuses names tags is are own at e h = body_refuses names tags is are e (subst (λ (t : ℕ). RefusesBody names tags f t code m.types m.locals e) at h)
+
 -- the function of an id is there, and isn't set
 pub slot_refuses : (f : Features) (slot : Option FunctionValue) (g : FunctionValue) (code : List ℕ) (m : Contents) (e : Error) → slot ≡ Some g → RefusesRead f (place (kind_type g.kind)) code m e
     → RefusesSlot f slot code m e
@@ -113,3 +116,8 @@ module _ (f : Features) (bytes : List ℕ) (m : Contents) (g : FunctionValue) wh
 
     pub front_unnumbered : (e : Error) → Refuses ⊥ (HasTooMany m) e → RefusesFronted f bytes m slot e
     front_unnumbered e h = subst (λ (o : Option FunctionValue). RefusesFronted f bytes m o e) (sym is) (unnumbered e h)
+
+-- whatever stands there
+pub front_uncounted : (f : Features) (bytes : List ℕ) (m : Contents) (slot : Option FunctionValue) → IsSome slot → (e : Error) → Refuses ⊥ (HasTooMany m) e → RefusesFronted f bytes m slot e
+front_uncounted f bytes m None live e h = absurd (cc)
+front_uncounted f bytes m (Some g) live e h = unnumbered f bytes m g e h

@@ -3,15 +3,17 @@ mod Counting
 pub mod EditRows
 mod Exporting
 mod FineFronts
-mod FineFunctions
+pub mod FineFunctions
 pub mod FineItems
 pub mod FineSegments
 mod FineSlots
 mod Folding
+mod FormedStays
 mod Found
 mod FrontFormed
 mod FrontNamed
 mod FrontNests
+mod FunctionEdits
 mod FunctionRefusals
 mod Importing
 mod Keeping

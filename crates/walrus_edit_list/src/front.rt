@@ -116,5 +116,6 @@ pub(crate) fn front_function<S>(
     }
     let ids = ids_of(alloc, module)?;
     let kind = &mut module.funcs.get_mut(id).kind;
-    front_kind(alloc, bytes, features, &ids, &module.types, kind)
+    front_kind(alloc, bytes, features, &ids, &module.types, kind)?;
+    Ok(())
 }
