@@ -5,21 +5,22 @@ mod Numbered
 mod BodiesKept
 mod Counting
 mod FineFronts
-mod FineFunctions
+pub mod FineFunctions
+pub mod FineItems
+pub mod FineSlots
+pub mod FormedStays
 mod FrontFormed
 mod FrontNamed
 mod FrontNests
 mod FunctionRefusals
-mod ParsedFormed
+mod FunctionsUnread
+pub mod ParsedFormed
+mod Places
 mod ReadFormed
 mod Refusing
 mod SegmentSets
 mod Turns
-pub mod RefusingBodies
 mod Exporting
-pub mod FineItems
-mod FineSlots
-mod Places
 mod Folding
-mod Keeping
+pub mod Keeping
 mod TagsKept

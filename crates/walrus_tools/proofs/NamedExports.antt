@@ -34,6 +34,11 @@ module _ (some others : List (List ℕ)) (moved : IsPermutation some others) whe
 abbrev Text : Type 0
 Text = Bor (List ℕ)
 
+-- what is told of the texts as they stand
+pub tells_standing : (names lent : List Text) (all : List (List ℕ)) → texts names ≡ all → lent ≡ names → (choices : List Choice) (found : Option ℕ) → TellsUnfit (texts lent) choices found → TellsUnfit all choices found
+tells_standing names lent all are same choices found tells =
+    subst (λ (ts : List (List ℕ)). TellsUnfit ts choices found) (ap texts same ∙ are) tells
+
 -- what is told of texts that were put in order
 pub tells_sorted : (names sorted lent : List Text) (all : List (List ℕ)) → texts names ≡ all → IsPermutation names sorted → lent ≡ sorted → (choices : List Choice) (found : Option ℕ) → TellsUnfit (texts lent) choices found → TellsUnfit all choices found
 tells_sorted names sorted lent all are moved same choices found tells =

@@ -35,7 +35,8 @@ pub(crate) fn unfit_number(
     ensures { IfOk result (TellsUnfit (export_names (exports all.now)) (choices_seen choices.now)) }
 {
     let mut names = export_names(alloc, all)?;
-    if choices.len() <= FEW {
+    let are_few = choices.len() <= FEW;
+    if are_few {
         return Ok(first_unfit(&names, choices, false));
     }
     names.sort_unstable();

@@ -7,7 +7,7 @@ ghost use Rattle.walrus_tools.specs.StubMatching.{AnswersMatching, StubsChosen, 
 ghost use Rattle.walrus.specs.Wanted.{config_wanted};
 
 use crate::import_choice::chosen_imports;
-use crate::trap_import::trap_import;
+use crate::import_traps::trap_import;
 use std::alloc::Global;
 use walrus::{ImportId, ImportKey, Marks, Module, ModuleConfig, Result, Wanted, finished_ready};
 use walrus_sections::Choice;
