@@ -1,7 +1,6 @@
 use Rattle.std.proofs.Common.{ap, false, refl, subst, ◌∙◌}
 use Rattle.std.specs.Prelude.{◌≡◌, None, Some, slice_set}
 use Rattle.walrus_base.specs.Arena.{item_at}
-use Rattle.walrus_base.specs.Id.{place}
 use Rattle.walrus_contents.specs.View.{data_kind_of}
 use Rattle.walrus_items.specs.Data.{data_value, data_segments}
 use Rattle.walrus_items.specs.Memories.{memories}

@@ -1,4 +1,4 @@
-use Rattle.std.proofs.Common.{ap, ap₂, false, inl, inr, refl, subst, true, ◌∙◌}
+use Rattle.std.proofs.Common.{ap, false, inr, refl, subst, true, ◌∙◌}
 use Rattle.std.specs.Prelude.{None, Some, ◌≡◌, ◌⊎◌}
 use Rattle.std.proofs.lemmas.Result.{err_from_is_err_and}
 use Rattle.wasm_entries.specs.Record.{data_entry}

@@ -1,7 +1,6 @@
 use Rattle.std.proofs.Common.{ap, false, refl, subst, ◌∙◌}
 use Rattle.std.specs.Prelude.{◌≡◌, None, Some, slice_set}
 use Rattle.walrus_base.specs.Arena.{item_at}
-use Rattle.walrus_base.specs.Id.{place}
 use Rattle.walrus_contents.specs.View.{element_kind_of}
 use Rattle.walrus_items.specs.Elements.{element_value, elements}
 use Rattle.walrus_items.specs.Tables.{tables}

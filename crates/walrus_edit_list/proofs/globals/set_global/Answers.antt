@@ -1,4 +1,4 @@
-use Rattle.std.proofs.Common.{ap, inl, inr, refl, subst, ◌∙◌}
+use Rattle.std.proofs.Common.{inr, refl, subst}
 use Rattle.std.specs.Prelude.{None, Some, ◌≡◌, ◌⊎◌}
 use Rattle.std.proofs.lemmas.Result.{err_from_is_err_and}
 use Rattle.wasm_entries.specs.Record.{global_entry}
