@@ -31,6 +31,7 @@ mod Turns
 mod Exporting
 mod Folding
 pub mod Keeping
+mod Importing
 mod Keeping
 mod Numbered
 mod ParsedFormed

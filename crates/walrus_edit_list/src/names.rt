@@ -202,7 +202,10 @@ pub(crate) fn give_name<S>(alloc: Global, naming: Naming<'_>, module: &mut Modul
         Naming::Memory(id, name) => name_memory(alloc, id, name, &mut module.memories),
         Naming::Tag(id, name) => name_tag(alloc, id, name, &mut module.tags),
         Naming::Global(id, name) => name_global(alloc, id, name, &mut module.globals),
-        Naming::Element(id, name) => name_element(alloc, id, name, &mut module.elements),
+        Naming::Element(id, name) => {
+            name_element(alloc, id, name, &mut module.elements)?;
+            Ok(())
+        }
         Naming::Data(id, name) => name_data(alloc, id, name, &mut module.data_),
         Naming::Module(name) => {
             module.name = owned_name(alloc, name)?;
