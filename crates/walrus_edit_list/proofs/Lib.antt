@@ -1,9 +1,17 @@
+pub mod EditRows
+pub mod FineSegments
+mod Found
+mod Numbered
 mod BodiesKept
 mod Counting
 pub mod EditRows
 mod Exporting
 mod FineFronts
 pub mod FineFunctions
+pub mod FineItems
+pub mod FineSlots
+pub mod FormedStays
+mod FineFunctions
 pub mod FineItems
 pub mod FineSegments
 mod FineSlots
@@ -15,6 +23,16 @@ mod FrontNamed
 mod FrontNests
 mod FunctionEdits
 mod FunctionRefusals
+mod FunctionsUnread
+pub mod ParsedFormed
+mod Places
+mod ReadFormed
+mod Refusing
+mod SegmentSets
+mod Turns
+mod Exporting
+mod Folding
+pub mod Keeping
 mod Importing
 mod Keeping
 mod Numbered
