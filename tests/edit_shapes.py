@@ -18,7 +18,7 @@ sys.path.insert(0, str(pathlib.Path(__file__).resolve().parent.parent / "python"
 import mulkavesh
 from mulkavesh._wire import block, name, number, vector
 
-LARGER, MOST_TIMES_AS_LONG, SHORTEST_JUDGED = 10, 16, 0.1
+LARGER, MOST_TIMES_AS_LONG, SHORTEST_JUDGED, ROUNDS = 10, 16, 0.1, 3
 MEMORY_BESIDE, BYTES_FOR_A_BYTE = 50 * 2**20, 100
 EMPTY_BODY = b"\2\0\x0B"
 SET, DELETE, BRING, NAME, PRODUCER, FRONT = 17, 18, 19, 20, 21, 23
@@ -100,11 +100,12 @@ def one(shape, count):
 
 
 def measured(shape, count):
-    ended = subprocess.run([sys.executable, __file__, "--one", shape, str(count)], capture_output=True, text=True, check=False)
-    if ended.returncode:
+    """The same, with the least seconds of some runs; or None where a run ends otherwise."""
+    runs = [subprocess.run([sys.executable, __file__, "--one", shape, str(count)], capture_output=True, text=True, check=False) for _ in range(ROUNDS)]
+    if any(ended.returncode for ended in runs):
         return None
-    seconds, handed, peak = ended.stdout.split()
-    return float(seconds), int(handed), int(peak)
+    told = [ended.stdout.split() for ended in runs]
+    return min(float(seconds) for seconds, _, _ in told), int(told[0][1]), max(int(peak) for _, _, peak in told)
 
 
 def main():
