@@ -1,7 +1,8 @@
 -- Edits that were applied so far.
-use Rattle.std.proofs.Common.{◌≡◌, ℕ, ◌+◌, ◌≤◌, List, [], ◌∷◌, ◌++◌, Some, length, refl, sym, ap, ◌∙◌, subst, arith}
+use Rattle.std.proofs.Common.{◌≡◌, ℕ, ◌+◌, ◌≤◌, List, [], ◌∷◌, ◌++◌, Some, length, refl, sym, ap, ◌∙◌, subst, inl, inr, arith}
 use Rattle.std.proofs.lemmas.List.{append-nil, append_assoc, length-append}
 use Rattle.walrus_bodies.specs.declared.features.Features.{Features}
+use Rattle.walrus_items.specs.Errors.{out_of_memory}
 use Rattle.walrus_items.specs.declared.error.Error.{Error}
 use Rattle.walrus_edit_list.specs.Applies.{AppliesEach, EditsBy, RefusesFirst, RefusesNext}
 use Rattle.walrus_edit_list.specs.Edits.{IsEdit, Said, edit_at}
@@ -61,9 +62,10 @@ module _ (f : Features) where
       let short : length rest ≡ 0 = omega (arith, so.room, last) in
       subst (λ (k : ℕ). AppliesEach f bytes k old now) last (ends_short bytes n rest old now so short)
 
-  pub refused : (bytes : List ℕ) (n : ℕ) (rest : List ℕ) (old now : Held) (e : Error) → SoFar bytes n rest old now → RefusesFirst f rest now e → RefusesNext f bytes n old e
-  refused bytes n rest old now e so refuses = record { front = so.front; rest = rest; parts = so.parts; made = now; each = so.each; refuses = refuses }
+  pub refused : (bytes : List ℕ) (n : ℕ) (rest : List ℕ) (old now : Held) (e : Error) → SoFar bytes n rest old now → (length rest ≡ 0 → ⊥) → RefusesFirst f rest now e → RefusesNext f bytes n old e
+  refused bytes n rest old now e so some refuses =
+      record { front = so.front; rest = rest; parts = so.parts; made = now; each = so.each; refuses = inr ((λ none. some (ap length none)), refuses) }
 
   -- nothing was applied yet, and memory is refused
-  pub refused_first : (bytes : List ℕ) (old : Held) (e : Error) → RefusesFirst f bytes old e → RefusesNext f bytes 0 old e
-  refused_first bytes old e refuses = refused bytes 0 bytes old old e (begins bytes old) refuses
+  pub refused_first : (bytes : List ℕ) (old : Held) (e : Error) → e ≡ out_of_memory → RefusesNext f bytes 0 old e
+  refused_first bytes old e is = record { front = []; rest = bytes; parts = refl; made = old; each = (begins bytes old).each; refuses = inl is }

@@ -1,7 +1,8 @@
 -- What a list of edits makes of what is held, each in its turn, and why it is refused.
-use Rattle.std.specs.Prelude.{ℕ, List, [], ◌∷◌, ◌++◌, length, Option, Some, None, Result, Ok, Err, ◌≡◌, ⊤}
+use Rattle.std.specs.Prelude.{ℕ, List, [], ◌∷◌, ◌++◌, length, Option, Some, None, Result, Ok, Err, ◌≡◌, ◌≢◌, ◌⊎◌, ⊤}
 use Rattle.std.specs.Borrow.{Bor}
 use Rattle.walrus_bodies.specs.declared.features.Features.{Features}
+use Rattle.walrus_items.specs.Errors.{out_of_memory}
 use Rattle.walrus_items.specs.declared.error.Error.{Error}
 use Rattle.walrus_items.specs.declared.error.Error.TheVariants.{Memory}
 use Rattle.walrus_model.specs.Config.{Config}
@@ -39,14 +40,14 @@ module _ (f : Features) where
     pub count : length all ≡ n
     pub edits : EditsBy all old new
 
-  -- so many edits stand in front, and make this; the next one is refused on that
+  -- so many edits stand in front, and make this; memory ran out, or bytes are left, whose first edit is refused on that
   pub record RefusesNext (bytes : List ℕ) (n : ℕ) (old : Held) (e : Error) : Type 0 where
     pub front : List ℕ
     pub rest : List ℕ
     pub parts : bytes ≡ front ++ rest
     pub made : Held
     pub each : AppliesEach front n old made
-    pub refuses : RefusesFirst rest made e
+    pub refuses : (e ≡ out_of_memory) ⊎ ((rest ≢ []) × RefusesFirst rest made e)
 
   -- so many edits were applied, which the bytes are, or the next one is refused
   abbrev pub AppliesAll : List ℕ → (old new : Held) → Result ℕ Refusal → Type 0

@@ -29,7 +29,7 @@ use Rattle.walrus_module.specs.Customs.{sections}
 use Rattle.walrus_module.specs.Entry.{raw_in}
 use Rattle.walrus_module.specs.Flags.{Flags, config_of}
 use Rattle.walrus_module.specs.Meaning.{Meaning, meaning, raw_meaning}
-use Rattle.walrus_module.specs.Parsed.{IsParsed, RefusesBytes}
+use Rattle.walrus_module.specs.Parsed.{IsParsed, RefusesBytes, TakenFrom}
 use Rattle.walrus_module.specs.Raws.{raw_sections}
 use Rattle.walrus_module.specs.Settings.{settings}
 use Rattle.walrus_module.specs.View.{can_be_kept, contents_of, custom_of, held_view, kept_by, view}
@@ -86,6 +86,10 @@ module _ {V : Type 0} {O : V → Type 0} where
   taken_from k [] = refl
   taken_from k (r ∷ raws) = ap (λ (l : List RawCustomSection). r ∷ l) (taken_from (k + 1) raws)
 
+  all_there : (raws : List RawCustomSection) → customs (map raw_in (raw_sections {V = V} {O = O} raws)) ≡ map Some (map custom_value raws)
+  all_there [] = refl
+  all_there (r ∷ raws) = ap (λ (l : List (Option frames.Custom)). Some (custom_value r) ∷ l) (all_there raws)
+
 module _ {V : Type 0} {O : V → Type 0} (G : (v : V) → Ghosts (O v)) (m : Module (SectionEntry V O)) (raws : List RawCustomSection) (are : sections m.customs ≡ raw_sections raws) where
   means : map (meaning G) (items (sections m.customs)) ≡ map raw_meaning raws
   means = ap (λ ss. map (meaning G) (items ss)) are ∙ raw_means G raws
@@ -135,7 +139,7 @@ module _ (f : Flags) (bytes edits : List ℕ) where
   by_result collects n made (Ok output) makes ends = record { count = n; made = made; makes = makes; ended = ends }
   by_result collects n made (Err w) makes ends = record { count = n; made = made; makes = makes; refuses = ends }
 
-  module _ {V : Type 0} {O : V → Type 0} (G : (v : V) → Ghosts (O v)) (m : Module (SectionEntry V O)) (parsed : IsParsed c bytes (view G m)) (raws : List RawCustomSection) (are : sections m.customs ≡ raw_sections raws)
+  module _ {V : Type 0} {O : V → Type 0} (G : (v : V) → Ghosts (O v)) (m : Module (SectionEntry V O)) (parsed : IsParsed c bytes (view G m)) (took : TakenFrom (features_of c) bytes (contents_of m)) (raws : List RawCustomSection) (are : sections m.customs ≡ raw_sections raws)
       (taken : List (Option RawCustomSection)) (takes : taken ≡ map raw_in (sections m.customs)) where
     abbrev read : Held
     read = record { contents = contents_of m; customs = customs taken; has_read = false }
@@ -147,7 +151,12 @@ module _ (f : Flags) (bytes edits : List ℕ) where
         ∙ ap (map custom_value) (taken_from 0 raws)
 
     pub is_read : IsRead c bytes read
-    is_read = record { parsed = subst (λ (v : Abstract). IsParsed c bytes v) (view_held G m raws are read refl beside) parsed; fresh = refl }
+    is_read = record {
+      parsed = subst (λ (v : Abstract). IsParsed c bytes v) (view_held G m raws are read refl beside) parsed;
+      taken = took;
+      in_place = ap customs (takes ∙ ap (map raw_in) are) ∙ all_there {V = V} {O = O} raws ∙ ap (map Some) (sym beside);
+      fresh = refl;
+    }
 
     pub next_refused : (collects : Bool) (n : ℕ) (e : Error) → RefusesNext (features_of c) edits n read e → AnswersEdit c collects bytes edits (Err (Edit n e))
     next_refused collects n e next = record { read = read; is_read = is_read; next = next }

@@ -1,5 +1,5 @@
 -- What a list of edits makes of a module, from bytes to bytes.
-use Rattle.std.specs.Prelude.{ℕ, Bool, false, List, map, Result, Ok, Err, ◌≡◌, ⊤}
+use Rattle.std.specs.Prelude.{ℕ, Bool, false, List, map, Some, Result, Ok, Err, ◌≡◌, ⊤}
 use Rattle.std.specs.Global.{Vec}
 use Rattle.walrus_base.specs.Arena.{items}
 use Rattle.walrus_items.specs.declared.error.Error.{Error}
@@ -10,7 +10,7 @@ use Rattle.walrus_model.specs.Sections.{custom_of}
 use Rattle.walrus_contents.specs.View.{contents_view}
 use Rattle.walrus_theorem.specs.Features.{features_of}
 use Rattle.walrus_theorem.specs.Headline.{Accepts}
-use Rattle.walrus_module.specs.Parsed.{IsParsed}
+use Rattle.walrus_module.specs.Parsed.{IsParsed, TakenFrom}
 use Rattle.walrus_module.specs.declared.flaw.Flaw.{Flaw}
 use Rattle.walrus.specs.Edits.{with_customs}
 use Rattle.walrus_edit_list.specs.Applies.{AppliesEach, RefusesNext}
@@ -23,9 +23,11 @@ use Rattle.walrus_edits.specs.declared.refusal.Refusal.TheVariants.{Input, Edit,
 abbrev pub seen_whole : Held → Abstract
 seen_whole h = with_customs (map custom_of (items h.customs)) h.contents
 
--- this was parsed of the bytes, and no body was read since
+-- this was parsed of the bytes, each item at the place of its index and no custom section gone; and no body was read since
 pub record IsRead (c : Config) (bytes : List ℕ) (read : Held) : Type 0 where
   pub parsed : IsParsed c bytes (seen_whole read)
+  pub taken : TakenFrom (features_of c) bytes read.contents
+  pub in_place : read.customs ≡ map Some (items read.customs)
   pub fresh : read.has_read ≡ false
 
 -- the bytes were parsed, and these edits, so many, were made of that, each in its turn

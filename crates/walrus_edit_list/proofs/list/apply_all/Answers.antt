@@ -13,7 +13,9 @@ edits-preserved g c =
     (next _ _ _ _ _ _ _ _ c.edits.invariant.0 one.0 one.1 one.2, refl, c.edits.invariant.2 ∙ tags_kept _ _ _ _ one.2)
 
 pub returns-in-Err : goal.returns-in-Err
-returns-in-Err g c = refused _ _ _ _ _ _ _ c.edits.invariant.0 c.in-Err.ensures
+returns-in-Err g c =
+    let some : length c.edits.rest.now ≡ 0 → ⊥ = λ none. absurd (grind (arith, nat_tests)) in
+    refused _ _ _ _ _ _ _ c.edits.invariant.0 some c.in-Err.ensures
 
 pub returns-then-is_empty : goal.returns-then-is_empty
 returns-then-is_empty g c =
