@@ -19,7 +19,7 @@ use walrus_items::{Error, FunctionKind, Result};
 use walrus_module::Module;
 
 /// The byte of `end`, which closes a body.
-const END: u8 = 0x0B;
+const END: u8 = 11;
 
 // Reads these bytes, with an `end` behind them, as operators over these parameters, none of them of legacy exceptions.
 fn read_front(
@@ -59,7 +59,8 @@ fn read_front(
 // Puts operators, but for the last one, in front of those of a function, all at once. `Memory` is the only error.
 fn put_front(alloc: Global, mut front: Vec<Operator>, own: &mut LocalFunction) -> Result<()>
     ensures { MatchResult result
-        (λ _. (body_of own.new ≡ but_last (ops_of front.items) ++ body_of own.old) × KeepsOthers own.old own.new)
+        (λ _. (body_of own.new ≡ but_last (ops_of front.items) ++ body_of own.old)
+        × KeepsOthers own.old own.new)
         (λ e. e ≡ out_of_memory) }
 {
     let _end = front.pop();

@@ -45,7 +45,8 @@ fn are_few(declarations: &[Declaration]) -> bool
 
 // Refuses a body that declares more locals than that, before memory is taken for them.
 fn count_locals(alloc: Global, body: &[u8]) -> Result<()>
-    ensures { MatchResult result (λ _. declared_count body.now ≤ 50_000) (RefusesForm (DeclaresNone body.now)) }
+    ensures { MatchResult result (λ _. declared_count body.now ≤ 50_000)
+        (RefusesForm (DeclaresNone body.now)) }
 {
     let (declared, _rest) = read_declarations(alloc, body)?;
     if !are_few(declared.as_slice()) {
