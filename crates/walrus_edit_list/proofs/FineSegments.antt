@@ -8,13 +8,13 @@ use Rattle.walrus_base.specs.declared.locals.ModuleLocals.{ModuleLocals}
 use Rattle.walrus_base.specs.declared.module_types.ModuleTypes.{ModuleTypes}
 use Rattle.walrus_items.specs.Functions.{ModuleFunctions}
 use Rattle.walrus_model.specs.Config.{Config}
-use Rattle.walrus_theorem.proofs.WellStays.{well_formed_in}
+use Rattle.walrus_edit_list.specs.Formed.{AreFormed}
 use Rattle.walrus_edit_list.specs.Data.{AddsData, AddsSegment, DeletesData, SetsData}
 use Rattle.walrus_edit_list.specs.Elements.{AddsElement, AddsElements, DeletesElement}
-use Rattle.walrus_edit_list.specs.Formed.{AreFormed}
 use Rattle.walrus_edit_list.specs.Globals.{AddsGlobal, AddsGlobals, SetsGlobal}
 use Rattle.walrus_edit_list.specs.Memories.{SetsMemory}
 use Rattle.walrus_edit_list.specs.Turns.{InTurn}
+use Rattle.walrus_edit_list.proofs.FormedStays.{stays_formed}
 
 -- what each step keeps, all of them keep
 kept_in_turn : {A : Type 0} (Makes : A → (old new : Contents) → Type 0) (P : Contents → Type 0) → ((x : A) (a b : Contents) → Makes x a b → P a → P b)
@@ -28,10 +28,9 @@ module _ (c : Config) where
 
   -- bodies are formed still, where types, functions and locals are what they were
   pub same_bodies : (a b : Contents) → b.types ≡ a.types → b.funcs ≡ a.funcs → b.locals ≡ a.locals → AreFormed c (contents_view a) → AreFormed c (contents_view b)
-  unfolding well_formed_in
   same_bodies a b types funcs locals formed i f body at is =
-      let h = formed i f body (ap₂ (λ (l : ModuleLocals) (fs : ModuleFunctions). functions_of l fs i) (sym locals) (sym funcs) ∙ at) is in
-      (well_formed_in c (contents_view a) (contents_view b) f.ty body (ap (λ (t : ModuleTypes). types_of t f.ty) types) (λ ty has. ap (λ (t : ModuleTypes). types_of t ty) types) h.0, h.1)
+      stays_formed c (contents_view a) (contents_view b) f.ty body (λ ty. ap (λ (t : ModuleTypes). types_of t ty) types)
+      (formed i f body (ap₂ (λ (l : ModuleLocals) (fs : ModuleFunctions). functions_of l fs i) (sym locals) (sym funcs) ∙ at) is)
 
   -- so are they where what is held is this, and this has them
   kept : (a b n : Contents) → b ≡ n → n.types ≡ a.types → n.funcs ≡ a.funcs → n.locals ≡ a.locals → AreFormed c (contents_view a) → AreFormed c (contents_view b)

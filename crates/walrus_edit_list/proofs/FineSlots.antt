@@ -7,16 +7,16 @@ use Rattle.walrus_base.proofs.Standing.{some_inj}
 use Rattle.walrus_base.specs.Arena.{entries_from, item_at}
 use Rattle.walrus_model.specs.Abstract.{Abstract, Body, Function, LocalFunction}
 use Rattle.walrus_model.specs.Config.{Config}
-use Rattle.walrus_module.specs.Check.{BodiesAreFormed}
-use Rattle.walrus_theorem.proofs.WellStays.{well_formed_in}
+use Rattle.walrus_edit_list.specs.Formed.{AreFormed}
+use Rattle.walrus_edit_list.proofs.FormedStays.{stays_formed}
 
 -- ---- bodies
 
 -- where types stay, and a body that is there was there
 pub carried : (c : Config) (v w : Abstract) → ((t : ℕ) → w.types t ≡ v.types t)
     → ((i : ℕ) (f : Function) (b : Body) → w.functions i ≡ Some f → f.kind ≡ LocalFunction b → v.functions i ≡ Some f)
-    → BodiesAreFormed c v → BodiesAreFormed c w
-carried c v w types bodies formed i f b at is = well_formed_in c v w f.ty b (types f.ty) (λ t has. types t) (formed i f b (bodies i f b at is) is)
+    → AreFormed c v → AreFormed c w
+carried c v w types bodies formed i f b at is = stays_formed c v w f.ty b types (formed i f b (bodies i f b at is) is)
 
 -- ---- what is seen of slots
 

@@ -49,7 +49,8 @@ fn add_section<S>(
     beside: &mut Beside,
 ) -> Result<()>
     ensures { MatchResult result
-        (λ _. AddsSection (section_record section.entry) (held «module».old beside.old) (held «module».new beside.new))
+        (λ _. AddsSection (section_record section.entry) (held «module».old beside.old)
+        (held «module».new beside.new))
         (RefusesSection (section_record section.entry) (held «module».old beside.old)) }
 {
     match section {
@@ -76,7 +77,8 @@ fn set_item<S>(
 ) -> Result<()>
     requires tags { tag_places tags.now ≡ tag_types «module».old.tags }
     ensures { MatchResult result
-        (λ _. SetsItem features.now (setting_seen replacement.entry) (held «module».old beside.old) (held «module».new beside.new))
+        (λ _. SetsItem features.now (setting_seen replacement.entry) (held «module».old beside.old)
+        (held «module».new beside.new))
         (RefusesSet features.now (setting_seen replacement.entry) (held «module».old beside.old)) }
 {
     match replacement {
@@ -97,7 +99,8 @@ fn set_item<S>(
 // Deletes something.
 fn delete_item<S>(deletion: Deletion, module: &mut Module<S>, beside: &mut Beside) -> Result<()>
     ensures { (f : Features) → MatchResult result
-        (λ _. Makes f (deletion_seen deletion) (held «module».old beside.old) (held «module».new beside.new))
+        (λ _. Makes f (deletion_seen deletion) (held «module».old beside.old)
+        (held «module».new beside.new))
         (RefusesMake f (deletion_seen deletion) (held «module».old beside.old)) }
 {
     match deletion {
@@ -123,7 +126,8 @@ fn apply<S>(
 ) -> Result<()>
     requires tags { tag_places tags.now ≡ tag_types «module».old.tags }
     ensures { MatchResult result
-        (λ _. Makes features.now (edit_seen edit.entry) (held «module».old beside.old) (held «module».new beside.new))
+        (λ _. Makes features.now (edit_seen edit.entry) (held «module».old beside.old)
+        (held «module».new beside.new))
         (RefusesMake features.now (edit_seen edit.entry) (held «module».old beside.old)) }
 {
     match edit {
@@ -164,7 +168,8 @@ pub(crate) fn apply_first<'a, S>(
     beside: &mut Beside,
 ) -> Result<&'a [u8]>
     requires tags { tag_places tags.now ≡ tag_types «module».old.tags }
-    ensures { AppliesFirst features.now edits.now (held «module».old beside.old) (held «module».new beside.new) result }
+    ensures { AppliesFirst features.now edits.now (held «module».old beside.old)
+        (held «module».new beside.new) result }
 {
     let (edit, behind) = read_edit(alloc, edits)?;
     apply(alloc, edit, features, tags, module, beside)?;

@@ -35,7 +35,8 @@ pub fn apply_all<S>(
     module: &mut Module<S>,
     beside: &mut Beside,
 ) -> result::Result<usize, Refusal>
-    ensures { AppliesAll features.now edits.now (held «module».old beside.old) (held «module».new beside.new) result }
+    ensures { AppliesAll features.now edits.now (held «module».old beside.old)
+        (held «module».new beside.new) result }
 {
     let tag_types = match types_of_tags(alloc, &module.tags) {
         Ok(types) => types,

@@ -42,6 +42,7 @@ use Rattle.walrus_edit_list.specs.Applies.{AppliesEach, RefusesNext}
 use Rattle.walrus_edit_list.specs.Fine.{IsFine}
 use Rattle.walrus_edit_list.specs.Formed.{AreFormed}
 use Rattle.walrus_edit_list.specs.Held.{Held, customs, custom_value}
+use Rattle.walrus_edit_list.proofs.FormedStays.{stays_formed}
 use Rattle.walrus_edit_list.proofs.Keeping.{keep_fine}
 use Rattle.walrus_edit_list.proofs.ParsedFormed.{parsed_formed}
 use Rattle.walrus_edits.specs.Edited.{AnswersEdit, IsRead, MakesOf, RefusesOne, seen_whole}
@@ -114,11 +115,8 @@ module _ (c : Config) (bytes : List ℕ) (read : Held) (p : IsParsed c bytes (se
   read_formed = parsed_formed c bytes p.module_read (seen_whole read) p.reads p.holds p.parsed
 
   pub read_fine : IsFine c read
-  unfolding well_formed_in
   read_fine = record {
-    formed = λ i f b at is.
-        let h = read_formed i f b at is in
-        (well_formed_in c (seen_whole read) (contents_view read.contents) f.ty b refl (λ t has. refl) h.0, h.1);
+    formed = λ i f b at is. stays_formed c (seen_whole read) (contents_view read.contents) f.ty b (λ t. refl) (read_formed i f b at is);
     free = λ s has. read_made.customs (wire.custom_of s) (Contains-map wire.custom_of s (items read.customs) has);
   }
 

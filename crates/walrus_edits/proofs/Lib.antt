@@ -8,3 +8,4 @@ mod TypeSteps
 mod ZipSteps
 mod Assembled
 mod Ended
+mod SectionsLeft

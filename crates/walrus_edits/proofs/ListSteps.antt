@@ -29,7 +29,7 @@ use Rattle.walrus_edits.proofs.TellSteps.{fits_rows, rows_fit, rows_flat}
 -- ---- how many functions there are
 
 by_kind : (i : ℕ) (is : List Import) (x : Import) (d : RawDesc) → x.desc ≡ d → length (imported imported_type (i + 1) is) ≡ length (filter brings_function is) → length (imported imported_type i (x ∷ is)) ≡ length (filter brings_function (x ∷ is))
-by_kind i is x (descs.Function ty) at h = rw at (ap (λ n. n + 1) h)
+by_kind i is x (descs.Function ty) at h = rw at (ap suc h)
 by_kind i is x (descs.Table ty) at h = rw at h
 by_kind i is x (descs.Memory l) at h = rw at h
 by_kind i is x (descs.Global ty) at h = rw at h
@@ -53,7 +53,7 @@ pub functions_known : (s : wire.Module) (fs : Functions) (imports : List RawImpo
 functions_known s fs imports same b d =
     let raw : fs.imported ≡ length (filter brings_function s.imports) = b ∙ raw_count imports ∙ ap (λ is. length (filter brings_function is)) (sym same) in
     let count : fs.imported + fs.defined ≡ length (function_types s) = omega (arith, raw, d, imported_count 0 s.imports, length-append (imported imported_type 0 s.imports) s.functions) in
-    ap (λ (n : ℕ) (f : ℕ). nat_lt f n) count
+    ap {B = ℕ → Bool} (λ (n : ℕ) (f : ℕ). nat_lt f n) count
 
 -- ---- the list
 

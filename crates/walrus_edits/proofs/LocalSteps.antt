@@ -1,7 +1,8 @@
 -- The names of locals of one section more.
-use Rattle.std.proofs.Common.{◌≡◌, ℕ, ◌+◌, ◌<◌, ◌≤◌, Bool, List, [], ◌∷◌, ◌++◌, length, get_or, take, map, flat_map, refl, sym, ap, subst, ◌∙◌, append_assoc, append-nil}
+use Rattle.std.proofs.Common.{◌≡◌, ℕ, ◌+◌, ◌<◌, ◌≤◌, Bool, List, [], ◌∷◌, ◌++◌, length, take, map, flat_map, refl, sym, ap, subst, ◌∙◌, append_assoc, append-nil}
 use Rattle.std.proofs.lemmas.Grind.{flat_map-append}
 use Rattle.std.proofs.lemmas.List.{take_all}
+use Rattle.std.specs.Prelude.{slice_index_or}
 use Rattle.std.specs.List.{AllZip}
 use Rattle.walrus_base.proofs.ZipTurns.{zip_turn}
 use Rattle.wasm_frames.specs.Record as wire
@@ -29,11 +30,11 @@ all_after told (name ∷ names) = all_after (told ++ local_named name) names ∙
 pub handed_none : (known : ℕ → Bool) (told : List Told) → told ≡ [] → AreHanded known [] told
 handed_none known told none = record { namings = []; read = tt; are = none }
 
-pub handed_more : (known : ℕ → Bool) (sections : List RawCustom) (i : ℕ) (x : RawCustom) (told new : List Told) (names : List Named) → i < length sections → x ≡ get_or sections i x → AreHanded known (take i sections) told
-    → Names known x.bytes.now names → new ≡ after_all after_named told names → AreHanded known (take (i + 1) sections) new
-handed_more known sections i x told new names below at h read shown = record {
+pub handed_more : (known : ℕ → Bool) (sections : List RawCustom) (i : ℕ) (d : RawCustom) (told new : List Told) (names : List Named) → i < length sections → AreHanded known (take i sections) told
+    → Names known (slice_index_or sections i d).bytes.now names → new ≡ after_all after_named told names → AreHanded known (take (i + 1) sections) new
+handed_more known sections i d told new names below h read shown = record {
   namings = h.namings ++ names ∷ [];
-  read = zip_turn (λ (c : RawCustom) (ns : List Named). Names known c.bytes.now ns) sections i x h.namings names below h.read (subst (λ (c : RawCustom). Names known c.bytes.now names) at read);
+  read = zip_turn (λ (c : RawCustom) (ns : List Named). Names known c.bytes.now ns) sections i d h.namings names below h.read read;
   are = shown ∙ all_after told names ∙ ap (λ l. l ++ flat_map local_named names) h.are
       ∙ sym (ap (flat_map local_named) (flat_map-append (λ ns. ns) h.namings (names ∷ []) ∙ ap (λ l. flat_map (λ ns. ns) h.namings ++ l) (append-nil names))
       ∙ flat_map-append local_named (flat_map (λ ns. ns) h.namings) names);
@@ -49,5 +50,5 @@ zip_seen known (c ∷ cs) (n ∷ ns) h = (h.0, zip_seen known cs ns h.1)
 pub handed_all : (known : ℕ → Bool) (customs : List wire.Custom) (sections : List RawCustom) (i : ℕ) (told : List Told) → map (λ (c : RawCustom). c.bytes.now) sections ≡ name_payloads customs → AreHanded known (take i sections) told
     → length sections ≤ i → AreLocalNames known customs told
 handed_all known customs sections i told same h past =
-    let whole = subst (λ (l : List RawCustom). AllZip (λ (c : RawCustom) (names : List Named). Names known c.bytes.now names) l h.namings) (take_all sections i past) h.read in
+    let whole : AllZip (λ (c : RawCustom) (names : List Named). Names known c.bytes.now names) sections h.namings = subst (λ (l : List RawCustom). AllZip (λ (c : RawCustom) (names : List Named). Names known c.bytes.now names) l h.namings) (take_all i sections past) h.read in
     record { namings = h.namings; read = subst (λ (l : List (List ℕ)). AllZip (Names known) l h.namings) same (zip_seen known sections h.namings whole); are = h.are }

@@ -22,10 +22,13 @@ module _ {A : Type 0} (what : ℕ) (name_of : A → Option (List ℕ)) where
 
 -- ---- types
 
-dropped : {X : Type 0} (xs : List X) (i : ℕ) (x : X) → i < length xs → x ≡ get_or xs i x → drop i xs ≡ x ∷ drop (i + 1) xs
-dropped [] i x l at = absurd (omega (arith, l))
-dropped (y ∷ xs) zero x l at = ap (λ z. z ∷ xs) (sym at)
-dropped (y ∷ xs) (suc i) x l at = dropped xs i x (omega (arith, l)) at
+one_more : (i : ℕ) → suc i + 1 ≡ suc (i + 1)
+one_more i = omega arith
+
+dropped : {X : Type 0} (xs : List X) (i : ℕ) (d : X) → i < length xs → drop i xs ≡ get_or xs i d ∷ drop (i + 1) xs
+dropped [] i d l = absurd (omega (arith, l))
+dropped (y ∷ xs) zero d l = refl
+dropped (y ∷ xs) (suc i) d l = dropped xs i d (omega (arith, l)) ∙ ap (λ n. get_or xs i d ∷ drop n (y ∷ xs)) (sym (one_more i))
 
 all_dropped : {X : Type 0} (xs : List X) (i : ℕ) → length xs ≤ i → drop i xs ≡ []
 all_dropped [] zero past = refl
@@ -34,15 +37,16 @@ all_dropped (x ∷ xs) zero past = absurd (omega (arith, past))
 all_dropped (x ∷ xs) (suc i) past = all_dropped xs i (omega (arith, past))
 
 module _ {X : Type 0} (place : X → ℕ) (names : List (Option (Option (List ℕ)))) where
-  pub types_turn : (now new whole : List Told) (ids : List X) (i : ℕ) (id : X) (p : ℕ) (name : Option (List ℕ)) → i < length ids → id ≡ get_or ids i id → p ≡ place id → item_at names (place id) ≡ Some name
+  pub types_turn : (now new whole : List Told) (ids : List X) (i : ℕ) (d : X) (p : ℕ) (name : Option (List ℕ)) → i < length ids → p ≡ place (get_or ids i d) → item_at names (place (get_or ids i d)) ≡ Some name
       → new ≡ now ++ named OF_TYPE p name → now ++ type_names_in names (map place (drop i ids)) ≡ whole → new ++ type_names_in names (map place (drop (i + 1) ids)) ≡ whole
-  types_turn now new whole ids i id p name l at here is put before =
+  types_turn now new whole ids i d p name l here is put before =
+      let id = get_or ids i d in
       let rest = type_names_in names (map place (drop (i + 1) ids)) in
       let same : named OF_TYPE p name ≡ named OF_TYPE (place id) (option_and_then (λ n. n) (item_at names (place id))) =
       ap (λ q. named OF_TYPE q name) here ∙ ap (λ o. named OF_TYPE (place id) (option_and_then (λ n. n) o)) (sym is) in
       ap (λ l. l ++ rest) (put ∙ ap (λ l. now ++ l) same)
       ∙ append_assoc now (named OF_TYPE (place id) (option_and_then (λ n. n) (item_at names (place id)))) rest
-      ∙ ap (λ js. now ++ type_names_in names (map place js)) (sym (dropped ids i id l at)) ∙ before
+      ∙ ap (λ js. now ++ type_names_in names (map place js)) (sym (dropped ids i d l)) ∙ before
 
   pub types_end : (now whole : List Told) (ids : List X) (i : ℕ) → now ++ type_names_in names (map place (drop i ids)) ≡ whole → length ids ≤ i → now ≡ whole
   types_end now whole ids i before past = sym (append-nil now) ∙ ap (λ js. now ++ type_names_in names (map place js)) (sym (all_dropped ids i past)) ∙ before

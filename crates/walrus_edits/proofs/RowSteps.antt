@@ -40,5 +40,5 @@ row_adds spell F view xs i x TooLarge old between new below at w = λ each. w (e
 pub row_ends : {X Y : Type 0} (spell : Y → List ℕ) (F : Y → Type 0) (view : X → Y) (xs : List X) (i : ℕ) (old now : List ℕ) → length xs ≤ i → now ≡ old ++ row_bytes (λ x. spell (view x)) (take i xs) → EachFits (λ x. F (view x)) (take i xs)
     → Adds {X = Unit {0}} (Ok tt) old now (row_bytes spell (map view xs)) (EachFits F (map view xs))
 row_ends spell F view xs i old now past written fit =
-    let all = take_all xs i past in
+    let all = take_all i xs past in
     (written ∙ ap (λ l. old ++ l) (ap (row_bytes (λ x. spell (view x))) all ∙ row_seen spell view xs), each_seen F view xs (subst (EachFits (λ x. F (view x))) all fit))

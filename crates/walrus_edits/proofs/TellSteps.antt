@@ -36,9 +36,9 @@ adds_as (Err (Memory e)) old new spelled other F G same there back h = tt
 adds_as (Err TooLarge) old new spelled other F G same there back h = λ g. h (back g)
 
 -- a list of one
-pub adds_one : {X : Type 0} (r : Result X WireError) (old new : List ℕ) (t : Told) → Adds r old new (told_bytes t) (ToldFits t)
+pub adds_one : (X : Type 0) (r : Result X WireError) (old new : List ℕ) (t : Told) → Adds r old new (told_bytes t) (ToldFits t)
     → Adds r old new (row_bytes told_bytes (t ∷ [])) (EachFits ToldFits (t ∷ []))
-adds_one r old new t h = adds_as r old new _ _ _ _ (sym (append-nil (told_bytes t))) (λ f. (f, tt)) (λ f. f.0) h
+adds_one X r old new t h = adds_as r old new _ _ _ _ (sym (append-nil (told_bytes t))) (λ f. (f, tt)) (λ f. f.0) h
 
 -- ---- a loop that tells: these records stand behind what was there
 
@@ -72,13 +72,16 @@ module _ {X : Type 0} (F : X → List Told) where
   flat_append [] ys = refl
   flat_append (x ∷ xs) ys = ap (λ l. F x ++ l) (flat_append xs ys) ∙ sym (append_assoc (F x) (flat_map F xs) (flat_map F ys))
 
+  one_more : (i : ℕ) → suc i + 1 ≡ suc (i + 1)
+  one_more i = omega arith
+
   -- the item at i, in front of those behind it
   pub split_at : (xs : List X) (i : ℕ) (x : X) → i < length xs → x ≡ get_or xs i x → (behind : List X) × (xs ≡ take i xs ++ x ∷ behind) × (take (i + 1) xs ≡ take i xs ++ x ∷ [])
   split_at [] i x l e = absurd (omega arith)
   split_at (y ∷ xs) zero x l e = (xs, ap (λ z. z ∷ xs) (sym e), ap (λ z. z ∷ []) (sym e))
   split_at (y ∷ xs) (suc i) x l e =
       let rest = split_at xs i x (omega arith) e in
-      (rest.0, ap (λ l. y ∷ l) rest.1, ap (λ l. y ∷ l) rest.2)
+      (rest.0, ap (λ l. y ∷ l) rest.1, ap (λ n. take n (y ∷ xs)) (one_more i) ∙ ap (λ l. y ∷ l) rest.2)
 
   pub turn : (xs : List X) (i : ℕ) (x : X) (old now new : List ℕ) → i < length xs → x ≡ get_or xs i x → HasTold old now (flat_map F (take i xs)) → (new ≡ now ++ row_bytes told_bytes (F x)) × EachFits ToldFits (F x)
       → HasTold old new (flat_map F (take (i + 1) xs))
@@ -98,19 +101,19 @@ flat_single g [] = refl
 flat_single g (x ∷ xs) = ap (λ l. g x ∷ l) (flat_single g xs)
 
 pub told_through : {X : Type 0} (g : X → Told) (xs : List X) (i : ℕ) → length xs ≤ i → flat_map (λ x. g x ∷ []) (take i xs) ≡ map g xs
-told_through g xs i past = ap (λ l. flat_map (λ x. g x ∷ []) l) (take_all xs i past) ∙ flat_single g xs
+told_through g xs i past = ap (λ l. flat_map (λ x. g x ∷ []) l) (take_all i xs past) ∙ flat_single g xs
 
 pub flat_seen : {X Y : Type 0} (F : Y → List Told) (view : X → Y) (xs : List X) → flat_map (λ x. F (view x)) xs ≡ flat_map F (map view xs)
 flat_seen F view [] = refl
 flat_seen F view (x ∷ xs) = ap (λ l. F (view x) ++ l) (flat_seen F view xs)
 
 pub seen_through : {X Y : Type 0} (F : Y → List Told) (view : X → Y) (xs : List X) (i : ℕ) → length xs ≤ i → flat_map (λ x. F (view x)) (take i xs) ≡ flat_map F (map view xs)
-seen_through F view xs i past = ap (λ l. flat_map (λ x. F (view x)) l) (take_all xs i past) ∙ flat_seen F view xs
+seen_through F view xs i past = ap (λ l. flat_map (λ x. F (view x)) l) (take_all i xs past) ∙ flat_seen F view xs
 
 -- the same records
-pub adds_same : {X : Type 0} (r : Result X WireError) (old new : List ℕ) (some others : List Told) → some ≡ others → Adds r old new (row_bytes told_bytes some) (EachFits ToldFits some)
+pub adds_same : (X : Type 0) (r : Result X WireError) (old new : List ℕ) (some others : List Told) → some ≡ others → Adds r old new (row_bytes told_bytes some) (EachFits ToldFits some)
     → Adds r old new (row_bytes told_bytes others) (EachFits ToldFits others)
-adds_same r old new some others same h = subst (λ ts. Adds r old new (row_bytes told_bytes ts) (EachFits ToldFits ts)) same h
+adds_same X r old new some others same h = subst (λ ts. Adds r old new (row_bytes told_bytes ts) (EachFits ToldFits ts)) same h
 
 -- ---- parts, one behind another
 

@@ -50,7 +50,7 @@ module _ (c : Config) (v : Abstract) (types : ModuleTypes) (same : v.types ≡ t
   there i x at = ap (λ f. f i) same ∙ at
 
   pub none_exact : HasExact (items (type_slots types)) → ⊥
-  none_exact (x, (h, (listed, (heap, exact)))) =
+  none_exact (x, (h, (listed, heap, exact))) =
       let found = item_seen (type_slots types) x listed in
       exact (made.writable.heaps (Types, found.0) h (subst (λ o. Contains (heaps_by (λ (d : TypeDef). comp_heaps d.sub.comp) o) h) (sym (there found.0 x found.1)) heap))
 

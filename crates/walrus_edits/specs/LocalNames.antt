@@ -13,7 +13,7 @@ local_told n = ALocalName n.function n.local (string_bytes n.name)
 
 -- the functions with an index below the count of all
 abbrev pub are_known : Functions → ℕ → Bool
-are_known fs f = nat_lt f (fs.imported + fs.defined)
+are_known fs = λ f. nat_lt f (fs.imported + fs.defined)
 
 -- the payloads of those of these sections that are called `name`
 abbrev pub name_payloads : List wire.Custom → List (List ℕ)

@@ -57,15 +57,18 @@ pub fn edit(
     };
     let mut module = config.parse(alloc, bytes)?;
     let none = ModuleCustomSections::<SectionEntry>::new(alloc);
-    let customs = mem::replace(&mut module.customs, none);
+    let sections = mem::replace(&mut module.customs, none);
+    let customs = sections.into_raws(alloc)?;
     let mut beside = Beside {
-        customs: customs.into_raws(alloc)?,
+        customs,
         has_read: false,
     };
     apply_all(alloc, edits, &features, &mut module, &mut beside)?;
     let left = sections_left(alloc, beside.customs)?;
-    let mut whole = put_contents(module, Module::with_config(alloc, config)?);
-    whole.customs = ModuleCustomSections::keeping(alloc, left)?;
+    let kept = ModuleCustomSections::keeping(alloc, left)?;
+    let fresh = Module::with_config(alloc, config)?;
+    let mut whole = put_contents(module, fresh);
+    whole.customs = kept;
     let output = written(alloc, whole, collects)?;
     Ok(output)
 }

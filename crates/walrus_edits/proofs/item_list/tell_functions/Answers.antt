@@ -4,4 +4,4 @@ use Rattle.walrus_edits.proofs.TellSteps.{adds_same}
 use Rattle.walrus_edits.proofs.item_list.tell_functions.Goals as goal
 
 pub returns : goal.returns
-returns c = adds_same _ _ _ _ _ (ap (map defined_told) c.deref.ensures.value ∙ c.in_ok-defined_functions.ensures) c.tell_all.ensures
+returns c = adds_same (Unit {0}) c.tell_all.result c.args.to.now.items c.tell_all.new.to.items _ _ (ap (map defined_told) c.deref.ensures.value ∙ c.in_ok-all.ensures) c.tell_all.ensures

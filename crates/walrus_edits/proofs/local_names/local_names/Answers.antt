@@ -13,8 +13,8 @@ sections-preserved c =
     let handed = c.in_ok-read_names.ensures.handed in
     let names = handed.0 in (
       c.in_ok-read_names.ensures.same_known ∙ c.sections.invariant.0,
-      handed_more _ _ c.sections.section-index c.section-item.result _ _ names c.sections-test.true c.section-item.is c.sections.invariant.1
-          (subst (λ (known : ℕ → Bool). Names known c.section-item.result.bytes.now names) c.sections.invariant.0 handed.1) handed.2,
+      handed_more _ _ c.sections.section-index _ _ _ names c.sections-test.true c.sections.invariant.1
+          (subst (λ (known : ℕ → Bool). Names known _ names) c.sections.invariant.0 handed.1) handed.2,
     )
 
 pub returns-clause-value : goal.returns-clause-value

@@ -8,7 +8,7 @@ use Rattle.walrus_edits.proofs.name_records.push_type_names.Goals as goal
 
 pub types-preserved : goal.types-preserved
 types-preserved c =
-    types_turn place (type_names c.args.types.now) _ _ _ _ c.types.id-index c.id-item.result _ _ c.types-test.true c.id-item.is c.index.ensures c.get.ensures.named c.in_ok-push_name.ensures c.types.invariant
+    types_turn place (type_names c.args.types.now) _ _ _ _ c.types.id-index _ _ _ c.types-test.true c.index.ensures c.get.ensures.named c.in_ok-push_name.ensures c.types.invariant
 
 pub returns : goal.returns
 returns c =

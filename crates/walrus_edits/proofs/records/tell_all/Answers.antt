@@ -1,4 +1,5 @@
 use Rattle.std.proofs.Common.{◌≡◌, ◌≤◌, List, [], ◌∷◌, length, arith}
+use Rattle.std.specs.Prelude.{Err, Ok}
 use Rattle.std.proofs.lemmas.Result.{err_from_is_err_and}
 use Rattle.wasm_forms.specs.Spelling.{row_bytes}
 use Rattle.wasm_forms.specs.Writing.{Adds, EachFits}
@@ -15,11 +16,17 @@ items-preserved g c = turn (λ x. g.T.Tells.told x ∷ []) c.args.all.now c.item
 pub returns-in_err-tell : goal.returns-in_err-tell
 returns-in_err-tell g c =
     let p = err_from_is_err_and c.from_residual.result c.from_residual.ensures.1 in
+    let e = c.in_err-tell.field-0.0 in
+    let old = c.args.to.now.items in
+    let new = c.tell.new.to.items in
     rw (p.1, p.2)
-    (adds_same _ _ _ _ _ (flat_single g.T.Tells.told c.args.all.now) (leaves (λ x. g.T.Tells.told x ∷ []) (Unit {0}) (Unit {0}) c.in_err-tell.field-0.0 c.args.all.now c.items.item-index c.item-item.result _ _ _ _ c.items-test.true c.item-item.is c.items.invariant c.in_err-tell.ensures))
+    (adds_same (Unit {0}) (Err e) old new _ _ (flat_single g.T.Tells.told c.args.all.now)
+    (leaves (λ x. g.T.Tells.told x ∷ []) (Unit {0}) (Unit {0}) e c.args.all.now c.items.item-index c.item-item.result old c.items.to.items new new c.items-test.true c.item-item.is c.items.invariant c.in_err-tell.ensures))
 
 pub returns : goal.returns
 returns g c =
     let xs = c.args.all.now in
     let past : length xs ≤ c.items.item-index = omega arith in
-    adds_same _ _ _ _ _ (told_through g.T.Tells.told xs c.items.item-index past) (tells_all _ _ _ c.items.invariant)
+    let old = c.args.to.now.items in
+    let now = c.items.to.items in
+    adds_same (Unit {0}) (Ok tt) old now _ _ (told_through g.T.Tells.told xs c.items.item-index past) (tells_all old now _ c.items.invariant)

@@ -17,7 +17,7 @@ pub returns-in_err-write_sized : goal.returns-in_err-write_sized
 returns-in_err-write_sized c =
     let p = err_from_is_err_and c.from_residual.result c.from_residual.ensures.1 in
     rw (p.1, p.2)
-    (row_adds sized SizedFits expression c.args.all.now c.expressions.raw-index c.raw-item.result c.in_err-write_sized.field-0.0 _ _ _ c.expressions-test.true c.raw-item.is c.in_err-write_sized.ensures)
+    (row_adds sized SizedFits expression c.args.all.now c.expressions.raw-index c.raw-item.result c.in_err-write_sized.field-0.0 c.args.to.now.items c.expressions.to.items c.write_sized.new.to.items c.expressions-test.true c.raw-item.is c.in_err-write_sized.ensures)
 
 pub returns : goal.returns
 returns c =
