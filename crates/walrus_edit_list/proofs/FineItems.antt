@@ -4,11 +4,11 @@ use Rattle.std.proofs.Common.{◌≡◌, ℕ, false, List, [], ◌∷◌, refl, 
 use Rattle.std.specs.Prelude.{Option, Some, None, Contains, codes, bytes_eq, option_map, ◌||◌}
 use Rattle.std.proofs.lemmas.Bool.{or_parts}
 use Rattle.walrus_base.specs.Arena.{item_at, items}
+use Rattle.walrus_base.specs.Id.{place}
 use Rattle.walrus_base.specs.Operators.{Types, Functions, Tables, Memories, Tags, Globals, Elements, DataSegments, Space}
 use Rattle.walrus_base.specs.TypeDef.{TypeDef}
 use Rattle.walrus_contents.specs.View.{contents_view, function}
 use Rattle.walrus_contents.specs.declared.parts.Contents.{Contents}
-use Rattle.walrus_items.specs.Exports.{ModuleExports}
 use Rattle.walrus_items.specs.Functions.{FunctionValue, functions}
 use Rattle.walrus_model.proofs.Looked.{differs}
 use Rattle.walrus_model.specs.Abstract.{Body, Function, LocalFunction}
@@ -65,9 +65,9 @@ module _ (c : Config) where
   brings_fine (descs.Function n) from name old new (ty, ids, is, imported, only) formed =
       same old new (record old { funcs = new.funcs; imports = new.imports }) only (λ t. refl)
       (λ i f b at has.
-      seen_before (function old.locals) (functions old.funcs) (brought ty _ ids.1) i f
+      seen_before (function old.locals) (functions old.funcs) (brought ty (place ids.0) ids.1) i f
       (sym (ap (λ (xs : List (Option FunctionValue)). option_map (function old.locals) (item_at xs i)) imported.items) ∙ at)
-      (λ own. let no : (function old.locals (brought ty _ ids.1)).kind ≡ LocalFunction b = ap (λ (g : Function). g.kind) own ∙ has in absurd cc))
+      (λ own. let no : (function old.locals (brought ty (place ids.0) ids.1)).kind ≡ LocalFunction b = ap (λ (g : Function). g.kind) own ∙ has in absurd cc))
       formed
   brings_fine (descs.Global g) from name old new brings formed =
       same old new (record old { globals = new.globals; imports = new.imports }) brings.4 (λ t. refl) (λ i f b at is. at) formed
