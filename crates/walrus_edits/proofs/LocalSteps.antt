@@ -30,11 +30,11 @@ all_after told (name ∷ names) = all_after (told ++ local_named name) names ∙
 pub handed_none : (known : ℕ → Bool) (told : List Told) → told ≡ [] → AreHanded known [] told
 handed_none known told none = record { namings = []; read = tt; are = none }
 
-pub handed_more : (known : ℕ → Bool) (sections : List RawCustom) (i : ℕ) (d : RawCustom) (told new : List Told) (names : List Named) → i < length sections → AreHanded known (take i sections) told
-    → Names known (slice_index_or sections i d).bytes.now names → new ≡ after_all after_named told names → AreHanded known (take (i + 1) sections) new
-handed_more known sections i d told new names below h read shown = record {
+pub handed_more : (known sink : ℕ → Bool) (sections : List RawCustom) (i : ℕ) (d : RawCustom) (told new : List Told) (names : List Named) → sink ≡ known → i < length sections → AreHanded known (take i sections) told
+    → Names sink (slice_index_or sections i d).bytes.now names → new ≡ after_all after_named told names → AreHanded known (take (i + 1) sections) new
+handed_more known sink sections i d told new names same below h read shown = record {
   namings = h.namings ++ names ∷ [];
-  read = zip_turn (λ (c : RawCustom) (ns : List Named). Names known c.bytes.now ns) sections i d h.namings names below h.read read;
+  read = zip_turn (λ (c : RawCustom) (ns : List Named). Names known c.bytes.now ns) sections i d h.namings names below h.read (subst (λ (k : ℕ → Bool). Names k (slice_index_or sections i d).bytes.now names) same read);
   are = shown ∙ all_after told names ∙ ap (λ l. l ++ flat_map local_named names) h.are
       ∙ sym (ap (flat_map local_named) (flat_map-append (λ ns. ns) h.namings (names ∷ []) ∙ ap (λ l. flat_map (λ ns. ns) h.namings ++ l) (append-nil names))
       ∙ flat_map-append local_named (flat_map (λ ns. ns) h.namings) names);

@@ -110,6 +110,10 @@ flat_seen F view (x ∷ xs) = ap (λ l. F (view x) ++ l) (flat_seen F view xs)
 pub seen_through : {X Y : Type 0} (F : Y → List Told) (view : X → Y) (xs : List X) (i : ℕ) → length xs ≤ i → flat_map (λ x. F (view x)) (take i xs) ≡ flat_map F (map view xs)
 seen_through F view xs i past = ap (λ l. flat_map (λ x. F (view x)) l) (take_all i xs past) ∙ flat_seen F view xs
 
+pub map_twice : {X Y : Type 0} (f : X → Y) (g : Y → Told) (xs : List X) → map (λ x. g (f x)) xs ≡ map g (map f xs)
+map_twice f g [] = refl
+map_twice f g (x ∷ xs) = ap (λ l. g (f x) ∷ l) (map_twice f g xs)
+
 -- the same records
 pub adds_same : (X : Type 0) (r : Result X WireError) (old new : List ℕ) (some others : List Told) → some ≡ others → Adds r old new (row_bytes told_bytes some) (EachFits ToldFits some)
     → Adds r old new (row_bytes told_bytes others) (EachFits ToldFits others)

@@ -1,12 +1,12 @@
 //! The items of a module, as a list of records for callers of other languages.
 
 ghost use Rattle.std.specs.Prelude.{◌≡◌, filter, flat_map, length, map, option_to_list, zip};
-ghost use Rattle.wasm_entries.specs.Record.{group, import_entry};
+ghost use Rattle.wasm_entries.specs.Record.{data_entry, element_entry, export_entry, global_entry, group, import_entry, table_entry};
 ghost use Rattle.wasm_frames.specs.Record.{body_record, sections};
 ghost use Rattle.walrus_contents.specs.View.{lent};
 ghost use Rattle.walrus_module.specs.View.{contents_of};
 ghost use Rattle.walrus.specs.Wanted.{config_wanted};
-ghost use Rattle.walrus_edits.specs.ItemRecords.{TheStart};
+ghost use Rattle.walrus_edits.specs.ItemRecords.{AGlobal, AGroup, ASegment, ATable, AnElement, AnExport, TheStart};
 ghost use Rattle.walrus_edits.specs.ItemValues.{brings_function, functions_in, section_parts, told_parts, with_brought};
 ghost use Rattle.walrus_edits.specs.ItemSteps.{ListsItems, PutsAll, PutsParts};
 ghost use Rattle.walrus_edits.specs.LocalNames.{local_told};
@@ -22,7 +22,9 @@ use std::alloc::Global;
 use std::result;
 use walrus::{Module, ModuleConfig, Result, Wanted};
 use walrus_contents::Parts;
-use wasm_entries::{RawDesc, RawGroup, RawImport};
+use wasm_entries::{
+    RawData, RawDesc, RawElement, RawExport, RawGlobal, RawGroup, RawImport, RawTable,
+};
 use wasm_forms::WireError;
 use wasm_frames::{Raw, RawBody, read_module};
 
@@ -77,20 +79,70 @@ fn tell_start(alloc: Global, to: &mut Vec<u8>, start: Option<u32>) -> result::Re
     }
 }
 
+/// Tells the tables that the module defines.
+fn tell_tables(alloc: Global, to: &mut Vec<u8>, all: &[RawTable]) -> result::Result<(), WireError>
+    ensures { PutsAll result to.old.items to.new.items (map ATable (map table_entry all.now)) }
+{
+    tell_all(alloc, to, all)
+}
+
+/// Tells the globals that the module defines.
+fn tell_globals(alloc: Global, to: &mut Vec<u8>, all: &[RawGlobal]) -> result::Result<(), WireError>
+    ensures { PutsAll result to.old.items to.new.items (map AGlobal (map global_entry all.now)) }
+{
+    tell_all(alloc, to, all)
+}
+
+/// Tells the exports.
+fn tell_exports(
+    alloc: Global,
+    to: &mut Vec<u8>,
+    all: &[RawExport<'_>],
+) -> result::Result<(), WireError>
+    ensures { PutsAll result to.old.items to.new.items (map AnExport (map export_entry all.now)) }
+{
+    tell_all(alloc, to, all)
+}
+
+/// Tells the segments of elements that the module defines.
+fn tell_elements(
+    alloc: Global,
+    to: &mut Vec<u8>,
+    all: &[RawElement],
+) -> result::Result<(), WireError>
+    ensures { PutsAll result to.old.items to.new.items (map AnElement (map element_entry all.now)) }
+{
+    tell_all(alloc, to, all)
+}
+
+/// Tells the segments of data that the module defines.
+fn tell_data(alloc: Global, to: &mut Vec<u8>, all: &[RawData<'_>]) -> result::Result<(), WireError>
+    ensures { PutsAll result to.old.items to.new.items (map ASegment (map data_entry all.now)) }
+{
+    tell_all(alloc, to, all)
+}
+
+/// Tells groups of types.
+fn tell_groups(alloc: Global, to: &mut Vec<u8>, all: &[RawGroup]) -> result::Result<(), WireError>
+    ensures { PutsAll result to.old.items to.new.items (map AGroup (map group all.now)) }
+{
+    tell_all(alloc, to, all)
+}
+
 /// Tells what sections hold but types and custom sections, part by part.
 fn tell_parts(alloc: Global, to: &mut Vec<u8>, raw: &Raw<'_>) -> result::Result<(), WireError>
     ensures { PutsParts result to.old.items to.new.items (section_parts (sections raw.now)) }
 {
     tell_imports(alloc, to, &raw.imports)?;
     tell_functions(alloc, to, &raw.bodies, &raw.functions)?;
-    tell_all(alloc, to, &raw.tables)?;
+    tell_tables(alloc, to, &raw.tables)?;
     tell_all(alloc, to, &raw.memories)?;
     tell_all(alloc, to, &raw.tags)?;
-    tell_all(alloc, to, &raw.globals)?;
-    tell_all(alloc, to, &raw.exports)?;
+    tell_globals(alloc, to, &raw.globals)?;
+    tell_exports(alloc, to, &raw.exports)?;
     tell_start(alloc, to, raw.start)?;
-    tell_all(alloc, to, &raw.elements)?;
-    tell_all(alloc, to, &raw.data_)
+    tell_elements(alloc, to, &raw.elements)?;
+    tell_data(alloc, to, &raw.data_)
 }
 
 /// Whether an import brings a function.
@@ -134,7 +186,7 @@ fn tell_module(
     ensures { PutsParts result to.old.items to.new.items (told_parts (sections raw.now)
         (map group groups.now) (lent parts.entry) (map local_told locals.now)) }
 {
-    tell_all(alloc, to, groups)?;
+    tell_groups(alloc, to, groups)?;
     tell_parts(alloc, to, raw)?;
     tell_customs(alloc, to, &raw.customs)?;
     tell_producers(alloc, to, parts.producers.fields())?;

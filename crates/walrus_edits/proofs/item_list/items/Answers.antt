@@ -5,6 +5,7 @@ use Rattle.std.specs.Prelude.{Err, Ok}
 use Rattle.wasm_entries.specs.Record.{group}
 use Rattle.wasm_entries.specs.declared.record.RawSub.{RawSub}
 use Rattle.wasm_frames.specs.Record.{sections}
+use Rattle.walrus_items.specs.Errors.{error_of_wire}
 use Rattle.walrus_contents.specs.declared.parts.Contents.{Contents}
 use Rattle.walrus_module.specs.Flags.{Flags, config_of, flags}
 use Rattle.walrus_module.specs.View.{contents_of}
@@ -27,7 +28,7 @@ returns-in_err-raw c =
     let d = config_of (flags c.of_choices-config.result) in
     let taken = c.in_ok-module.ensures.taken in
     rw (p.1, p.2)
-    (subst (λ (f : Flags). AnswersItems (config_of f) c.args.bytes.now (Err _)) c.of_choices-config.ensures.value
+    (subst (λ (f : Flags). AnswersItems (config_of f) c.args.bytes.now (Err (error_of_wire c.in_err-raw.field-0.0))) c.of_choices-config.ensures.value
     (unframed d c.args.bytes.now taken.sections c.in_err-raw.field-0.0 (c.in_err-raw.ensures.only taken.sections taken.framed)))
 
 pub returns-in_err-groups : goal.returns-in_err-groups
@@ -47,7 +48,7 @@ returns-in_err-list c =
     let gs = map group c.deref.result.now in
     let s = sections c.in_ok-raw.raw in
     rw (p.1, p.2)
-    (subst (λ (f : Flags). AnswersItems (config_of f) c.args.bytes.now (Err _)) c.of_choices-config.ensures.value
+    (subst (λ (f : Flags). AnswersItems (config_of f) c.args.bytes.now (Err (error_of_wire c.in_err-list.field-0.0))) c.of_choices-config.ensures.value
     (unlisted _ d c.args.bytes.now c.in_ok-module.module m.found m.taken s c.in_ok-raw.ensures.found gs
     (subst (λ (l : List (Vec RawSub)). AreGroups (contents_of c.in_ok-module.module).types (map group l)) (sym c.deref.ensures.value) c.in_ok-groups.ensures) c.in_err-list.field-0.0
     (subst (λ (held : Contents). ListsItems s gs held (Err c.in_err-list.field-0.0)) c.parts_of.ensures c.in_err-list.ensures)))

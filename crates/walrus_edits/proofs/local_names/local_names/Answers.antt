@@ -1,7 +1,6 @@
-use Rattle.std.proofs.Common.{◌∙◌, ℕ, Bool, ap, map, refl, subst, arith}
+use Rattle.std.proofs.Common.{◌∙◌, ap, map, refl, arith}
 use Rattle.wasm_frames.specs.declared.record.RawCustom.{RawCustom}
-use Rattle.wasm_payloads.specs.Names.{Names}
-use Rattle.walrus_edits.specs.LocalNames.{local_told}
+use Rattle.walrus_edits.specs.LocalNames.{are_known, local_told}
 use Rattle.walrus_edits.proofs.LocalSteps.{handed_all, handed_more, handed_none}
 use Rattle.walrus_edits.proofs.local_names.local_names.Goals as goal
 
@@ -13,8 +12,7 @@ sections-preserved c =
     let handed = c.in_ok-read_names.ensures.handed in
     let names = handed.0 in (
       c.in_ok-read_names.ensures.same_known ∙ c.sections.invariant.0,
-      handed_more _ _ c.sections.section-index _ _ _ names c.sections-test.true c.sections.invariant.1
-          (subst (λ (known : ℕ → Bool). Names known _ names) c.sections.invariant.0 handed.1) handed.2,
+      handed_more _ (are_known c.sections.sink.functions) _ c.sections.section-index _ _ _ names c.sections.invariant.0 c.sections-test.true c.sections.invariant.1 handed.1 handed.2,
     )
 
 pub returns-clause-value : goal.returns-clause-value

@@ -19,4 +19,4 @@ pub returns-in_err-index_types : goal.returns-in_err-index_types
 returns-in_err-index_types c =
     let p = err_from_is_err_and c.from_residual-in_err-index_types.result c.from_residual-in_err-index_types.ensures.1 in
     rw (p.1, p.2)
-    (ungrouped c.args.types.now _ c.in_err-index_types.field-0.0 (λ t. c.in_ok-indices.ensures.numbered t ∙ ap (λ ps. place_in ps t) (ap (map place) c.deref.ensures.value ∙ c.in_ok-ids.ensures.value)) c.in_err-index_types.ensures)
+    (ungrouped c.args.types.now _ c.in_err-index_types.field-0.0 (λ t. c.in_ok-indices.ensures.numbered t ∙ ap (λ ps. place_in ps t) (ap (map place) c.deref.ensures.value ∙ c.in_ok-ids.ensures.value)) c.in_err-index_types.ensures.indexed)

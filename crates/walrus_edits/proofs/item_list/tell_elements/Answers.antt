@@ -1,0 +1,7 @@
+use Rattle.wasm_entries.specs.Record.{element_entry}
+use Rattle.walrus_edits.specs.ItemRecords.{AnElement}
+use Rattle.walrus_edits.proofs.TellSteps.{adds_same, map_twice}
+use Rattle.walrus_edits.proofs.item_list.tell_elements.Goals as goal
+
+pub returns : goal.returns
+returns c = adds_same (Unit {0}) c.tell_all.result c.args.to.now.items c.tell_all.new.to.items _ _ (map_twice element_entry AnElement c.args.all.now) c.tell_all.ensures
