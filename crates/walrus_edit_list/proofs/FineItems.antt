@@ -11,7 +11,7 @@ use Rattle.walrus_contents.specs.View.{contents_view, function}
 use Rattle.walrus_contents.specs.declared.parts.Contents.{Contents}
 use Rattle.walrus_items.specs.Functions.{FunctionValue, functions}
 use Rattle.walrus_model.proofs.Looked.{differs}
-use Rattle.walrus_model.specs.Abstract.{Body, Function, LocalFunction}
+use Rattle.walrus_model.specs.Abstract.{Body, Function, FunctionKind, ImportedFunction, LocalFunction}
 use Rattle.walrus_model.specs.Config.{Config}
 use Rattle.walrus_model.specs.Customs.{is_debug_name}
 use Rattle.walrus_model.specs.Sections.{is_apart}
@@ -33,6 +33,10 @@ use Rattle.walrus_edit_list.specs.Turns.{InTurn}
 use Rattle.walrus_edit_list.proofs.FineSlots.{added_too, among, carried, same_seen, seen_before, was_left, written_too}
 
 -- ---- bodies
+
+-- what an import brings has no body
+isnt_local : (p : ℕ) (b : Body) → ◌≡◌ {A = FunctionKind} (ImportedFunction p) (LocalFunction b) → ⊥
+isnt_local p b same = absurd cc
 
 module _ (c : Config) where
   abbrev Formed : Contents → Type 0
@@ -67,7 +71,7 @@ module _ (c : Config) where
       (λ i f b at has.
       seen_before (function old.locals) (functions old.funcs) (brought ty (place ids.0) ids.1) i f
       (sym (ap (λ (xs : List (Option FunctionValue)). option_map (function old.locals) (item_at xs i)) imported.items) ∙ at)
-      (λ own. let no : (function old.locals (brought ty (place ids.0) ids.1)).kind ≡ LocalFunction b = ap (λ (g : Function). g.kind) own ∙ has in absurd cc))
+      (λ own. isnt_local (place ids.1) b (ap (λ (g : Function). g.kind) own ∙ has)))
       formed
   brings_fine (descs.Global g) from name old new brings formed =
       same old new (record old { globals = new.globals; imports = new.imports }) brings.4 (λ t. refl) (λ i f b at is. at) formed

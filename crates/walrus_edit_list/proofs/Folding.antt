@@ -68,4 +68,4 @@ module _ (f : Features) where
 
   -- nothing was applied yet, and memory is refused
   pub refused_first : (bytes : List ℕ) (old : Held) (e : Error) → e ≡ out_of_memory → RefusesNext f bytes 0 old e
-  refused_first bytes old e is = record { front = []; rest = bytes; parts = refl; made = old; each = (begins bytes old).each; refuses = inl is }
+  refused_first bytes old e is = record { front = []; rest = bytes; parts = refl; made = old; each = record { all = []; are = refl; count = refl; edits = refl }; refuses = inl is }

@@ -1,7 +1,3 @@
-pub mod EditRows
-pub mod FineSegments
-mod Found
-mod Numbered
 mod BodiesKept
 mod Counting
 pub mod EditRows
@@ -9,38 +5,23 @@ mod Exporting
 mod FineFronts
 pub mod FineFunctions
 pub mod FineItems
-pub mod FineSlots
-pub mod FormedStays
-mod FineFunctions
-pub mod FineItems
 pub mod FineSegments
-mod FineSlots
+pub mod FineSlots
 mod Folding
-mod FormedStays
+pub mod FormedStays
 mod Found
 mod FrontFormed
 mod FrontNamed
 mod FrontNests
 mod FunctionEdits
 mod FunctionRefusals
-mod FunctionsUnread
+mod Importing
+pub mod Keeping
+mod Numbered
 pub mod ParsedFormed
 mod Places
 mod ReadFormed
 mod Refusing
-mod SegmentSets
-mod Turns
-mod Exporting
-mod Folding
-pub mod Keeping
-mod Importing
-mod Keeping
-mod Numbered
-mod ParsedFormed
-mod Places
-mod ReadFormed
-mod Refusing
-pub mod RefusingBodies
 mod SegmentSets
 mod TagsKept
 mod Turns

@@ -3,7 +3,7 @@ use Rattle.std.proofs.lemmas.Result.{err_from_is_err_and}
 use Rattle.walrus_base.specs.Id.{place}
 use Rattle.walrus_code.specs.Code.{ops_of}
 use Rattle.walrus_code.specs.Indices.{ids_at}
-use Rattle.walrus_edit_list.proofs.FunctionsUnread.{kind_fronts, kind_refuses}
+use Rattle.walrus_edit_list.proofs.RefusingBodies.{kind_fronts, kind_refuses}
 use Rattle.walrus_edit_list.proofs.front.front_kind.Goals as goal
 
 pub returns-in_err-front : goal.returns-in_err-front

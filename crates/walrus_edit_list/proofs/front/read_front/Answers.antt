@@ -6,7 +6,7 @@ use Rattle.walrus_code.specs.Code.{ops_of}
 use Rattle.walrus_code.specs.Indices.{ids_at}
 use Rattle.walrus_code.specs.declared.operator.Operator.{Operator}
 use Rattle.walrus_edit_list.specs.declared.front.TheConstants.{END}
-use Rattle.walrus_edit_list.proofs.FunctionsUnread.{no_front}
+use Rattle.walrus_edit_list.proofs.RefusingBodies.{no_front}
 use Rattle.walrus_edit_list.proofs.front.read_front.Goals as goal
 
 pub returns-in_err-read_operators : goal.returns-in_err-read_operators

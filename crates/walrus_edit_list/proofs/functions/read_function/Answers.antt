@@ -2,7 +2,7 @@ use Rattle.std.proofs.lemmas.Result.{err_from_is_err_and}
 use Rattle.walrus_base.specs.Id.{place}
 use Rattle.walrus_code.specs.Indices.{ids_at}
 use Rattle.walrus_functions.specs.Signatures.{tag_places}
-use Rattle.walrus_edit_list.proofs.FunctionsUnread.{uncounted, unread}
+use Rattle.walrus_edit_list.proofs.RefusingBodies.{uncounted, unread}
 use Rattle.walrus_edit_list.proofs.functions.read_function.Goals as goal
 
 pub returns-in_err-count_locals : goal.returns-in_err-count_locals
