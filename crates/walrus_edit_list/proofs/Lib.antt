@@ -22,6 +22,7 @@ pub mod ParsedFormed
 mod Places
 mod ReadFormed
 mod Refusing
+mod RefusingBodies
 mod SegmentSets
 mod TagsKept
 mod Turns
