@@ -24,3 +24,5 @@ pub mod SegmentSets
 pub mod Start
 pub mod Turns
 pub mod Types
+pub use Rattle.walrus_module.specs.Check
+pub use Rattle.walrus_module.specs.declared.flaw.Flaw

@@ -9,13 +9,16 @@ edits-init g c = (begins _ _ _, refl, c.in-Ok.ensures.value)
 
 pub edits-preserved : goal.edits-preserved
 edits-preserved g c =
-    let one = c.in-Ok.ensures in
-    (next _ _ _ _ _ _ _ _ c.edits.invariant.0 one.0 one.1 one.2, refl, c.edits.invariant.2 ∙ tags_kept _ _ _ _ one.2)
+    let one = c.in-Ok-apply_first.ensures in
+    (next _ _ _ _ _ _ _ _ c.edits.invariant.0 one.0 one.1 one.2, refl, c.edits.invariant.2 ∙ tags_kept c.args.features.now one.0 _ _ one.2)
 
 pub returns-in-Err : goal.returns-in-Err
-returns-in-Err g c =
+returns-in-Err g c = refused_first _ _ _ _ c.in-Err.ensures.fails
+
+pub returns-in-Err-apply_first : goal.returns-in-Err-apply_first
+returns-in-Err-apply_first g c =
     let some : length c.edits.rest.now ≡ 0 → ⊥ = λ none. absurd (grind (arith, nat_tests)) in
-    refused _ _ _ _ _ _ _ c.edits.invariant.0 some c.in-Err.ensures
+    refused _ _ _ _ _ _ _ c.edits.invariant.0 some c.in-Err-apply_first.ensures
 
 pub returns-then-is_empty : goal.returns-then-is_empty
 returns-then-is_empty g c =
