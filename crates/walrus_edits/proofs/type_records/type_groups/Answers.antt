@@ -7,7 +7,7 @@ use Rattle.walrus_base.specs.ModuleTypes.{type_slots}
 use Rattle.walrus_base.specs.Shape.{place_in}
 use Rattle.walrus_code.specs.Indices.{index_of}
 use Rattle.walrus_model.proofs.Orders.{ordered_entries}
-use Rattle.walrus_edits.proofs.TypeSteps.{grouped, ungrouped}
+use Rattle.walrus_edits.proofs.TypeSteps.{ungrouped}
 use Rattle.walrus_edits.proofs.type_records.type_groups.Goals as goal
 
 pub along-requires : goal.along-requires
