@@ -1,4 +1,4 @@
-use Rattle.std.proofs.Common.{ap, flat_map, map, refl, ◌∙◌}
+use Rattle.std.proofs.Common.{[], ap, flat_map, map, refl, ◌∙◌}
 use Rattle.std.specs.Prelude.{zip}
 use Rattle.wasm_entries.specs.Record.{data_entry, element_entry, export_entry, global_entry, import_entry, table_entry}
 use Rattle.wasm_frames.specs.Record.{body_record}
