@@ -1,7 +1,7 @@
 -- Lists of edits: each front is one edit, and bytes are at most one list.
 use Rattle.std.proofs.Common.{◌≡◌, ℕ, ◌+◌, ◌≤◌, List, [], ◌∷◌, ◌++◌, Option, Some, None, length, refl, sym, ap, ap₂, ◌∙◌, subst, arith}
 use Rattle.std.proofs.lemmas.List.{append-nil, append_assoc, length-append}
-use Rattle.wasm_forms.specs.Grammar.{Is, IsRow, at}
+use Rattle.wasm_forms.specs.Grammar.{IsRow, at}
 use Rattle.wasm_forms.specs.Reading.{◌>>=◌}
 use Rattle.wasm_forms.proofs.Exact.{exact, one_reading}
 use Rattle.walrus_edit_list.specs.Edits.{AreEdits, HasOneList, IsEdit, Record, Said, edit_at, record_form, said}

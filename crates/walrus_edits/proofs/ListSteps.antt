@@ -1,19 +1,16 @@
 -- The list of a module's items, from the module that was parsed on.
-use Rattle.std.proofs.Common.{◌≡◌, ℕ, suc, ◌+◌, Bool, true, false, List, [], ◌∷◌, ◌++◌, length, map, flat_map, refl, sym, ap, subst, ◌∙◌, inl, inr, arith, length-append}
-use Rattle.std.specs.Prelude.{Err, Ok, Some, None, codes, filter, nat_lt}
+use Rattle.std.proofs.Common.{◌≡◌, ℕ, suc, ◌+◌, Bool, true, false, List, [], ◌∷◌, ◌++◌, length, map, flat_map, refl, sym, ap, subst, ◌∙◌, arith, append_assoc, append-nil, length-append}
+use Rattle.std.specs.Prelude.{Err, Ok, codes, filter, nat_lt}
 use Rattle.std.specs.Global.{Vec}
 use Rattle.std.specs.List.{AllZip}
-use Rattle.wasm_entries.specs.Record.{Group, Import, group, import_entry}
+use Rattle.wasm_entries.specs.Record.{Group, Import, import_entry}
 use Rattle.wasm_entries.specs.declared.record.RawImport.{RawImport}
 use Rattle.wasm_entries.specs.declared.record.RawDesc.{RawDesc}
 use Rattle.wasm_entries.specs.declared.record.RawDesc.TheVariants as descs
-use Rattle.wasm_entries.specs.declared.record.RawSub.{RawSub}
-use Rattle.wasm_forms.specs.Reading.{Refuses}
 use Rattle.wasm_forms.specs.Spelling.{row_bytes}
 use Rattle.wasm_forms.specs.Writing.{Adds, EachFits}
 use Rattle.wasm_forms.specs.declared.error.WireError.{WireError}
 use Rattle.wasm_forms.specs.declared.error.WireError.TheVariants as wires
-use Rattle.wasm_frames.specs.Frames.{Frames}
 use Rattle.wasm_frames.specs.Record as wire
 use Rattle.wasm_payloads.specs.Names.{Names}
 use Rattle.walrus_contents.specs.declared.parts.Contents.{Contents}
@@ -24,7 +21,7 @@ use Rattle.walrus_edits.specs.ItemSteps.{ListsItems, RowsFit, rows}
 use Rattle.walrus_edits.specs.ItemValues.{AreTold, brings_function, told_parts}
 use Rattle.walrus_edits.specs.LocalNames.{AreLocalNames, are_known}
 use Rattle.walrus_edits.specs.declared.local_names.Functions.{Functions}
-use Rattle.walrus_edits.proofs.TellSteps.{fits_rows, rows_fit, rows_flat}
+use Rattle.walrus_edits.proofs.TellSteps.{fits_rows, rows_append, rows_fit, rows_fit_both, rows_flat}
 
 -- ---- how many functions there are
 
@@ -75,3 +72,18 @@ module _ (s : wire.Module) (groups : List Group) (c : Contents) where
   lists_not X wires.Malformed old new locals told h = h
   lists_not X (wires.Memory m) old new locals told h = tt
   lists_not X wires.TooLarge old new locals told h = (flat_map (λ part. part) (Parts locals), told, λ fits. h (fits_rows (Parts locals) fits))
+
+-- ---- one part behind another
+
+pub parts_none : (old : List ℕ) → (old ≡ old ++ rows []) × RowsFit []
+parts_none old = (sym (append-nil old), tt)
+
+pub parts_join : (old mid new : List ℕ) (done more : List (List Told)) → (mid ≡ old ++ rows done) × RowsFit done → (new ≡ mid ++ rows more) × RowsFit more → (new ≡ old ++ rows (done ++ more)) × RowsFit (done ++ more)
+parts_join old mid new done more h k =
+    (k.0 ∙ ap (λ l. l ++ rows more) h.0 ∙ append_assoc old (rows done) (rows more) ∙ ap (λ l. old ++ l) (sym (rows_append done more)), rows_fit_both done more h.1 k.1)
+
+pub parts_more : (old mid new : List ℕ) (done : List (List Told)) (part told : List Told) → told ≡ part → (mid ≡ old ++ rows done) × RowsFit done → (new ≡ mid ++ row_bytes told_bytes told) × EachFits ToldFits told
+    → (new ≡ old ++ rows (done ++ part ∷ [])) × RowsFit (done ++ part ∷ [])
+parts_more old mid new done part told same h k =
+    let row : new ≡ mid ++ rows (part ∷ []) = k.0 ∙ ap (λ ts. mid ++ row_bytes told_bytes ts) same ∙ ap (λ l. mid ++ l) (sym (append-nil (row_bytes told_bytes part))) in
+    parts_join old mid new done (part ∷ []) h (row, (subst (EachFits ToldFits) same k.1, tt))

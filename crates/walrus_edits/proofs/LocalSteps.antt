@@ -1,5 +1,5 @@
 -- The names of locals of one section more.
-use Rattle.std.proofs.Common.{◌≡◌, ℕ, ◌+◌, ◌<◌, ◌≤◌, Bool, List, [], ◌∷◌, ◌++◌, length, take, map, flat_map, refl, sym, ap, subst, ◌∙◌, append_assoc, append-nil}
+use Rattle.std.proofs.Common.{◌≡◌, ℕ, ◌+◌, ◌<◌, ◌≤◌, Bool, List, [], ◌∷◌, ◌++◌, length, take, map, flat_map, sym, ap, subst, ◌∙◌, append_assoc, append-nil}
 use Rattle.std.proofs.lemmas.Grind.{flat_map-append}
 use Rattle.std.proofs.lemmas.List.{take_all}
 use Rattle.std.specs.Prelude.{slice_index_or}
@@ -11,7 +11,7 @@ use Rattle.wasm_payloads.specs.Names.{Named, Names}
 use Rattle.wasm_payloads.specs.Sink.{after_all}
 use Rattle.walrus_edits.specs.ItemRecords.{Told}
 use Rattle.walrus_edits.specs.ItemValues.{local_named}
-use Rattle.walrus_edits.specs.LocalNames.{AreLocalNames, name_payloads}
+use Rattle.walrus_edits.specs.LocalNames.{AreLocalNames, SaysLocals, name_payloads}
 
 -- these sections say these names of locals
 pub record AreHanded (known : ℕ → Bool) (sections : List RawCustom) (told : List Told) : Type 0 where
@@ -30,14 +30,14 @@ all_after told (name ∷ names) = all_after (told ++ local_named name) names ∙
 pub handed_none : (known : ℕ → Bool) (told : List Told) → told ≡ [] → AreHanded known [] told
 handed_none known told none = record { namings = []; read = tt; are = none }
 
-pub handed_more : (known sink : ℕ → Bool) (sections : List RawCustom) (i : ℕ) (d : RawCustom) (told new : List Told) (names : List Named) → sink ≡ known → i < length sections → AreHanded known (take i sections) told
-    → Names sink (slice_index_or sections i d).bytes.now names → new ≡ after_all after_named told names → AreHanded known (take (i + 1) sections) new
-handed_more known sink sections i d told new names same below h read shown = record {
-  namings = h.namings ++ names ∷ [];
-  read = zip_turn (λ (c : RawCustom) (ns : List Named). Names known c.bytes.now ns) sections i d h.namings names below h.read (subst (λ (k : ℕ → Bool). Names k (slice_index_or sections i d).bytes.now names) same read);
-  are = shown ∙ all_after told names ∙ ap (λ l. l ++ flat_map local_named names) h.are
-      ∙ sym (ap (flat_map local_named) (flat_map-append (λ ns. ns) h.namings (names ∷ []) ∙ ap (λ l. flat_map (λ ns. ns) h.namings ++ l) (append-nil names))
-      ∙ flat_map-append local_named (flat_map (λ ns. ns) h.namings) names);
+pub handed_more : (known sink : ℕ → Bool) (sections : List RawCustom) (i : ℕ) (d : RawCustom) (told new : List Told) → sink ≡ known → i < length sections → AreHanded known (take i sections) told
+    → SaysLocals sink (slice_index_or sections i d).bytes.now told new → AreHanded known (take (i + 1) sections) new
+handed_more known sink sections i d told new same below h says = record {
+  namings = h.namings ++ says.0 ∷ [];
+  read = zip_turn (λ (c : RawCustom) (ns : List Named). Names known c.bytes.now ns) sections i d h.namings says.0 below h.read (subst (λ (k : ℕ → Bool). Names k (slice_index_or sections i d).bytes.now says.0) same says.1);
+  are = says.2 ∙ ap (λ l. l ++ flat_map local_named says.0) h.are
+      ∙ sym (ap (flat_map local_named) (flat_map-append (λ ns. ns) h.namings (says.0 ∷ []) ∙ ap (λ l. flat_map (λ ns. ns) h.namings ++ l) (append-nil says.0))
+      ∙ flat_map-append local_named (flat_map (λ ns. ns) h.namings) says.0);
 }
 
 zip_seen : (known : ℕ → Bool) (sections : List RawCustom) (namings : List (List Named)) → AllZip (λ (c : RawCustom) (names : List Named). Names known c.bytes.now names) sections namings

@@ -1,9 +1,8 @@
 -- The list of a module's items, from its bytes on.
-use Rattle.std.proofs.Common.{◌≡◌, ℕ, ◌<◌, ◌^◌, List, length, map, refl, sym, ap, subst, inl, inr}
-use Rattle.std.specs.Prelude.{Err, Ok, Some, None}
+use Rattle.std.proofs.Common.{ℕ, List, refl, subst, inl, inr}
+use Rattle.std.specs.Prelude.{Err, Ok, Some}
 use Rattle.std.specs.Global.{Vec}
-use Rattle.wasm_entries.specs.Record.{Group, group}
-use Rattle.wasm_entries.specs.declared.record.RawSub.{RawSub}
+use Rattle.wasm_entries.specs.Record.{Group}
 use Rattle.wasm_forms.specs.Reading.{Refuses}
 use Rattle.wasm_forms.specs.declared.error.WireError.{WireError}
 use Rattle.wasm_forms.specs.declared.error.WireError.TheVariants as wires
@@ -23,7 +22,7 @@ use Rattle.walrus_module.specs.View.{contents_of, held_view, view}
 use Rattle.walrus_module.specs.declared.entry.SectionEntry.{SectionEntry}
 use Rattle.walrus_module.specs.declared.module.Module.{Module}
 use Rattle.walrus.proofs.EditEnds.{parsed_whole, plain_read}
-use Rattle.walrus_edits.specs.Items.{AnswersItems, AreItems, AreRead}
+use Rattle.walrus_edits.specs.Items.{AnswersItems, AreRead}
 use Rattle.walrus_edits.specs.ItemSteps.{ListsItems}
 use Rattle.walrus_edits.specs.ItemValues.{AreGroups}
 use Rattle.walrus_edits.specs.TypeRecords.{GroupsTypes}

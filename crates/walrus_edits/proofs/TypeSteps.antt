@@ -1,15 +1,14 @@
 -- The groups of a module's types, and that those of a module that was parsed are never refused.
-use Rattle.std.proofs.Common.{◌≡◌, ℕ, ◌<◌, ◌^◌, List, map, refl, sym, ap, subst, ◌∙◌}
-use Rattle.std.specs.Prelude.{Contains, Option, None, Some, IsSome, Ok, Err}
+use Rattle.std.proofs.Common.{◌≡◌, ℕ, map, sym, ap, subst, ◌∙◌}
+use Rattle.std.specs.Prelude.{Contains, Option, None, Some, IsSome, Err}
 use Rattle.std.specs.Global.{Vec}
-use Rattle.wasm_entries.specs.Record.{Group, group}
+use Rattle.wasm_entries.specs.Record.{group}
 use Rattle.wasm_entries.specs.declared.record.RawSub.{RawSub}
-use Rattle.walrus_base.specs.Arena.{entries, item_at, items, live_places}
+use Rattle.walrus_base.specs.Arena.{item_at, items, live_places}
 use Rattle.walrus_base.specs.ModuleTypes.{type_slots}
 use Rattle.walrus_base.specs.Operators.{Types, type_item}
-use Rattle.walrus_base.specs.Shape.{place_in}
 use Rattle.walrus_base.specs.TypeDef.{TypeDef}
-use Rattle.walrus_base.specs.Types.{HeapType, IsNotExact, comp_heaps, sub_names}
+use Rattle.walrus_base.specs.Types.{comp_heaps, sub_names}
 use Rattle.walrus_base.specs.declared.module_types.ModuleTypes.{ModuleTypes}
 use Rattle.walrus_base.proofs.Lists.{Contains-append_2, Contains-map}
 use Rattle.walrus_base.proofs.SameVal.{placed}
@@ -17,7 +16,7 @@ use Rattle.walrus_code.specs.Names.{Lookup}
 use Rattle.walrus_code.specs.declared.error.IrError.{IrError}
 use Rattle.walrus_code.specs.declared.error.IrError.TheVariants as Ir
 use Rattle.walrus_contents.specs.View.{types_of}
-use Rattle.walrus_groups.specs.Indexed.{HasExact, IndexesTypes, LacksAnIndex, NumbersTypes}
+use Rattle.walrus_groups.specs.Indexed.{HasExact, IndexesTypes, NumbersTypes}
 use Rattle.walrus_items.specs.Errors.{error_of_ir}
 use Rattle.walrus_model.specs.Abstract.{Abstract}
 use Rattle.walrus_model.specs.Config.{Config}
@@ -27,14 +26,9 @@ use Rattle.walrus_model.proofs.Orders.{ordered_entries}
 use Rattle.walrus_model.proofs.Slots.{item_seen}
 use Rattle.walrus_theorem.specs.WellMade.{IsWellMade}
 use Rattle.walrus_theorem.proofs.EditSound.{well_made_is_sound}
-use Rattle.walrus_edits.specs.ItemValues.{AreGroups}
 use Rattle.walrus_edits.specs.TypeRecords.{GroupsTypes, NamesNone}
 
 -- what is answered, by what the types are indexed as
-pub grouped : (types : ModuleTypes) (names : Lookup) (groups : Vec (Vec RawSub)) → NumbersTypes names (type_slots types) → IndexesTypes (λ (raw : Vec (Vec RawSub)). map group raw.items) names (items (type_slots types)) (Ok groups)
-    → GroupsTypes types (Ok groups)
-grouped types names groups numbered h = record { names = names; numbered = numbered; indexed = h.0 }
-
 pub ungrouped : (types : ModuleTypes) (names : Lookup) (e : IrError) → NumbersTypes names (type_slots types) → IndexesTypes (λ (raw : Vec (Vec RawSub)). map group raw.items) names (items (type_slots types)) (Err e)
     → GroupsTypes types (Err (error_of_ir e))
 ungrouped types names Ir.NoIndex numbered h = record { names = names; numbered = numbered; lacks = h }

@@ -1,5 +1,5 @@
 -- The names of locals that sections called `name` give (Appendix > Custom Sections > Name Section).
-use Rattle.std.specs.Prelude.{ℕ, ◌+◌, Bool, List, bytes_eq, codes, filter, flat_map, map, nat_lt, string_bytes, ◌≡◌}
+use Rattle.std.specs.Prelude.{ℕ, ◌+◌, ◌++◌, Bool, List, bytes_eq, codes, filter, flat_map, map, nat_lt, string_bytes, ◌≡◌}
 use Rattle.std.specs.List.{AllZip}
 use Rattle.wasm_frames.specs.Record as wire
 use Rattle.wasm_payloads.specs.Names.{Named, Names}
@@ -24,3 +24,7 @@ pub record AreLocalNames (known : ℕ → Bool) (customs : List wire.Custom) (to
   pub namings : List (List Named)
   pub read : AllZip (Names known) (name_payloads customs) namings
   pub are : told ≡ flat_map local_named (flat_map (λ ns. ns) namings)
+
+-- where these functions are known, the payload of a section says these names of locals behind those that were there
+abbrev pub SaysLocals : (known : ℕ → Bool) (bytes : List ℕ) (old new : List Told) → Type 0
+SaysLocals known bytes old new = (names : List Named) × Names known bytes names × (new ≡ old ++ flat_map local_named names)

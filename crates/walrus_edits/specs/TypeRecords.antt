@@ -1,5 +1,5 @@
 -- The groups of a module's types.
-use Rattle.std.specs.Prelude.{◌<◌, ◌^◌, ⊤, List, length, map, Result, Ok, Err}
+use Rattle.std.specs.Prelude.{◌<◌, ◌^◌, ⊤, length, map, Result, Ok, Err}
 use Rattle.std.specs.Global.{Vec}
 use Rattle.walrus_base.specs.Arena.{items, live_places}
 use Rattle.walrus_base.specs.ModuleTypes.{type_slots}

@@ -142,7 +142,8 @@ fn tell_parts(alloc: Global, to: &mut Vec<u8>, raw: &Raw<'_>) -> result::Result<
     tell_exports(alloc, to, &raw.exports)?;
     tell_start(alloc, to, raw.start)?;
     tell_elements(alloc, to, &raw.elements)?;
-    tell_data(alloc, to, &raw.data_)
+    tell_data(alloc, to, &raw.data_)?;
+    Ok(())
 }
 
 /// Whether an import brings a function.
@@ -191,7 +192,8 @@ fn tell_module(
     tell_customs(alloc, to, &raw.customs)?;
     tell_producers(alloc, to, parts.producers.fields())?;
     tell_names(alloc, to, parts)?;
-    tell_all(alloc, to, locals)
+    tell_all(alloc, to, locals)?;
+    Ok(())
 }
 
 /// The list of a module whose sections hold this, whose types are these groups, and which holds these parts.

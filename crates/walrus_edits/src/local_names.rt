@@ -1,11 +1,11 @@
 //! What is told of the names of locals.
 
-ghost use Rattle.std.specs.Prelude.{List, ◌≡◌, ◌++◌, IfErr, IfOk, alloc_error, map};
+ghost use Rattle.std.specs.Prelude.{List, ◌≡◌, ◌++◌, IfErr, IfOk, OnOk, alloc_error, map};
 ghost use Rattle.wasm_forms.specs.declared.error.WireError.TheVariants.{Memory};
 ghost use Rattle.wasm_frames.specs.Record.{custom_record};
 ghost use Rattle.walrus_edits.specs.ItemRecords.{Told};
 ghost use Rattle.walrus_edits.specs.ItemValues.{local_named};
-ghost use Rattle.walrus_edits.specs.LocalNames.{AreLocalNames, are_known, local_told, name_payloads};
+ghost use Rattle.walrus_edits.specs.LocalNames.{AreLocalNames, SaysLocals, are_known, local_told, name_payloads};
 
 use crate::records::{LOCAL_NAME, Tells, put_number};
 use std::alloc::{AllocError, Global};
@@ -101,6 +101,17 @@ fn name_sections<'a>(
     Ok(kept)
 }
 
+/// Takes the names of locals that a section called `name` gives.
+fn take_section(section: &RawCustom<'_>, sink: &mut LocalNames) -> result::Result<(), WireError>
+    ensures taken { OnOk result (SaysLocals (are_known sink.old.functions) section.now.bytes.now
+        (map local_told sink.old.names.items) (map local_told sink.new.names.items)) }
+    ensures same { OnOk result (are_known sink.new.functions ≡ are_known sink.old.functions) }
+    ensures fails { IfErr result (λ e. e ≡ Memory alloc_error) }
+{
+    read_names(section.bytes, sink)?;
+    Ok(())
+}
+
 /// The names of locals that these payloads of sections called `name` give, of a module with so many functions, in their order.
 pub(crate) fn local_names(
     alloc: Global,
@@ -118,7 +129,7 @@ pub(crate) fn local_names(
         names: Vec::new(alloc),
     };
     'sections: for section in &sections {
-        read_names(section.bytes, &mut sink)?;
+        take_section(section, &mut sink)?;
     }
     Ok(sink.names)
 }

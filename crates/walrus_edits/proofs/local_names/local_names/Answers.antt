@@ -8,12 +8,10 @@ pub sections-init : goal.sections-init
 sections-init c = (refl, handed_none _ _ (ap (map local_told) c.new.ensures.items))
 
 pub sections-preserved : goal.sections-preserved
-sections-preserved c =
-    let handed = c.in_ok-read_names.ensures.handed in
-    let names = handed.0 in (
-      c.in_ok-read_names.ensures.same_known ∙ c.sections.invariant.0,
-      handed_more _ (are_known c.sections.sink.functions) _ c.sections.section-index _ _ _ names c.sections.invariant.0 c.sections-test.true c.sections.invariant.1 handed.1 handed.2,
-    )
+sections-preserved c = (
+  c.in_ok-take_section.ensures.same ∙ c.sections.invariant.0,
+  handed_more _ (are_known c.sections.sink.functions) _ c.sections.section-index _ _ _ c.sections.invariant.0 c.sections-test.true c.sections.invariant.1 c.in_ok-take_section.ensures.taken,
+)
 
 pub returns-clause-value : goal.returns-clause-value
 returns-clause-value c = handed_all _ _ _ _ _ (ap (map (λ (s : RawCustom). s.bytes.now)) c.deref-section-items.ensures.value ∙ c.in_ok-sections.ensures) c.sections.invariant.1 (omega arith)

@@ -1,7 +1,5 @@
-use Rattle.std.proofs.Common.{ap, sym, ◌∙◌, ◌++◌, map}
+use Rattle.std.proofs.Common.{ap, ◌∙◌}
 use Rattle.walrus_items.specs.Held.{held_entries_left}
-use Rattle.walrus_edits.specs.ItemSteps.{name_told}
-use Rattle.walrus_edits.specs.ItemValues.{names_in}
 use Rattle.walrus_edits.proofs.NameSteps.{names_begin, names_end, names_turn}
 use Rattle.walrus_edits.proofs.name_records.push_names.Goals as goal
 

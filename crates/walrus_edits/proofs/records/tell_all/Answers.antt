@@ -1,9 +1,6 @@
-use Rattle.std.proofs.Common.{◌≡◌, ◌≤◌, List, [], ◌∷◌, length, arith}
+use Rattle.std.proofs.Common.{◌≤◌, [], ◌∷◌, length, arith}
 use Rattle.std.specs.Prelude.{Err, Ok}
 use Rattle.std.proofs.lemmas.Result.{err_from_is_err_and}
-use Rattle.wasm_forms.specs.Spelling.{row_bytes}
-use Rattle.wasm_forms.specs.Writing.{Adds, EachFits}
-use Rattle.walrus_edits.specs.ItemRecords.{Told, ToldFits, told_bytes}
 use Rattle.walrus_edits.proofs.TellSteps.{adds_same, flat_single, leaves, tells_all, tells_none, told_through, turn}
 use Rattle.walrus_edits.proofs.records.tell_all.Goals as goal
 

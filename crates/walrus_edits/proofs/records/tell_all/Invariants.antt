@@ -1,4 +1,4 @@
-use Rattle.std.proofs.Common.{List, [], ◌∷◌, flat_map, take}
+use Rattle.std.proofs.Common.{[], ◌∷◌, flat_map, take}
 use Rattle.walrus_edits.proofs.TellSteps.{HasTold}
 use Rattle.walrus_edits.proofs.records.tell_all.Given as goal
 

@@ -1,4 +1,4 @@
-use Rattle.std.proofs.Common.{◌<◌, length, subst, arith}
+use Rattle.std.proofs.Common.{◌<◌, length, arith}
 use Rattle.walrus_edits.proofs.ZipSteps.{defined_all, defined_turn}
 use Rattle.walrus_edits.proofs.section_records.defined_functions.Goals as goal
 

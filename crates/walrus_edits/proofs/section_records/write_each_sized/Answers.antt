@@ -1,4 +1,4 @@
-use Rattle.std.proofs.Common.{◌≡◌, ◌≤◌, List, ◌++◌, length, sym, append-nil, arith}
+use Rattle.std.proofs.Common.{◌≤◌, length, sym, append-nil, arith}
 use Rattle.std.proofs.lemmas.Result.{err_from_is_err_and}
 use Rattle.wasm_entries.specs.Record.{expression}
 use Rattle.walrus_edits.specs.ItemRecords.{SizedFits, sized}

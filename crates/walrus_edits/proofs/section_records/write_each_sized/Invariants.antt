@@ -1,4 +1,4 @@
-use Rattle.std.proofs.Common.{◌≡◌, ◌++◌, take, map}
+use Rattle.std.proofs.Common.{◌≡◌, ◌++◌, take}
 use Rattle.wasm_forms.specs.Spelling.{row_bytes}
 use Rattle.wasm_forms.specs.Writing.{EachFits}
 use Rattle.wasm_entries.specs.Record.{expression}
