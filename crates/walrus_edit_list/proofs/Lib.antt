@@ -26,3 +26,4 @@ mod RefusingBodies
 mod SegmentSets
 mod TagsKept
 mod Turns
+pub use Rattle.walrus_module.proofs.CheckedWell

@@ -135,9 +135,7 @@ fn apply<S>(
         Edit::AddFunction(ty, body) => {
             add_function(alloc, ty, body, features, tags, module, beside)
         }
-        Edit::Set(replacement) => {
-            set_item(alloc, replacement, features, tags, module, beside)
-        }
+        Edit::Set(replacement) => { set_item(alloc, replacement, features, tags, module, beside) }
         Edit::Delete(deletion) => delete_item(deletion, module, beside),
         Edit::BringFunction(number, from, name) => bring_function(number, from, name, module),
         Edit::Name(naming) => give_name(alloc, naming, module),

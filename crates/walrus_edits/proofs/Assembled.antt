@@ -2,41 +2,41 @@
 use Rattle.std.proofs.Common.{◌≡◌, ℕ, ◌+◌, Bool, false, List, [], ◌∷◌, flat_map, filter, map, refl, sym, ap, ap₂, ◌∙◌, subst}
 use Rattle.std.specs.Prelude.{Contains, Option, Some, None, Result, Ok, Err}
 use Rattle.std.specs.Global.{Vec}
-use Rattle.walrus_base.specs.Arena.{entries_from, items}
-use Rattle.walrus_base.specs.Operators.{Item}
-use Rattle.walrus_base.proofs.Lists.{Contains-map}
+use Rattle.walrus.specs.Base.Arena.{entries_from, items}
+use Rattle.walrus.specs.Base.Operators.{Item}
+use Rattle.walrus.proofs.Base.Lists.{Contains-map}
 use Rattle.walrus_model.proofs.TakingOver.{Contains-map_back}
-use Rattle.walrus_model.specs.Abstract.{Abstract, Custom}
-use Rattle.walrus_model.specs.Config.{Config}
-use Rattle.walrus_model.specs.Sections as wire
-use Rattle.wasm_frames.specs.Record as frames
-use Rattle.walrus_contents.specs.View.{contents_view}
-use Rattle.walrus_contents.specs.declared.parts.Contents.{Contents}
-use Rattle.walrus_items.specs.Errors.{out_of_memory}
-use Rattle.walrus_items.specs.Seen.{seen}
-use Rattle.walrus_items.specs.declared.custom.CustomSection.{Ghosts}
-use Rattle.walrus_items.specs.declared.error.Error.{Error}
-use Rattle.walrus_items.specs.declared.error.Error.TheVariants.{InvalidWasm, Memory}
-use Rattle.walrus_items.specs.declared.raw_section.RawCustomSection.{RawCustomSection}
-use Rattle.walrus_theorem.proofs.SameItems.{with_own}
-use Rattle.walrus_theorem.proofs.WellStays.{well_formed_in}
-use Rattle.walrus_theorem.proofs.WritableParsed.{parsed_is_well}
-use Rattle.walrus_theorem.specs.Features.{features_of}
-use Rattle.walrus_theorem.specs.Sound.{IsFreeName}
-use Rattle.walrus_theorem.specs.WellMade.{IsWellMade}
-use Rattle.walrus_module.specs.Check.{BodiesAreFormed}
-use Rattle.walrus_module.specs.Customs.{sections}
-use Rattle.walrus_module.specs.Entry.{raw_in}
-use Rattle.walrus_module.specs.Flags.{Flags, config_of}
-use Rattle.walrus_module.specs.Meaning.{Meaning, meaning, raw_meaning}
-use Rattle.walrus_module.specs.Parsed.{IsParsed, RefusesBytes, TakenFrom}
-use Rattle.walrus_module.specs.Raws.{raw_sections}
-use Rattle.walrus_module.specs.Settings.{settings}
-use Rattle.walrus_module.specs.View.{can_be_kept, contents_of, custom_of, held_view, kept_by, view}
-use Rattle.walrus_module.specs.declared.entry.SectionEntry.{SectionEntry}
-use Rattle.walrus_module.specs.declared.flaw.Flaw.{Flaw}
-use Rattle.walrus_module.specs.declared.module.Module.{Module}
-use Rattle.walrus_module.proofs.KeptRaw.{none_refuses, raw_means}
+use Rattle.walrus.specs.Model.Abstract.{Abstract, Custom}
+use Rattle.walrus.specs.Model.Config.{Config}
+use Rattle.walrus.specs.Model.Sections as wire
+use Rattle.walrus.specs.Frames.Record as frames
+use Rattle.walrus.specs.Contents.View.{contents_view}
+use Rattle.walrus.specs.Contents.Contents.{Contents}
+use Rattle.walrus.specs.Items.Errors.{out_of_memory}
+use Rattle.walrus.specs.Items.Seen.{seen}
+use Rattle.walrus.specs.Items.CustomSection.{Ghosts}
+use Rattle.walrus.specs.Items.Error.{Error}
+use Rattle.walrus.specs.Items.Error.TheVariants.{InvalidWasm, Memory}
+use Rattle.walrus.specs.Items.RawCustomSection.{RawCustomSection}
+use Rattle.walrus.proofs.Theorem.SameItems.{with_own}
+use Rattle.walrus.proofs.Theorem.WellStays.{well_formed_in}
+use Rattle.walrus.proofs.Theorem.WritableParsed.{parsed_is_well}
+use Rattle.walrus.specs.Theorem.Features.{features_of}
+use Rattle.walrus.specs.Theorem.Sound.{IsFreeName}
+use Rattle.walrus.specs.Theorem.WellMade.{IsWellMade}
+use Rattle.walrus_edit_list.specs.Check.{BodiesAreFormed}
+use Rattle.walrus.specs.Modules.Customs.{sections}
+use Rattle.walrus.specs.Modules.Entry.{raw_in}
+use Rattle.walrus.specs.Modules.Flags.{Flags, config_of}
+use Rattle.walrus.specs.Modules.Meaning.{Meaning, meaning, raw_meaning}
+use Rattle.walrus.specs.Modules.Parsed.{IsParsed, RefusesBytes, TakenFrom}
+use Rattle.walrus.specs.Modules.Raws.{raw_sections}
+use Rattle.walrus.specs.Modules.Settings.{settings}
+use Rattle.walrus.specs.Modules.View.{can_be_kept, contents_of, custom_of, held_view, kept_by, view}
+use Rattle.walrus.specs.Modules.SectionEntry.{SectionEntry}
+use Rattle.walrus_edit_list.specs.Flaw.{Flaw}
+use Rattle.walrus.specs.Modules.Module.{Module}
+use Rattle.walrus.proofs.Modules.KeptRaw.{none_refuses, raw_means}
 use Rattle.walrus.specs.Edits.{with_customs}
 use Rattle.walrus_edit_list.specs.Applies.{AppliesEach, RefusesNext}
 use Rattle.walrus_edit_list.specs.Fine.{IsFine}

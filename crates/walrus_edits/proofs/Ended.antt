@@ -2,35 +2,35 @@
 use Rattle.std.proofs.Common.{◌≡◌, ℕ, Bool, true, false, refl, ap, subst}
 use Rattle.std.specs.Prelude.{map, Result, Ok, Err}
 use Rattle.std.specs.Global.{Vec}
-use Rattle.walrus_base.specs.Arena.{items}
-use Rattle.walrus_model.specs.Abstract.{Abstract}
-use Rattle.walrus_model.specs.Config.{Config}
-use Rattle.walrus_model.specs.Pipeline.{Collected}
-use Rattle.walrus_theorem.specs.Chain.{Leaves}
-use Rattle.walrus_theorem.specs.Refused.{PassesLimits}
-use Rattle.walrus_theorem.specs.WellMade.{IsWellMade}
-use Rattle.walrus_theorem.proofs.WellStays.{collected_well}
-use Rattle.walrus_items.specs.declared.custom.CustomSection.{Ghosts}
-use Rattle.walrus_items.specs.declared.error.Error.{Error}
-use Rattle.walrus_items.specs.declared.error.Error.TheVariants as error
-use Rattle.walrus_module.specs.Answered.{IsWellWritten, WritesUnless}
-use Rattle.walrus_module.specs.Asked.{OneAskedMayRefuse, OneMayRefuse}
-use Rattle.walrus_module.specs.Check.{PassesCheck}
-use Rattle.walrus_module.specs.Customs.{sections}
-use Rattle.walrus_module.specs.Emitted.{told}
-use Rattle.walrus_module.specs.Flags.{Flags, config_of}
-use Rattle.walrus_module.specs.Following.{OneMayRefuseThen}
-use Rattle.walrus_module.specs.Left.{LeavesBy, but_customs}
-use Rattle.walrus_module.specs.Meaning.{meaning}
-use Rattle.walrus_module.specs.Settings.{settings}
-use Rattle.walrus_module.specs.View.{held_view, meanings, view}
-use Rattle.walrus_module.specs.declared.customs.ModuleCustomSections.{ModuleCustomSections}
-use Rattle.walrus_module.specs.declared.entry.SectionEntry.{SectionEntry}
-use Rattle.walrus_module.specs.declared.module.Module.{Module}
+use Rattle.walrus.specs.Base.Arena.{items}
+use Rattle.walrus.specs.Model.Abstract.{Abstract}
+use Rattle.walrus.specs.Model.Config.{Config}
+use Rattle.walrus.specs.Model.Pipeline.{Collected}
+use Rattle.walrus.specs.Theorem.Chain.{Leaves}
+use Rattle.walrus.specs.Theorem.Refused.{PassesLimits}
+use Rattle.walrus.specs.Theorem.WellMade.{IsWellMade}
+use Rattle.walrus.proofs.Theorem.WellStays.{collected_well}
+use Rattle.walrus.specs.Items.CustomSection.{Ghosts}
+use Rattle.walrus.specs.Items.Error.{Error}
+use Rattle.walrus.specs.Items.Error.TheVariants as error
+use Rattle.walrus.specs.Modules.Answered.{IsWellWritten, WritesUnless}
+use Rattle.walrus.specs.Modules.Asked.{OneAskedMayRefuse, OneMayRefuse}
+use Rattle.walrus_edit_list.specs.Check.{PassesCheck}
+use Rattle.walrus.specs.Modules.Customs.{sections}
+use Rattle.walrus.specs.Modules.Emitted.{told}
+use Rattle.walrus.specs.Modules.Flags.{Flags, config_of}
+use Rattle.walrus.specs.Modules.Following.{OneMayRefuseThen}
+use Rattle.walrus.specs.Modules.Left.{LeavesBy, but_customs}
+use Rattle.walrus.specs.Modules.Meaning.{meaning}
+use Rattle.walrus.specs.Modules.Settings.{settings}
+use Rattle.walrus.specs.Modules.View.{held_view, meanings, view}
+use Rattle.walrus.specs.Modules.ModuleCustomSections.{ModuleCustomSections}
+use Rattle.walrus.specs.Modules.SectionEntry.{SectionEntry}
+use Rattle.walrus.specs.Modules.Module.{Module}
 use Rattle.walrus.specs.Marked.{ReachesSound, ReachesUnsound}
 use Rattle.walrus.specs.Used.{RefusesSearch}
-use Rattle.walrus_module.proofs.CheckedWell.{checked_well}
-use Rattle.walrus_module.proofs.RawStays.{leaves_whole, plain_well}
+use Rattle.walrus_edit_list.proofs.CheckedWell.{checked_well}
+use Rattle.walrus.proofs.Modules.RawStays.{leaves_whole, plain_well}
 use Rattle.walrus_edits.specs.Ending.{Ends, EndsAs, IsFormed, Large, MayCollect, Unchecked, Unsound, told_as_flaw}
 
 pub collects_so : (v w : Abstract) (b : Bool) → b ≡ true → Collected v w → MayCollect b v w

@@ -2,7 +2,7 @@
 use Rattle.std.proofs.Common.{◌≡◌, ℕ, ◌+◌, List, [], ◌∷◌, ◌++◌, map, refl, sym, ap, ◌∙◌}
 use Rattle.std.specs.Prelude.{Option, Some, None}
 use Rattle.std.proofs.lemmas.List.{append_assoc}
-use Rattle.walrus_base.specs.Arena.{entries_from, items}
+use Rattle.walrus.specs.Base.Arena.{entries_from, items}
 
 module _ {A : Type 0} where
   abbrev values_from : ℕ → List (Option A) → List A

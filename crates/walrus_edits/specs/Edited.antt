@@ -1,17 +1,17 @@
 -- What a list of edits makes of a module, from bytes to bytes.
 use Rattle.std.specs.Prelude.{ℕ, Bool, false, List, map, Some, Result, Ok, Err, ◌≡◌, ⊤}
 use Rattle.std.specs.Global.{Vec}
-use Rattle.walrus_base.specs.Arena.{items}
-use Rattle.walrus_items.specs.declared.error.Error.{Error}
-use Rattle.walrus_items.specs.declared.error.Error.TheVariants.{InvalidWasm, Memory}
-use Rattle.walrus_model.specs.Abstract.{Abstract}
-use Rattle.walrus_model.specs.Config.{Config}
-use Rattle.walrus_model.specs.Sections.{custom_of}
-use Rattle.walrus_contents.specs.View.{contents_view}
-use Rattle.walrus_theorem.specs.Features.{features_of}
-use Rattle.walrus_theorem.specs.Headline.{Accepts}
-use Rattle.walrus_module.specs.Parsed.{IsParsed, TakenFrom}
-use Rattle.walrus_module.specs.declared.flaw.Flaw.{Flaw}
+use Rattle.walrus.specs.Base.Arena.{items}
+use Rattle.walrus.specs.Items.Error.{Error}
+use Rattle.walrus.specs.Items.Error.TheVariants.{InvalidWasm, Memory}
+use Rattle.walrus.specs.Model.Abstract.{Abstract}
+use Rattle.walrus.specs.Model.Config.{Config}
+use Rattle.walrus.specs.Model.Sections.{custom_of}
+use Rattle.walrus.specs.Contents.View.{contents_view}
+use Rattle.walrus.specs.Theorem.Features.{features_of}
+use Rattle.walrus.specs.Theorem.Headline.{Accepts}
+use Rattle.walrus.specs.Modules.Parsed.{IsParsed, TakenFrom}
+use Rattle.walrus_edit_list.specs.Flaw.{Flaw}
 use Rattle.walrus.specs.Edits.{with_customs}
 use Rattle.walrus_edit_list.specs.Applies.{AppliesEach, RefusesNext}
 use Rattle.walrus_edit_list.specs.Held.{Held}

@@ -2,26 +2,26 @@
 -- for, and written.
 use Rattle.std.specs.Prelude.{ℕ, Bool, true, false, List, Contains, Result, Ok, Err, ◌≡◌}
 use Rattle.std.specs.Global.{Vec}
-use Rattle.walrus_model.specs.Abstract.{Abstract, Custom}
-use Rattle.walrus_model.specs.Config.{Config}
-use Rattle.walrus_model.specs.Pipeline.{Collected}
-use Rattle.walrus_items.specs.declared.custom.CustomSection.{Ghosts}
-use Rattle.walrus_items.specs.declared.error.Error.{Error}
-use Rattle.walrus_items.specs.declared.error.Error.TheVariants.{DeadItem, TooLarge}
-use Rattle.walrus_theorem.specs.Chain.{Leaves}
-use Rattle.walrus_theorem.specs.Refused.{PassesLimits}
-use Rattle.walrus_theorem.specs.Sound.{IsFreeName}
-use Rattle.walrus_theorem.specs.WellMade.{IsWellMade}
-use Rattle.walrus_module.specs.Answered.{IsWellWritten}
-use Rattle.walrus_module.specs.Asked.{OneMayRefuse}
-use Rattle.walrus_module.specs.Check.{BodiesAreFormed, IsFlaw, PassesCheck}
-use Rattle.walrus_module.specs.Flags.{config_of}
-use Rattle.walrus_module.specs.Settings.{settings}
-use Rattle.walrus_module.specs.View.{held_view, meanings, view}
-use Rattle.walrus_module.specs.declared.entry.SectionEntry.{SectionEntry}
-use Rattle.walrus_module.specs.declared.flaw.Flaw.{Flaw}
-use Rattle.walrus_module.specs.declared.flaw.Flaw.TheVariants.{Form}
-use Rattle.walrus_module.specs.declared.module.Module.{Module}
+use Rattle.walrus.specs.Model.Abstract.{Abstract, Custom}
+use Rattle.walrus.specs.Model.Config.{Config}
+use Rattle.walrus.specs.Model.Pipeline.{Collected}
+use Rattle.walrus.specs.Items.CustomSection.{Ghosts}
+use Rattle.walrus.specs.Items.Error.{Error}
+use Rattle.walrus.specs.Items.Error.TheVariants.{DeadItem, TooLarge}
+use Rattle.walrus.specs.Theorem.Chain.{Leaves}
+use Rattle.walrus.specs.Theorem.Refused.{PassesLimits}
+use Rattle.walrus.specs.Theorem.Sound.{IsFreeName}
+use Rattle.walrus.specs.Theorem.WellMade.{IsWellMade}
+use Rattle.walrus.specs.Modules.Answered.{IsWellWritten}
+use Rattle.walrus.specs.Modules.Asked.{OneMayRefuse}
+use Rattle.walrus_edit_list.specs.Check.{BodiesAreFormed, IsFlaw, PassesCheck}
+use Rattle.walrus.specs.Modules.Flags.{config_of}
+use Rattle.walrus.specs.Modules.Settings.{settings}
+use Rattle.walrus.specs.Modules.View.{held_view, meanings, view}
+use Rattle.walrus.specs.Modules.SectionEntry.{SectionEntry}
+use Rattle.walrus_edit_list.specs.Flaw.{Flaw}
+use Rattle.walrus_edit_list.specs.Flaw.TheVariants.{Form}
+use Rattle.walrus.specs.Modules.Module.{Module}
 use Rattle.walrus.specs.Marked.{ReachesUnsound}
 
 -- gc left of v what is kept, where it is asked for; else w is v

@@ -1,8 +1,8 @@
 //! A module of another one, by a list of edits.
 
 ghost use Rattle.std.specs.Prelude.{◌≡◌, IfOk, IsOkUnless};
-ghost use Rattle.walrus_base.specs.Arena.{items};
-ghost use Rattle.walrus_items.specs.Errors.{out_of_memory};
+ghost use Rattle.walrus.specs.Base.Arena.{items};
+ghost use Rattle.walrus.specs.Items.Errors.{out_of_memory};
 ghost use Rattle.walrus.specs.Wanted.{config_wanted};
 ghost use Rattle.walrus_edits.specs.Edited.{AnswersEdit};
 ghost use Rattle.walrus_edits.specs.declared.refusal.Refusal.TheVariants.{Edit, Input, Whole};
@@ -12,10 +12,10 @@ use crate::put::put_contents;
 use crate::refusal::Refusal;
 use std::alloc::Global;
 use std::{mem, result};
+use walrus::below::Features;
 use walrus::{
     Module, ModuleConfig, ModuleCustomSections, RawCustomSection, Result, SectionEntry, Wanted,
 };
-use walrus_bodies::Features;
 use walrus_edit_list::{Beside, apply_all};
 
 // The sections that are left, in their order.

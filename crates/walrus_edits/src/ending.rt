@@ -5,8 +5,7 @@ ghost use Rattle.walrus_edits.specs.Ending.{EndsChecked, EndsFormed};
 use std::alloc::Global;
 use std::result;
 use walrus::passes::gc;
-use walrus::{CustomSection, Module, Result};
-use walrus_module::Flaw;
+use walrus::{CustomSection, Flaw, Module, Result};
 
 // The bytes of a module that passed the check, without what nothing reaches, if that is asked for.
 fn emit_left(alloc: Global, mut module: Module, collects: bool) -> Result<Vec<u8>>
@@ -23,7 +22,7 @@ fn emit_left(alloc: Global, mut module: Module, collects: bool) -> Result<Vec<u8
 ///
 /// # Errors
 ///
-/// Of a module of which bodies and custom sections are known to be fine: what [`diagnose`](walrus_module::Module::diagnose) tells; `DeadItem` only where
+/// Of a module of which bodies and custom sections are known to be fine: what [`diagnose`](walrus::Module::diagnose) tells; `DeadItem` only where
 /// gc is asked for and a root leads to what isn't there, as a table may whose segment is gone; `TooLarge` only where what is left has a count or a size
 /// past 32 bits; and `Memory`.
 pub(crate) fn written(

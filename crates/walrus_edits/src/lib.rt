@@ -20,6 +20,5 @@ mod type_records;
 pub use change::edit;
 pub use item_list::items;
 pub use refusal::Refusal;
-pub use walrus::Wanted;
-pub use walrus_module::{Flaw, rule_number};
+pub use walrus::{Flaw, Wanted, rule_number};
 pub use wasm_wire::BrokenRule;

@@ -1,8 +1,8 @@
 //! What a module holds, put into another one.
 
 ghost use Rattle.std.specs.Prelude.{◌≡◌};
-ghost use Rattle.walrus_module.specs.Settings.{settings};
-ghost use Rattle.walrus_module.specs.View.{contents_of};
+ghost use Rattle.walrus.specs.Modules.Settings.{settings};
+ghost use Rattle.walrus.specs.Modules.View.{contents_of};
 
 use walrus::{CustomSection, Module};
 

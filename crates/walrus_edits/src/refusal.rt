@@ -3,9 +3,8 @@
 ghost use Rattle.std.specs.Prelude.{◌≡◌};
 ghost use Rattle.walrus_edits.specs.declared.refusal.Refusal.TheVariants.{Edit, Input, Whole};
 
-use walrus::Error;
+use walrus::{Error, Flaw};
 use walrus_edit_list as list;
-use walrus_module::Flaw;
 
 /// Why a list of edits makes nothing of a module.
 #[derive(Debug, Drop)]

@@ -1,6 +1,6 @@
 use Rattle.std.proofs.Common.{◌≡◌, ◌++◌}
 use Rattle.std.specs.Vec.Iter.{into_iter_items}
-use Rattle.walrus_base.specs.Arena.{items}
+use Rattle.walrus.specs.Base.Arena.{items}
 use Rattle.walrus_edits.proofs.change.sections_left.Given as goal
 
 -- the sections so far, and those that are still to come

@@ -1,8 +1,8 @@
 use Rattle.std.proofs.Common.{◌≡◌, ap, ◌∙◌, false, refl, rules, true}
 use Rattle.std.proofs.lemmas.Result.{err_from_is_err_and}
 use Rattle.walrus.proofs.FinishLemmas.{sections_stay}
-use Rattle.walrus_module.specs.Flags.{Flags}
-use Rattle.walrus_module.specs.Settings.{settings}
+use Rattle.walrus.specs.Modules.Flags.{Flags}
+use Rattle.walrus.specs.Modules.Settings.{settings}
 use Rattle.walrus_edits.proofs.Ended.{collects_so, ended, keeps_so, kept_well, made, search_refused}
 use Rattle.walrus_edits.proofs.ending.emit_left.Goals as goal
 
