@@ -1,11 +1,11 @@
+mod Assembled
+mod Ended
 mod ListSteps
 mod LocalSteps
 mod NameSteps
 mod ReadSteps
 mod RowSteps
+mod SectionsLeft
 mod TellSteps
 mod TypeSteps
 mod ZipSteps
-mod Assembled
-mod Ended
-mod SectionsLeft
