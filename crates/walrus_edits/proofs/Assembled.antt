@@ -81,7 +81,7 @@ asks_nothing : (raws : List RawCustomSection) → ◌≡◌ {A = List Item} (fla
 asks_nothing [] = refl
 asks_nothing (r ∷ raws) = asks_nothing raws
 
-module _ {V : Type 0} {O : V → Type 0} where
+module _ (V : Type 0) (O : V → Type 0) where
   taken_from : (k : ℕ) (raws : List RawCustomSection) → values_from k (map raw_in (raw_sections {V = V} {O = O} raws)) ≡ raws
   taken_from k [] = refl
   taken_from k (r ∷ raws) = ap (λ (l : List RawCustomSection). r ∷ l) (taken_from (k + 1) raws)
@@ -139,7 +139,9 @@ module _ (f : Flags) (bytes edits : List ℕ) where
   by_result collects n made (Ok output) makes ends = record { count = n; made = made; makes = makes; ended = ends }
   by_result collects n made (Err w) makes ends = record { count = n; made = made; makes = makes; refuses = ends }
 
-  module _ {V : Type 0} {O : V → Type 0} (G : (v : V) → Ghosts (O v)) (m : Module (SectionEntry V O)) (parsed : IsParsed c bytes (view G m)) (took : TakenFrom (features_of c) bytes (contents_of m)) (raws : List RawCustomSection) (are : sections m.customs ≡ raw_sections raws)
+  -- of what was parsed under flags that come to the same
+  module _ (g : Flags) (alike : g ≡ f) {V : Type 0} {O : V → Type 0} (G : (v : V) → Ghosts (O v)) (m : Module (SectionEntry V O)) (parsed : IsParsed (config_of g) bytes (view G m))
+      (took : TakenFrom (features_of (config_of g)) bytes (contents_of m)) (raws : List RawCustomSection) (are : sections m.customs ≡ raw_sections raws)
       (taken : List (Option RawCustomSection)) (takes : taken ≡ map raw_in (sections m.customs)) where
     abbrev read : Held
     read = record { contents = contents_of m; customs = customs taken; has_read = false }
@@ -148,13 +150,13 @@ module _ (f : Flags) (bytes edits : List ℕ) where
     beside =
         ap (λ (l : List (Option RawCustomSection)). items (customs l)) (takes ∙ ap (map raw_in) are)
         ∙ seen_from 0 (map raw_in (raw_sections {V = V} {O = O} raws))
-        ∙ ap (map custom_value) (taken_from 0 raws)
+        ∙ ap (map custom_value) (taken_from V O 0 raws)
 
     pub is_read : IsRead c bytes read
     is_read = record {
-      parsed = subst (λ (v : Abstract). IsParsed c bytes v) (view_held G m raws are read refl beside) parsed;
-      taken = took;
-      in_place = ap customs (takes ∙ ap (map raw_in) are) ∙ all_there {V = V} {O = O} raws ∙ ap (map Some) (sym beside);
+      parsed = subst (λ (v : Abstract). IsParsed c bytes v) (view_held G m raws are read refl beside) (subst (λ (k : Flags). IsParsed (config_of k) bytes (view G m)) alike parsed);
+      taken = subst (λ (k : Flags). TakenFrom (features_of (config_of k)) bytes (contents_of m)) alike took;
+      in_place = ap customs (takes ∙ ap (map raw_in) are) ∙ all_there V O raws ∙ ap (map Some) (sym beside);
       fresh = refl;
     }
 
