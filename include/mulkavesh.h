@@ -6,13 +6,15 @@
  *   MULKAVESH_DONE       the answer stands in the first `*length` bytes of `output`; the bytes behind it are as they were
  *   MULKAVESH_NO_ROOM    `output` is as it was, and `*length` is how much room the answer wants: call again with that much
  *   MULKAVESH_NOT_FOUND  `output` is as it was, and of a call with a choice of exports `*length` is a number (see below); of others it is 0
+ *   MULKAVESH_BAD_EDIT   `output` is as it was, and `*length` is how many edits of a list can be made, one behind the other: the next one can't
+ *   MULKAVESH_BAD_MODULE `output` is as it was, and `*length` is the number of a cause
  *   any other            `output` is as it was, and `*length` is 0
  *
  * A smaller module is seldom longer than its input: with 256 bytes more than that one call mostly serves.
  *
  * What the caller owes, and no call checks:
- *   - `input`, `choice`, `function`, `module`, `name` and `output` have as many bytes as is told, `output` may be written, and nothing else writes them
- *     during the call;
+ *   - `input`, `choice`, `function`, `module`, `name`, `edits` and `output` have as many bytes as is told, `output` may be written, and nothing else
+ *     writes them during the call;
  *   - none of them is null, not even where the length is 0, and `length` isn't null and is aligned as a size_t;
  *   - `output` and `*length` stand apart from each other and from all that is read;
  *   - `malloc`, `realloc` and `free` are of one allocator, and align as the C standard says;
@@ -53,7 +55,11 @@ enum {
   /* A flag isn't known, or what has to be a list of NAMEs is none. */
   MULKAVESH_UNKNOWN_FLAG = 5,
   /* There is nothing of this name or index that the call could work on, or a NAME fits nothing. */
-  MULKAVESH_NOT_FOUND = 6
+  MULKAVESH_NOT_FOUND = 6,
+  /* An edit isn't of its form, names what isn't there, has a body that isn't well formed, brings what is imported, or is a front of what has no body. */
+  MULKAVESH_BAD_EDIT = 7,
+  /* All edits can be made, and what they leave can't be written. The cause is a MULKAVESH_RULE_.. or a MULKAVESH_CAUSE_... */
+  MULKAVESH_BAD_MODULE = 8
 };
 
 /* The flags, as the words of the program. */
@@ -63,7 +69,9 @@ enum {
   /* No producers are written: --no-producers. */
   MULKAVESH_NO_PRODUCERS = 2,
   /* Bodies with legacy exceptions are refused: --no-legacy. */
-  MULKAVESH_NO_LEGACY = 4
+  MULKAVESH_NO_LEGACY = 4,
+  /* What nothing reaches goes: of mulkavesh_edit alone. */
+  MULKAVESH_GC = 8
 };
 
 /* What stands in a list for the length of a name, or for a size, that isn't there. */
@@ -177,6 +185,18 @@ enum {
   MULKAVESH_RULE_LOCALS = 10
 };
 
+/* Why what all edits left can't be written, beside the rules 4, 5 and 7 to 10: what mulkavesh_edit tells with MULKAVESH_BAD_MODULE. */
+enum {
+  /* It names an item that is gone. */
+  MULKAVESH_CAUSE_GONE = 11,
+  /* An item stands in it twice. */
+  MULKAVESH_CAUSE_TWO_INDICES = 12,
+  /* It names an item that stands nowhere. */
+  MULKAVESH_CAUSE_NO_INDEX = 13,
+  /* A body or an expression of it can't be spelled. */
+  MULKAVESH_CAUSE_NO_SPELLING = 14
+};
+
 /* The version of the library: the major number times 2^16, the minor one times 2^8, and the patch. */
 #define MULKAVESH_VERSION 0x000100u
 uint32_t mulkavesh_version(void);
@@ -266,6 +286,15 @@ uint32_t mulkavesh_snip(const uint8_t *input, size_t input_length, uint32_t flag
  * `name` say each name, and none for `module` no module. MULKAVESH_NOT_FOUND where no function is imported so. */
 uint32_t mulkavesh_stub(const uint8_t *input, size_t input_length, uint32_t flags, const uint8_t *module, size_t module_length,
                         const uint8_t *name, size_t name_length, uint8_t *output, size_t room, size_t *length);
+
+/* The items of the module, each with its id, as records: docs/FORMATS.md, "A list of items". Of the flags MULKAVESH_NO_LEGACY alone has a say. */
+uint32_t mulkavesh_read(const uint8_t *input, size_t input_length, uint32_t flags, uint8_t *output, size_t room, size_t *length);
+
+/* The module that edits make of the input, each in its turn: `edits` is a list of records, as docs/FORMATS.md has it, "A list of edits". Wherever wasm has an
+ * index, an edit has an id: that of an item of the input is its index there, and what is added has the next ones. So any library for wasm makes the bodies and
+ * sections in it; `07 05 01 01 66 00 00` exports function 0 as `f`. With MULKAVESH_GC what nothing reaches goes in the end. MULKAVESH_INVALID for the input alone. */
+uint32_t mulkavesh_edit(const uint8_t *input, size_t input_length, uint32_t flags, const uint8_t *edits, size_t edits_length,
+                        uint8_t *output, size_t room, size_t *length);
 
 #ifdef __cplusplus
 }

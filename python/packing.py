@@ -1,4 +1,4 @@
-"""What pip calls to install this folder: it packs mulkavesh.py, and the shared library that mulkavesh.py finds. It needs no other package and no network."""
+"""What pip calls to install this folder: it packs the package, and the shared library that it finds. It needs no other package and no network."""
 import base64
 import hashlib
 import pathlib
@@ -14,9 +14,9 @@ HERE = pathlib.Path(__file__).resolve().parent
 
 def _files() -> Iterator[Tuple[str, bytes]]:
     """What is installed, into one folder. A library that the system has stays where it is."""
-    for path in (HERE / "mulkavesh.py", pathlib.Path(mulkavesh._library._name)):
+    for path in (*sorted((HERE / "mulkavesh").glob("*.py")), pathlib.Path(mulkavesh._library._name)):
         if path.is_file():
-            yield path.name, path.read_bytes()
+            yield f"mulkavesh/{path.name}", path.read_bytes()
 
 
 def _told(words: Dict[str, str], tag: str) -> Iterator[Tuple[str, bytes]]:

@@ -22,6 +22,7 @@ sys.dont_write_bytecode = True
 from answers import (
     INVALID, NOT_FOUND, NO_NAME, UNKNOWN_FLAG, by_program, call, asked, choice, entries, fits, framed, function_names, imports, imports_in, placed, records, section,
 )
+from edit_lists import all_kinds, as_gc, every_kind, in_the_items, made_or_refused, mutated_list
 from hostile import bodies, mutated, number, sections
 from refused import requests_of
 from roots import in_the_chains, no_list, refused_first, snipped, stubbed, under_choices
@@ -244,6 +245,11 @@ def refused_in_turn(caller, refused, data, least, name, *words):
         yield f"{name}: only {count} requests"
 
 
+def legacy(caller, data):
+    """Whether a module has legacy exceptions."""
+    return call(caller, "diagnose", data, 4)[1] != bytes(8)
+
+
 # ---- what is tried
 
 
@@ -316,11 +322,18 @@ def main():
     tries.all("sections of mutants", ((f"mutant {i}", in_the_sections, callers[i % 2], mutant) for i, mutant in enumerate(mutants)))
     tries.all("parts of mutants", ((f"mutant {i}", in_the_parts, callers[i % 2], mutant) for i, mutant in enumerate(mutants)))
     tries.all("sections of mutants that go", ((f"mutant {i}", stripped, callers, mutant, i) for i, mutant in enumerate(mutants)))
+    tries.all("items of modules", ((path.name, in_the_items, callers[flags // 4], data[path], flags) for path in taken for flags in (0, 4) if not flags or not legacy(static, data[path])))
+    tries.all("edits of nothing", ((path.name, as_gc, callers, data[path], flags) for path in taken for flags in range(4)))
+    tries.all("edits of every kind", ((path.name, all_kinds, callers, data[path], flags) for path in small for flags in (0, 8)))
+    lists = [(path, [*every_kind(data[path], call(static, "read", data[path], 0)[1])]) for path in small if len(data[path]) < 12_000]
+    tries.all("lists of edits that are mutated", ((f"list {i} of {path.name}", made_or_refused, callers[i % 2], data[path], mutated_list(random.Random(f"{SEED}:{i}"), records), i // 2 % 2 * 8)
+              for i in range(int(count)) for path, records in [lists[i % len(lists)]]))
     calls = [(10, *it) for it in (("gc", 0), ("report", 0), ("list", 0), ("dropped", 0), ("why", 0, b"", b"0"), ("callers", 0, b"", b"0"), ("snip", 0, choice([b"*"])))]
     calls += [(10, "stub", 0, choice([b"*"])), (10, "gc", 0, records([(1, b"*"), (0, b"none")])), (5, "exports", 0), (5, "imports", 0)]
-    calls += [(1, "diagnose", 0), (2, "sections"), (2, "parts"), (3, "strip", 0, choice([b"*"], [b"name"]))]
+    calls += [(1, "diagnose", 0), (2, "sections"), (2, "parts"), (3, "strip", 0, choice([b"*"], [b"name"])), (10, "read", 0)]
     tiny = [path for path in small if len(data[path]) < MOST_BYTES_REFUSED]
     inputs = [(path.name, data[path], *one) for path in tiny for one in calls]
+    inputs += [(path.name, data[path], 20, "edit", flags, b"".join(records)) for path, records in lists if path in tiny for flags in (0, 8)]
     inputs += [(why, given, 0, "diagnose", flags) for why, flags, _, given in faults()]
     tries.all("calls of which each request for memory was refused in turn", ((name, refused_in_turn, static, refused, *one) for name, *one in inputs))
     sys.exit(tries.finds > 0 or not taken)

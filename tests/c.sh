@@ -5,7 +5,8 @@
 #   call.c     over the modules of tests/samples, the made ones of tests/made (where wabt is there), ../shared/samples and ../shared/rows (where they are there), and
 #              2,000 mutants of them, beside the program: the same bytes and statuses; over the bytes of faults.txt; each request for memory refused in turn; what
 #              `sections` and `strip` answer beside what stands in the bytes; and what is made under a choice of exports beside what is made of modules whose
-#              exports were taken away by hand, and reasons beside lists (c.py and roots.py say what else)
+#              exports were taken away by hand, and reasons beside lists (c.py and roots.py say what else); items beside what stands in the bytes, edits of every kind,
+#              and 2,000 lists of edits that were mutated (edit_lists.py)
 #   rooms.c    in rooms of every length, which end where no memory is, on small modules; and again under AddressSanitizer, in blocks of their size
 #   threads.c  in four threads at once
 # The header is compared with the sources (tools/header.py) and compiled as C and as C++, and the shared library has to show nothing but the calls. Prints the counts

@@ -2,7 +2,7 @@
 # Compares what mulkavesh writes with what walrus-gc writes and the library answers, and the files it leaves with those that have to be there.
 # tests/program.sh [PROGRAM [WALRUS_GC [FOLDER]]], the proved programs and library that tools/build.sh left where none are given, or those of tools/unproved.sh.
 # The program is run as a user does. What program.py tries, over the modules of tests/samples, ../shared/samples (where it is there) and made ones:
-#   gc and report beside WALRUS_GC, under all words: the same bytes and statuses; list, strip, snip, stub and why beside the library in FOLDER, by python/mulkavesh.py
+#   gc and report beside WALRUS_GC, under all words: the same bytes and statuses; list, strip, snip, stub and why beside the library in FOLDER, by the package for Python
 #   the bytes of faults.txt: what check writes of them, and the line of each other subcommand that refuses them
 #   files and streams, as IN and as OUT: links, rights, a named pipe, a device, IN as OUT; each failure, after which OUT is as it was and no file is beside it
 #   a disk that is full, where this user may mount one; another user, where this one is root; a pipe that nobody reads; a list of a million lines into `head`

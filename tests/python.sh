@@ -5,6 +5,7 @@
 #   test_mulkavesh.py  each call and each refusal on worked modules and on the bytes of faults.txt, in threads too; how the library is found; what is declared,
 #                      beside the header; packing
 #   test_samples.py    `strip` and `sections` of the modules of tests/samples and ../shared/samples (where it is there), beside what stands in them
+#   test_module.py     modules that are changed: each field of each item of a small one, those modules beside `gc`, `snip` and `stub`, and the examples
 #   test_program.py    these modules beside the program, under all words: the same bytes, and a fault where it refuses
 # Prints a line, and all that fails. PYTHON names another Python. Where there is none from 3.8 on, nothing is run, and the status is 2. Some ten seconds of one
 # processor.

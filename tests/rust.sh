@@ -5,7 +5,8 @@
 #   header.py    the declarations of mulkavesh-sys are compared with the sources (tools/header.py)
 #   cargo test   each call on worked modules, in the tests and in the docs, `diagnose` and refusals on the bytes of faults.txt, and all on those of
 #                tests/samples and ../shared/samples (where it is there): `gc`, `report` and `diagnose` beside the program, over mutants of the small
-#                ones too, `sections` and `strip` beside what stands in them, and the other calls beside one another; in four threads at once
+#                ones too, `sections` and `strip` beside what stands in them, and the other calls beside one another; in four threads at once. Modules that are
+#                changed: each field of each item of a small one, those of the samples beside `gc`, `snip`, `stub` and `strip`, and the examples that change one
 #   shrink_last  the example, on a module in a file: it is what the program writes, alone; and what is refused stays as it was, and what is wrong is told
 # Prints the counts and a line for each find. Where there is no cargo, nothing is run, and the status is 2. Half a minute of one processor.
 set -eu

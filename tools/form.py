@@ -34,13 +34,13 @@ MOST_LINES_OF_A_BODY = 40
 WIDEST_CLAUSE = 110
 MOST_LINES_OF_CLAUSES = 16
 # The crates whose contracts users read, and which have to be shorter.
-CRATES_OF_USERS = ("walrus", "walrus_module", "walrus_plan", "walrus_tools", "mulkavesh")
+CRATES_OF_USERS = ("walrus", "walrus_module", "walrus_plan", "walrus_sections", "walrus_tools", "mulkavesh")
 MOST_LINES_OF_CLAUSES_OF_USERS = 12
 MOST_LINES_OF_THE_README = 112
 MOST_COLUMNS_OF_THE_README = 100
 # Ways down the crates, from each crate to each that it lists, and on from there.
-MOST_WAYS = 130_000
-MOST_ARROWS = 232
+MOST_WAYS = 170_000
+MOST_ARROWS = 265
 # Lines of files of lemmas above the highest crate that they speak of.
 MOST_LINES_ABOVE_THEIR_WORDS = 1_500
 MOST_EDITS = 90
@@ -59,7 +59,7 @@ FILES_OF_NUMBERS = (
     "wasm_frames/src/read.rt",
     "wasm_writer/src/writer.rt",
     # the bytes by which files of other kinds are known
-    "walrus_tools/specs/Beginnings.antt",
+    "walrus_sections/specs/Beginnings.antt",
     # counts of pages, no bytes
     "wasm_wire/src/rules/limits.rt",
     # operators that no code names
@@ -222,6 +222,7 @@ def wrong_in_lemmas():
     """Files of lemmas that speak of one crate and what it stands on, and stand above it."""
     listed, handed = listed_crates(), handed_on()
     files = {(path.parts[-3], path.stem): path.read_text(encoding="utf-8") for path in CRATES.glob("*/proofs/*.antt") if path.stem != "Lib"}
+    files = {key: text for key, text in files.items() if re.search(r"(?m)^(?!pub use|--|$)", text)}
 
     @functools.cache
     def below(crate):

@@ -1,9 +1,10 @@
 #!/usr/bin/env python3
-"""Compares include/mulkavesh.h with the signatures of crates/mulkavesh_c, and rust/mulkavesh-sys and python/mulkavesh.py with the header.
+"""Compares include/mulkavesh.h with the signatures of crates/mulkavesh_c, and rust/mulkavesh-sys and python/mulkavesh with the header.
 
 A slice is a pointer and its length, a `&mut usize` a pointer, and a `Global` nothing. Compared are the names, the types and the order of the
 parameters, the constants (those of what is wrong with bytes, of items and of roots are numbers of crates/walrus_tools), the words of docs/FORMATS.md for these with the header's
-comments and with tests/faults.txt, and the version with those of the packages; no compiler is needed. Prints what differs, a line each, and ends with
+comments and with tests/faults.txt, the operators of the packages by their names with those of crates/wasm_opcodes, and the version with those of the packages; no
+compiler is needed. Prints what differs, a line each, and ends with
 status 1 where there is any.
 """
 import pathlib
@@ -63,10 +64,20 @@ def faults_of_sources():
     text = read("crates", "walrus_tools", "src", "tool", "diagnose.rt")
     kinds = re.findall(r"(None|Fault::\w+)(?:\(\w+\))?\)? => \((\d+),", text)
     yield from ((f"FAULT_{name.removeprefix('Fault::').upper()}", int(number)) for name, number in kinds)
-    for name, number in re.findall(r"Beginning::(\w+) => (\d+),", read("crates", "walrus_tools", "src", "beginnings.rt")):
+    for name, number in re.findall(r"Beginning::(\w+) => (\d+),", read("crates", "walrus_sections", "src", "beginnings.rt")):
         yield "BEGINS" + re.sub(r"([A-Z])", r"_\1", name).upper(), int(number)
     for name, number in re.findall(r"BrokenRule::(\w+) => (\d+),", text):
         yield "RULE" + re.sub(r"([A-Z])", r"_\1", name).upper(), int(number)
+
+
+# What the header calls a cause that isn't a rule.
+CAUSES = {"DeadItem": "GONE", "TwoIndices": "TWO_INDICES", "NoIndex": "NO_INDEX", "NotWritable": "NO_SPELLING"}
+
+
+def causes_of_sources():
+    """Why what edits left can't be written, beside the rules, by the names that the header gives them."""
+    for name, number in re.findall(r"Error::(\w+) => (\d+),", read("crates", "walrus_module", "src", "flaw.rt") or ""):
+        yield f"CAUSE_{CAUSES[name]}", int(number)
 
 
 def items_of_sources():
@@ -82,9 +93,9 @@ def items_of_sources():
 def constants_of_sources():
     """The statuses, flags, the version, what parts are told as, items, roots and what is wrong with bytes, by the names that the header gives them."""
     text = "".join(path.read_text(encoding="utf-8") for path in sorted((CRATES / CRATE / "src").glob("*.rt")))
-    text += read("crates", "walrus_tools", "src", "tool", "section_parts.rt")
+    text += read("crates", "walrus_sections", "src", "tool", "section_parts.rt")
     named = {name: int(number) for name, number in re.findall(r"const (\w+): u(?:8|32) = (\d+);", text)}
-    return {**named, **dict(items_of_sources()), **dict(faults_of_sources())}
+    return {**named, **dict(items_of_sources()), **dict(faults_of_sources()), **dict(causes_of_sources())}
 
 
 def constants_of_header(text):
@@ -101,7 +112,7 @@ def constants_of_python(text):
     for name, front in (("_OF_LINKS", "KIND_"), ("_OF_EXTERNS", "EXTERN_")):
         words = re.search(rf"^{name} = \((.*)\)$", text, re.M)[1]
         found.update((front + word.upper(), number) for number, word in enumerate(re.findall(r'"(\w+)"', words)))
-    for of_python, front in (("Status", ""), ("FaultKind", "FAULT_"), ("Beginning", "BEGINS_"), ("Rule", "RULE_"), ("Root", "ROOT_")):
+    for of_python, front in (("Status", ""), ("FaultKind", "FAULT_"), ("Beginning", "BEGINS_"), ("Rule", "RULE_"), ("Cause", "CAUSE_"), ("Root", "ROOT_")):
         numbers = re.search(rf"class {of_python}\(.*?(?=\n\n\n)", text, re.S)
         found.update((front + name, int(number)) for name, number in re.findall(r"^    ([A-Z_]+) = (\d+)", numbers[0], re.M))
     return found
@@ -134,6 +145,31 @@ def unlike_the_words(header):
         yield f"docs/FORMATS.md: {len(rows)} rows say what is wrong with bytes, and not 23"
 
 
+def number_of(text):
+    return int(text.replace("_", ""), 16)
+
+
+def opcodes_of_sources():
+    """The operators by their names, of the modules that opcodes.rt names."""
+    folder = ("crates", "wasm_opcodes", "src")
+    for module, name in re.findall(r"pub use crate::(\w+)::(\w+);", read(*folder, "opcodes.rt")):
+        yield name, number_of(re.search(rf"pub const {name}: u32 = (0x[0-9A-F_]+);", read(*folder, f"{module}.rt"))[1])
+
+
+def opcodes_of_packages():
+    """Each file that has them, and what stands in it."""
+    rust, python, web = (read(*parts) for parts in (("rust", "mulkavesh", "src", "module", "opcodes.rs"), ("python", "mulkavesh", "opcodes.py"), ("web", "opcodes.js")))
+    if rust is not None:
+        yield "rust/mulkavesh/src/module/opcodes.rs", {name: number_of(it) for name, it in re.findall(r"(\w+) (0x[0-9A-F_]+),", rust)}
+    if python is not None:
+        lines = (line.split(" = ") for line in python.splitlines() if " = 0x" in line)
+        yield "python/mulkavesh/opcodes.py", {name: number_of(it) for names, numbers in lines for name, it in zip(names.split(", "), numbers.split(", "))}
+    if web is not None:
+        found = {name: number_of(it) for name, it in re.findall(r"(\w+) = (0x[0-9A-F_]+)", web)}
+        yield "web/opcodes.js", found
+        yield "web/opcodes.d.ts", {name: found.get(name) for name in re.findall(r"(\w+): number", read("web", "opcodes.d.ts"))}
+
+
 def versions(number):
     """Where the packages tell their version, and what it has to be."""
     wanted = f"{number >> 16}.{number >> 8 & 255}.{number & 255}"
@@ -155,11 +191,14 @@ def wrong():
         yield from differing("rust/mulkavesh-sys", sources, dict(of_rust(rust)))
         numbers = {name: number for name, number in constants.items() if name != "VERSION"}
         yield from differing("rust/mulkavesh-sys", numbers, constants_of_rust(rust))
-    python = read("python", "mulkavesh.py")
+    python = read("python", "mulkavesh", "__init__.py")
     if python is not None:
-        others = ("VERSION", "NO_NAMES", "NO_PRODUCERS", "NO_LEGACY", "FAULT_NONE", "ROOT_NONE")
+        others = ("VERSION", "NO_NAMES", "NO_PRODUCERS", "NO_LEGACY", "GC", "FAULT_NONE", "ROOT_NONE")
         numbers = {name: number for name, number in constants.items() if name not in others}
-        yield from differing("python/mulkavesh.py", numbers, constants_of_python(python))
+        yield from differing("python/mulkavesh", numbers, constants_of_python(python))
+    opcodes = dict(opcodes_of_sources())
+    for file, found in opcodes_of_packages():
+        yield from differing(file, opcodes, found)
     yield from versions(constants["VERSION"])
 
 

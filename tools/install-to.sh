@@ -63,9 +63,9 @@ done < "$work/files"
 # mulkavesh.pc begins with the line of its prefix.
 { echo "prefix=$dir" && tail -n +2 "$from/lib/pkgconfig/mulkavesh.pc"; } > "$work/mulkavesh.pc"
 install -m 644 -- "$work/mulkavesh.pc" "$dir/lib/pkgconfig/mulkavesh.pc"
-# mulkavesh.py looks for the library beside itself.
-ln -sfn ../../../lib/libmulkavesh.so "$dir/share/mulkavesh/python/libmulkavesh.so"
-echo share/mulkavesh/python/libmulkavesh.so >> "$work/places"
+# The package for Python looks for the library beside itself.
+ln -sfn ../../../../lib/libmulkavesh.so "$dir/share/mulkavesh/python/mulkavesh/libmulkavesh.so"
+echo share/mulkavesh/python/mulkavesh/libmulkavesh.so >> "$work/places"
 sort -o "$work/places" "$work/places"
 (cd "$dir" && tr '\n' '\0' < "$work/places" | xargs -0 sha256sum) > "$work/installed"
 if [ -f "$dir/$installed" ]; then

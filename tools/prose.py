@@ -16,7 +16,7 @@ TOP = pathlib.Path(__file__).resolve().parent.parent
 
 LONGEST_SENTENCE = 45
 MOST_LONG_SENTENCES = 25
-MOST_WORDS = 27_000
+MOST_WORDS = 29_500
 MOST_WORDS_A_SENTENCE_OF_THE_README = 16
 # Documents that a script makes.
 MADE = ("docs/CALLS.md", "docs/THEOREM.md")

@@ -158,7 +158,7 @@ tell_parts() {
   lib, include      the library for C and C++: libmulkavesh.a, libmulkavesh.so, mulkavesh.h, mulkavesh.pc for pkg-config
   share             the manual page mulkavesh.1, and completions for bash, zsh and fish
   rust              crates over lib/libmulkavesh.a, whose folder MULKAVESH_LIB has to name
-  python            mulkavesh.py, over lib/libmulkavesh.so: beside it, or in the folder that MULKAVESH_LIB names
+  python            the package mulkavesh, over lib/libmulkavesh.so: beside it, or in the folder that MULKAVESH_LIB names
   web               an npm package for Node and browsers$([ ! -f "$1/web/index.html" ] || echo ", and a page over it: index.html, from any static host")
   GATE              the last lines of the gate, in which all is proved again and tested
   SHA256SUMS        of each other file: sha256sum --check SHA256SUMS
@@ -171,7 +171,7 @@ README
 tell_proved() {
   cat << 'README'
 Proved is of the programs and of the library for C that each function is safe on every input, ends, and does what its contract says: README.md
-and docs/PROMISES.md of the repository say what that is. Only tested are the crates for Rust, mulkavesh.py, and in web what isn't mulkavesh.wasm.
+and docs/PROMISES.md of the repository say what that is. Only tested are the packages for Rust and Python, and in web what isn't mulkavesh.wasm.
 Trusted are the toolchain and the C library; of the static programs also cc, which links them; of mulkavesh.wasm what web/README.md of the repository names.
 
 README

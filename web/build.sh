@@ -2,6 +2,7 @@
 # Makes the library for JavaScript: web/build.sh [--unproved] [OUT], into the folder web/dist where none is given. What it leaves there is an npm package:
 #   mulkavesh.wasm    the library mulkavesh_c as wasm32, which asks its host for nothing
 #   mulkavesh.js      the calls of it, for Node and browsers; mulkavesh.d.ts has their types
+#   module.js         a module as items that a program changes, over these calls, with items.js, differ.js, code.js and wire.js; opcodes.js; their types
 #   index.html        a page over it, with page.js, page.css, keys.js, treemap.js and worker.js: any static host serves the folder
 #   package.json, LICENSE
 # It proves the crates first, as tools/build.sh mulkavesh_c, where that isn't done yet, and takes LLVM's module of what was proved. With --unproved that is of
@@ -38,7 +39,8 @@ wait $!
 mapfile -t shown < <("$top/tools/exports.py" --names mulkavesh_c | sed 's/^/--export=/')
 "$kit/toolchain/bin/ld.lld" -flavor wasm --no-entry --stack-first -z stack-size=1048576 --export-memory --gc-sections --strip-all "${shown[@]}" \
   "$work/library.o" "$work/shim.o" -o "$work/mulkavesh.wasm"
-cp "$here"/{mulkavesh.js,mulkavesh.d.ts,package.json,index.html,page.js,page.css,keys.js,treemap.js,worker.js} "$top/LICENSE" "$out"
+cp "$here"/{mulkavesh.js,mulkavesh.d.ts,module.js,module.d.ts,opcodes.js,opcodes.d.ts,items.js,differ.js,code.js,wire.js,package.json} "$out"
+cp "$here"/{index.html,page.js,page.css,keys.js,treemap.js,worker.js} "$top/LICENSE" "$out"
 install -m 644 "$work/mulkavesh.wasm" "$out"
 if command -v node > /dev/null; then
   node "$here/shrink.mjs" "$out"

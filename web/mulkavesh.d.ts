@@ -206,6 +206,13 @@ export interface Mulkavesh {
    * which traps, without what nothing reaches then. NotFound where no function is imported so.
    */
   stub(input: Bytes, modules: Names, options?: Options & { imports?: Names }): Uint8Array;
+  /** The items of a module, each with its id, as records: docs/FORMATS.md of the repository, "A list of items". `Module` of `mulkavesh/module` reads them. */
+  read(input: Bytes, options?: { legacy?: boolean }): Uint8Array;
+  /**
+   * The module that a list of edits makes of it, each in its turn: docs/FORMATS.md, "A list of edits"; with `gc`, without what nothing reaches then. `Module` of
+   * `mulkavesh/module` makes lists. BadEdit where one is refused, BadModule where what all of them left is.
+   */
+  edit(input: Bytes, edits: Bytes, options?: Options & { gc?: boolean }): Uint8Array;
   /** The version of the library, as `0.1.0`. */
   version(): string;
 }
@@ -213,7 +220,10 @@ export interface Mulkavesh {
 /** Loads mulkavesh.wasm: from beside mulkavesh.js, or from an address, bytes, or a module that is compiled. */
 export function load(source?: string | URL | Bytes | WebAssembly.Module): Promise<Mulkavesh>;
 
-export type Code = 'INVALID' | 'TOO_LARGE' | 'NO_MEMORY' | 'NOT_FOUND' | 'TRAPPED' | 'UNKNOWN_STATUS';
+export type Code = 'INVALID' | 'TOO_LARGE' | 'NO_MEMORY' | 'NOT_FOUND' | 'BAD_EDIT' | 'BAD_MODULE' | 'BAD_ITEM' | 'TRAPPED' | 'UNKNOWN_STATUS';
+
+/** Why what edits left can't be written: a rule is broken; an item that is named is gone, stands twice or nowhere; or something can't be spelled. */
+export type Cause = Rule | 'Gone' | 'TwoIndices' | 'NoIndex' | 'NoSpelling';
 
 /** A call was refused. */
 export class MulkaveshError extends Error {
@@ -232,6 +242,15 @@ export class OutOfMemory extends MulkaveshError {}
 export class NotFound extends MulkaveshError {
   /** The NAME of `keep` or `drop` that fits no export, as it was given; null where something else isn't there. */
   readonly unfit: string | Bytes | null;
+}
+/** An edit isn't of its form, or can't be made of what those in front of it left. */
+export class BadEdit extends MulkaveshError {
+  /** How many edits in front of it can be made. */
+  readonly made: number;
+}
+/** All edits can be made, and what they leave can't be written. */
+export class BadModule extends MulkaveshError {
+  readonly cause: Cause;
 }
 /** The library stopped in the midst of a call. Later calls have a fresh instance. */
 export class Trapped extends MulkaveshError {}

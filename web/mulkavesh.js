@@ -6,7 +6,7 @@
 //
 // Each call goes from the bytes of a module to bytes or to plain values, and keeps nothing. mulkavesh.d.ts says what each takes and answers.
 
-/** A call was refused; `code` is one of INVALID, TOO_LARGE, NO_MEMORY, NOT_FOUND, TRAPPED and UNKNOWN_STATUS. */
+/** A call was refused; `code` is one of INVALID, TOO_LARGE, NO_MEMORY, NOT_FOUND, BAD_EDIT, BAD_MODULE, BAD_ITEM, TRAPPED and UNKNOWN_STATUS. */
 export class MulkaveshError extends Error {
   constructor(code, message, options) {
     super(message, options);
@@ -32,10 +32,24 @@ export class NotFound extends MulkaveshError {
     this.unfit = unfit;
   }
 }
+/** An edit of a list isn't of its form, or can't be made of what those in front of it left; so many can be made. */
+export class BadEdit extends MulkaveshError {
+  constructor(code, message, made) {
+    super(code, message);
+    this.made = made;
+  }
+}
+/** All edits can be made, and what they leave can't be written; `cause` is the rule that is broken, or another cause. */
+export class BadModule extends MulkaveshError {
+  constructor(code, message, cause) {
+    super(code, message);
+    this.cause = cause;
+  }
+}
 /** The library stopped in the midst of a call, which is a mistake in it or a host with too little stack. Later calls have a fresh instance. */
 export class Trapped extends MulkaveshError {}
 
-const INVALID = 1, TOO_LARGE = 2, NO_MEMORY = 3, NO_ROOM = 4, NOT_FOUND = 6;
+const INVALID = 1, TOO_LARGE = 2, NO_MEMORY = 3, NO_ROOM = 4, NOT_FOUND = 6, BAD_EDIT = 7, BAD_MODULE = 8;
 // What isn't there, where a call doesn't find what it is to work on.
 const MISSING = {
   strip: 'no custom section has such a name',
@@ -45,7 +59,7 @@ const MISSING = {
   stub: 'no function is imported so',
 };
 const outOfMemory = () => new OutOfMemory('NO_MEMORY', 'out of memory');
-const FLAGS = { names: 1, producers: 2, legacy: 4 };
+const FLAGS = { names: 1, producers: 2, legacy: 4 }, GC = 8;
 // A smaller module, or a list, is seldom longer than the input by more.
 const MARGIN = 256;
 // A dozen lines of words and one or two numbers of ten digits are shorter.
@@ -133,6 +147,8 @@ function refusalOf(status, { name, chosen = [] }, number, fault) {
   if (status === INVALID) return new InvalidModule('INVALID', 'the input is no module that keeps the rules', fault);
   if (status === TOO_LARGE) return new TooLarge('TOO_LARGE', 'a count or a size passes 32 bits');
   if (status === NO_MEMORY) return outOfMemory();
+  if (status === BAD_EDIT) return new BadEdit('BAD_EDIT', `edit ${number}, counted from 0, isn't of its form, or can't be made of what those in front of it left`, number);
+  if (status === BAD_MODULE) return badModule(number);
   if (status !== NOT_FOUND) return new MulkaveshError('UNKNOWN_STATUS', `the library answers status ${status}`);
   if (number >= chosen.length) return new NotFound('NOT_FOUND', MISSING[name] ?? 'there is nothing of this name or index');
   const unfit = chosen[number];
@@ -193,7 +209,7 @@ class Call {
     for (let room = asked.room; ; ) {
       const { status, count, answer } = this.tried(asked.name, [...lent, ...words], room, length);
       if (status === 0) return answer;
-      if (status !== NO_ROOM || count <= room) throw refusalOf(status, asked, count, status === INVALID ? this.fault(lent, asked.flags ?? 0, length) : null);
+      if (status !== NO_ROOM || count <= room) throw refusalOf(status, asked, count, status === INVALID ? this.fault(lent, (asked.flags ?? 0) & ~GC, length) : null);
       room = count;
     }
   }
@@ -318,6 +334,20 @@ const RULES = [
   ['Locals', 'a body declares more than 50,000 locals'],
 ];
 
+// Why what edits left can't be written, beside the rules, by their numbers from 11 on.
+const FIRST_CAUSE = 11;
+const CAUSES = [
+  ['Gone', 'it names an item that is gone'],
+  ['TwoIndices', 'an item stands in it twice'],
+  ['NoIndex', 'it names an item that stands nowhere'],
+  ['NoSpelling', "a body or an expression can't be spelled"],
+];
+
+function badModule(number) {
+  const [cause, text] = number < FIRST_CAUSE ? RULES[number - 1] : CAUSES[number - FIRST_CAUSE];
+  return new BadModule('BAD_MODULE', `the changed module is invalid: ${text}`, cause);
+}
+
 // What bytes begin as that don't begin as a module, by its number, and what is said of that.
 const BEGINNINGS = [
   [null, ''],
@@ -401,6 +431,12 @@ function callsOver(module) {
     callers: (input, which, options) => allOf(about('callers', input, which, options), linkOf),
     snip: (input, functions, options) => plain('snip', input, [going(functions, functionOf)], { flags: flagsOf(options) }),
     stub: (input, modules, { imports = [], ...options } = {}) => plain('stub', input, [going(modules), going(imports)], { flags: flagsOf(options) }),
+    read: (input, { legacy } = {}) => plain('read', input, [], { flags: flagsOf({ legacy }) }),
+    edit: (input, edits, { gc = false, ...options } = {}) => {
+      const bytes = bytesOf(input), list = bytesOf(edits);
+      if (typeof gc !== 'boolean') throw new TypeError('the option gc has to be true or false');
+      return plain('edit', bytes, [list], { flags: flagsOf(options) | (gc ? GC : 0), room: bytes.length + list.length + MARGIN });
+    },
     version: () => `${version >>> 16}.${(version >>> 8) & 255}.${version & 255}`,
   });
 }

@@ -23,8 +23,8 @@ from unittest import mock
 import mulkavesh
 import packing
 from mulkavesh import (
-    Alone, Beginning, Counts, Export, Fault, FaultKind, Function, Import, InvalidModule, Item, Link, MulkaveshError, NotFound, Reason, Report, Root, Rule, Section,
-    Sections, Sizes, TooLarge,
+    Alone, BadEdit, BadModule, Beginning, Cause, Counts, Export, Fault, FaultKind, Function, Import, InvalidModule, Item, Link, MulkaveshError, NotFound, Reason, Report,
+    Root, Rule, Section, Sections, Sizes, TooLarge,
 )
 from tests import worked
 
@@ -46,6 +46,8 @@ CALLS: Dict[str, Callable[[Any], Any]] = {
     "callers": lambda module: mulkavesh.callers(module, 0),
     "snip": lambda module: mulkavesh.snip(module, "a"),
     "stub": lambda module: mulkavesh.stub(module, "env"),
+    "read": mulkavesh.read,
+    "edit": lambda module: mulkavesh.edit(module, b""),
 }
 
 
@@ -451,13 +453,13 @@ class Refusals(unittest.TestCase):
 
     def test_each_status(self) -> None:
         """What each status raises; those that only huge modules come to are told by a library that answers nothing else."""
-        wanted = {1: InvalidModule, 2: TooLarge, 3: MemoryError, 5: MulkaveshError, 6: NotFound, 7: MulkaveshError}
+        wanted = {1: InvalidModule, 2: TooLarge, 3: MemoryError, 5: MulkaveshError, 6: NotFound, 7: BadEdit, 9: MulkaveshError}
         for status, kind in wanted.items():
             library = types.SimpleNamespace(**{f"mulkavesh_{call}": lambda *words, status=status: status for call in ("gc", "diagnose")})
             with mock.patch.object(mulkavesh, "_library", library), self.assertRaises(Exception) as raised:
                 mulkavesh.gc(worked.TWO)
             self.assertIs(type(raised.exception), kind)
-        for kind in (InvalidModule, TooLarge, NotFound):
+        for kind in (InvalidModule, TooLarge, NotFound, BadEdit, BadModule):
             self.assertTrue(issubclass(kind, MulkaveshError))
 
     def test_memory_runs_out(self) -> None:
@@ -504,9 +506,9 @@ class Finding(unittest.TestCase):
         folder = tempfile.TemporaryDirectory()
         self.addCleanup(folder.cleanup)
         self.top = pathlib.Path(folder.name).resolve()
-        self.module = self.top / "python"
-        self.module.mkdir()
-        shutil.copy(HERE / "mulkavesh.py", self.module)
+        self.module = self.top / "python" / "mulkavesh"
+        self.module.mkdir(parents=True)
+        shutil.copy(HERE / "mulkavesh" / "__init__.py", self.module)
 
     def put(self, *parts: str) -> pathlib.Path:
         """The library, in a folder of this one."""
@@ -515,7 +517,7 @@ class Finding(unittest.TestCase):
         return pathlib.Path(shutil.copy(library(), folder))
 
     def loaded(self, named: Optional[pathlib.Path] = None, before: str = "") -> "subprocess.CompletedProcess[str]":
-        variables = {"PYTHONPATH": str(self.module), **({"MULKAVESH_LIB": str(named)} if named else {})}
+        variables = {"PYTHONPATH": str(self.module.parent), **({"MULKAVESH_LIB": str(named)} if named else {})}
         return in_python(before + LOADED, variables)
 
     def assert_found(self, path: pathlib.Path, *words: Any) -> None:
@@ -528,32 +530,32 @@ class Finding(unittest.TestCase):
 
     def test_places_from_the_last_to_the_first(self) -> None:
         nowhere = FOUND_BY_THE_SYSTEM.format(None)
-        self.assert_missing("there is no libmulkavesh.so in .*/python or .*/lib or among the system's libraries", None, nowhere)
+        self.assert_missing("there is no libmulkavesh.so in .*/python/mulkavesh or .*/lib or among the system's libraries", None, nowhere)
         system = self.put("system")
         self.assert_found(system, None, FOUND_BY_THE_SYSTEM.format(str(system)))
         self.assert_found(self.put("crates", "mulkavesh_c", "out", "lib"), None, nowhere)
-        self.assert_found(self.put("python"))
+        self.assert_found(self.put("python", "mulkavesh"))
         named = self.put("named")
         self.assert_found(named, named.parent)
 
     def test_a_folder_without_it(self) -> None:
-        self.put("python")
+        self.put("python", "mulkavesh")
         self.assert_missing("there is no libmulkavesh.so in .*/empty: set MULKAVESH_LIB", self.top / "empty")
 
     def test_a_file_that_is_no_library(self) -> None:
         (self.module / "libmulkavesh.so").write_bytes(b"no library")
-        self.assert_missing("/python/libmulkavesh.so can't be used: ")
+        self.assert_missing("/mulkavesh/libmulkavesh.so can't be used: ")
 
     def test_another_library(self) -> None:
-        other = self.put("python")
+        other = self.put("python", "mulkavesh")
         other.write_bytes(other.read_bytes().replace(b"mulkavesh_stub\0", b"mulkavesh_stab\0"))
         self.assert_missing("can't be used: .*mulkavesh_stub")
 
     def test_another_version(self) -> None:
-        text = (self.module / "mulkavesh.py").read_text(encoding="utf-8")
-        (self.module / "mulkavesh.py").write_text(text.replace("\n_VERSION = (0, 1)\n", "\n_VERSION = (0, 2)\n"), encoding="utf-8")
-        self.put("python")
-        self.assert_missing("is of version 0.1, and mulkavesh.py is for 0.2")
+        text = (self.module / "__init__.py").read_text(encoding="utf-8")
+        (self.module / "__init__.py").write_text(text.replace("\n_VERSION = (0, 1)\n", "\n_VERSION = (0, 2)\n"), encoding="utf-8")
+        self.put("python", "mulkavesh")
+        self.assert_missing("is of version 0.1, and this package is for 0.2")
 
 
 class Packed(unittest.TestCase):
@@ -572,7 +574,8 @@ class Packed(unittest.TestCase):
                 self.assertEqual((digest, size), (f"sha256={wanted}", str(len(content))), path)
             self.assertIn("Version: 0.1.0\nSummary: Drops", (told / "METADATA").read_text(encoding="utf-8"))
             ended = in_python(LOADED, {"PYTHONPATH": folder})
-            self.assertEqual((ended.stdout, ended.stderr), (f"{pathlib.Path(folder).resolve() / library().name} (0, 1, 0)\n", ""))
+            path = pathlib.Path(folder).resolve() / "mulkavesh" / library().name
+            self.assertEqual((ended.stdout, ended.stderr), (f"{path} (0, 1, 0)\n", ""))
 
 
 class Declared(unittest.TestCase):
@@ -588,7 +591,7 @@ class Declared(unittest.TestCase):
         declared = {}
         for name, parameters in re.findall(r"^uint32_t (\w+)\(([^;]*)\);", HEADER.read_text(encoding="utf-8"), re.M):
             declared[name] = [self.IN_C[kind] for kind in re.findall(r"(const uint8_t \*|uint8_t \*|uint32_t |size_t \*|size_t )\w", parameters)]
-        self.assertEqual(len(declared), 15)
+        self.assertEqual(len(declared), 17)
         for name, kinds in declared.items():
             call = getattr(getattr(mulkavesh, "_library"), name)
             self.assertEqual((name, list(call.argtypes), call.restype), (name, kinds, ctypes.c_uint32))
@@ -596,8 +599,8 @@ class Declared(unittest.TestCase):
     @unittest.skipUnless(HEADER.exists(), "there is no include/mulkavesh.h")
     def test_the_numbers_of_the_header(self) -> None:
         numbers = {name: int(number) for name, number in re.findall(r"MULKAVESH_(\w+) = (\d+)", HEADER.read_text(encoding="utf-8"))}
-        wanted = {name: getattr(mulkavesh, f"_{name}") for name in ("NO_NAMES", "NO_PRODUCERS", "NO_LEGACY")}
-        for of_python, front in ((mulkavesh.Status, ""), (FaultKind, "FAULT_"), (Beginning, "BEGINS_"), (Rule, "RULE_"), (Root, "ROOT_")):
+        wanted = {name: getattr(mulkavesh, f"_{name}") for name in ("NO_NAMES", "NO_PRODUCERS", "NO_LEGACY", "GC")}
+        for of_python, front in ((mulkavesh.Status, ""), (FaultKind, "FAULT_"), (Beginning, "BEGINS_"), (Rule, "RULE_"), (Cause, "CAUSE_"), (Root, "ROOT_")):
             wanted.update((front + name, member.value) for name, member in of_python.__members__.items())
         for of_python, front in (("_OF_LINKS", "KIND_"), ("_OF_EXTERNS", "EXTERN_")):
             wanted.update((front + word.upper(), number) for number, word in enumerate(getattr(mulkavesh, of_python)))

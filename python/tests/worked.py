@@ -119,3 +119,25 @@ def chained() -> bytes:
 def large() -> bytes:
     """A module of a custom section of 32 MB."""
     return HEADER + section(0, b"\1a" + bytes(32 * 2**20))
+
+
+# An item of each kind, or two. Function 0 and global 0 are imported; names of the module, of function 1 and of its locals; producers.
+ITEMS = HEADER + b"".join(section(number, content) for number, content in (
+    (1, b"\3\x60\0\0\x60\1\x7F\1\x7F\x60\0\1\x7E"),
+    (2, b"\2\3env\1f\0\1\3env\1g\3\x7F\0"),
+    (3, b"\2\1\0"),
+    (4, b"\2\x70\1\1\2\x6F\0\0"),
+    (5, b"\1\0\1"),
+    (13, b"\1\0\0"),
+    (6, b"\2\x7E\1\x42\5\x0B\x7F\0\x41\1\x0B"),
+    (7, b"\2\3run\0\1\3mem\2\0"),
+    (8, b"\2"),
+    (9, b"\2\0\x41\0\x0B\1\1\1\0\1\2"),
+    (12, b"\2"),
+    (10, b"\2\x08\1\1\x7F\x20\0\x10\0\x0B\2\0\x0B"),
+    (11, b"\2\0\x41\3\x0B\2ab\1\1c"),
+    (0, b"\4note\1\2"),
+    (0, b"\5other"),
+    (0, b"\4name\0\2\1m\1\7\1\1\4work\2\x09\1\1\2\0\1x\1\1y"),
+    (0, b"\x09producers\2\x08language\1\1C\2\x31\x31\5other\1\1t\0"),
+))

@@ -1,5 +1,5 @@
 // call CALL [FLAGS [BYTES [MORE]]] < IN > OUT: one call over standard input, whose answer goes to standard output and whose status is its own. BYTES, a list of
-// NAMEs, and MORE, another one or a text, are in hexadecimal. A number that is told where something isn't found goes to standard output, in decimal. It asks for no
+// NAMEs or of edits, and MORE, another list or a text, are in hexadecimal. A number that is told where something isn't found or an edit is refused goes to standard output, in decimal. It asks for no
 // memory itself, so that each request which is refused is one of the library's. Status 90 to 93: what a call leaves isn't what the header says.
 #include <unistd.h>
 
@@ -71,7 +71,8 @@ int main(int count, char **words) {
   }
   if (status == NO_SUCH_CALL) return (int)status;
   if (status != MULKAVESH_DONE) {
-    if (!is_untouched(0, room + BEHIND) || (length && status != MULKAVESH_NOT_FOUND)) return 92;
+    int is_told = status == MULKAVESH_NOT_FOUND || status == MULKAVESH_BAD_EDIT || status == MULKAVESH_BAD_MODULE;
+    if (!is_untouched(0, room + BEHIND) || (length && !is_told)) return 92;
     return !length || write_all(digits_of(length)) ? (int)status : 94;
   }
   if (length > room || !is_untouched(length, room + BEHIND)) return 93;

@@ -1,4 +1,4 @@
-// One form for all calls: by its name, with flags, and bytes of two kinds where it takes them: first a list of NAMEs, and then another one or a text.
+// One form for all calls: by its name, with flags, and bytes of two kinds where it takes them: first a list of NAMEs or of edits, and then another one or a text.
 #ifndef CALLS_H
 #define CALLS_H
 
@@ -24,15 +24,16 @@ static uint32_t of_flags(const struct asked *it, const uint8_t *input, size_t si
   if (!strcmp(it->call, "diagnose")) return mulkavesh_diagnose(input, size, it->flags, output, room, length);
   if (!strcmp(it->call, "sections")) return mulkavesh_sections(input, size, output, room, length);
   if (!strcmp(it->call, "parts")) return mulkavesh_parts(input, size, output, room, length);
+  if (!strcmp(it->call, "read")) return mulkavesh_read(input, size, it->flags, output, room, length);
   return NO_SUCH_CALL;
 }
 
-// Those that take a choice of exports, and some a text.
+// Those that take a choice of exports, and some a text; and one that takes a list of edits.
 static uint32_t of_choice(const struct asked *it, const uint8_t *input, size_t size, uint8_t *output, size_t room, size_t *length) {
   static const struct {
     const char *call;
     uint32_t (*is)(const uint8_t *, size_t, uint32_t, const uint8_t *, size_t, uint8_t *, size_t, size_t *);
-  } calls[] = {{"gc", mulkavesh_gc}, {"report", mulkavesh_report}, {"list", mulkavesh_list}, {"dropped", mulkavesh_dropped}, {"exports", mulkavesh_exports}, {"imports", mulkavesh_imports}};
+  } calls[] = {{"gc", mulkavesh_gc}, {"report", mulkavesh_report}, {"list", mulkavesh_list}, {"dropped", mulkavesh_dropped}, {"exports", mulkavesh_exports}, {"imports", mulkavesh_imports}, {"edit", mulkavesh_edit}};
   for (size_t i = 0; i < sizeof calls / sizeof *calls; i++)
     if (!strcmp(it->call, calls[i].call)) return calls[i].is(input, size, it->flags, it->bytes, it->count, output, room, length);
   if (!strcmp(it->call, "why")) return mulkavesh_why(input, size, it->flags, it->bytes, it->count, it->more, it->more_count, output, room, length);

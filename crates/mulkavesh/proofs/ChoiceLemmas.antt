@@ -1,8 +1,8 @@
 -- Choices put behind others.
 use Rattle.std.proofs.Common.{◌≡◌, List, [], ◌∷◌, ◌++◌, ap, ◌∙◌}
 use Rattle.std.proofs.lemmas.List.{append_assoc, map-append}
-use Rattle.walrus_tools.specs.Choice.{Choice, choice_seen, choices_seen}
-use Rattle.walrus_tools.specs.declared.choice.Choice.{Choice as HeldChoice}
+use Rattle.walrus_sections.specs.Choice.{Choice, choice_seen, choices_seen}
+use Rattle.walrus_sections.specs.declared.choice.Choice.{Choice as HeldChoice}
 
 -- one behind some that stand behind others
 pub then_more : (xs ys : List HeldChoice) (others some : List Choice) (x : HeldChoice) (c : Choice) → choices_seen xs ≡ others ++ some → choice_seen x ≡ c → ys ≡ xs ++ x ∷ [] → choices_seen ys ≡ others ++ (some ++ c ∷ [])

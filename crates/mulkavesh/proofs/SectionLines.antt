@@ -1,7 +1,7 @@
 -- The lines of a section, and of a function or a data segment, part by part.
 use Rattle.std.proofs.Common.{◌≡◌, ℕ, List, ◌++◌, append_assoc, codes, decimal, length, ap, ◌∙◌}
-use Rattle.walrus_tools.specs.declared.parts.Item.{Item}
-use Rattle.walrus_tools.specs.Sections.{Piece}
+use Rattle.walrus_sections.specs.declared.parts.Item.{Item}
+use Rattle.walrus_sections.specs.Sections.{Piece}
 use Rattle.mulkavesh.proofs.RowLists.{seven_joined}
 use Rattle.mulkavesh.specs.Sections.{count_text, item_line, section_line, what_text}
 

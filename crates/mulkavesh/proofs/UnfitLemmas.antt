@@ -2,10 +2,10 @@
 use Rattle.std.proofs.Common.{◌≡◌, ◌<◌, ℕ, List, length, sym, ap, ◌∙◌, subst}
 use Rattle.std.specs.Prelude.{Option, Some, None, option_map, slice_get, slice_index_or}
 use Rattle.std.proofs.lemmas.Option.{slice_get-get_or, slice_get-map}
-use Rattle.walrus_tools.specs.Choice.{Choice, choice_seen, choices_seen}
+use Rattle.walrus_sections.specs.Choice.{Choice, choice_seen, choices_seen}
 use Rattle.walrus_tools.specs.ChosenModule.{TellsOfParsed}
 use Rattle.walrus_tools.specs.Facade.{Config}
-use Rattle.walrus_tools.specs.declared.choice.Choice.{Choice as HeldChoice}
+use Rattle.walrus_sections.specs.declared.choice.Choice.{Choice as HeldChoice}
 use Rattle.mulkavesh.specs.Cause.{SaysUnfit, unfit_text}
 
 -- the name of a choice, if there is one

@@ -2,7 +2,7 @@
 -- was found.
 use Rattle.std.specs.Prelude.{List, ◌++◌, ℕ, Option, Some, None, Result, Ok, Err, codes, ◌≡◌}
 use Rattle.std.specs.Global.{Vec}
-use Rattle.walrus_tools.specs.Choice.{Choice}
+use Rattle.walrus_sections.specs.Choice.{Choice}
 use Rattle.walrus_tools.specs.ChosenModule.{TellsOfParsed}
 use Rattle.walrus_tools.specs.Faults.{Finds, WordsFault}
 use Rattle.walrus_tools.specs.Facade.{Config, Error, Fault, InvalidWasm, Module, NotFound, NotReplaceable, Read, ToolError, Write, error_text}

@@ -1,6 +1,6 @@
 -- What an order says of names: of custom sections, of exports, of functions, and of modules and names that functions are imported from.
 use Rattle.std.specs.Prelude.{ℕ, Bool, true, false, List, [], ◌∷◌, ◌++◌, codes, flat_map}
-use Rattle.walrus_tools.specs.Choice.{Choice}
+use Rattle.walrus_sections.specs.Choice.{Choice}
 use Rattle.mulkavesh.specs.declared.choices.About.{About}
 use Rattle.mulkavesh.specs.declared.choices.About.TheVariants as about
 use Rattle.mulkavesh.specs.declared.order.Named.{Named}

@@ -1,8 +1,8 @@
 -- The sections of a module, as a text for people.
 use Rattle.std.specs.Prelude.{ℕ, Bool, true, false, List, [], ◌++◌, Option, Some, None, codes, decimal, length, nat_eq, if◌then◌else◌}
-use Rattle.walrus_tools.specs.declared.parts.Item.{Item}
-use Rattle.walrus_tools.specs.PartList.{FunctionPart, Part, SectionPart, SegmentPart}
-use Rattle.walrus_tools.specs.Sections.{Piece}
+use Rattle.walrus_sections.specs.declared.parts.Item.{Item}
+use Rattle.walrus_sections.specs.PartList.{FunctionPart, Part, SectionPart, SegmentPart}
+use Rattle.walrus_sections.specs.Sections.{Piece}
 use Rattle.mulkavesh.specs.Visible.{shown}
 
 -- the standard's word for the section with this id, none where it gives the id no meaning

@@ -9,10 +9,10 @@ use Rattle.walrus_tools.specs.Faults.{Finds, WordsFault}
 use Rattle.walrus_tools.specs.Facade.{Config, Error, Fault, InvalidWasm, Memory}
 use Rattle.walrus_tools.specs.FunctionList.{AnswersListed}
 use Rattle.walrus_tools.specs.ImportList.{AnswersImports}
-use Rattle.walrus_tools.specs.PartList.{HasParts, IsNone, Part}
+use Rattle.walrus_sections.specs.PartList.{HasParts, IsNone, Part}
 use Rattle.walrus_tools.specs.ReasonAnswers.{AnswersCallers, AnswersWhy}
-use Rattle.walrus_tools.specs.Sections.{LacksHeader, Piece, StandUpTo}
-use Rattle.walrus_tools.specs.StripAnswers.{AnswersStripped}
+use Rattle.walrus_sections.specs.Sections.{LacksHeader, Piece, StandUpTo}
+use Rattle.walrus_sections.specs.StripAnswers.{AnswersStripped}
 use Rattle.walrus_tools.specs.StubMatching.{AnswersMatching, RefusesMatching, StubsMatching}
 use Rattle.walrus_tools.specs.TrapEdit.{AnswersMeant, RefusesMeant, SnipsMeant}
 use Rattle.walrus_tools.specs.Wanted.{config_wanted}

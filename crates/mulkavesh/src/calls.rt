@@ -9,7 +9,7 @@ ghost use Rattle.walrus_tools.specs.ExportList.{AnswersExports};
 ghost use Rattle.walrus_tools.specs.FunctionList.{AnswersListed};
 ghost use Rattle.walrus_tools.specs.ImportList.{AnswersImports};
 ghost use Rattle.walrus_tools.specs.ReasonAnswers.{AnswersCallers, AnswersWhy};
-ghost use Rattle.walrus_tools.specs.StripAnswers.{AnswersStripped};
+ghost use Rattle.walrus_sections.specs.StripAnswers.{AnswersStripped};
 ghost use Rattle.walrus_tools.specs.StubMatching.{AnswersMatching, RefusesMatching, StubsMatching};
 ghost use Rattle.walrus_tools.specs.TrapEdit.{AnswersMeant, RefusesMeant, SnipsMeant};
 ghost use Rattle.walrus_tools.specs.Wanted.{config_wanted};
@@ -18,10 +18,11 @@ ghost use Rattle.walrus_tools.specs.Weigh.{AnswersReport, AnswersWeighed};
 use crate::choices::{functions_of, imports_of, modules_of, roots_of, sections_of};
 use crate::order::Order;
 use std::alloc::Global;
+use walrus_sections::strip;
 use walrus_tools::{
     Error, Exported, Imported, Link, Listed, Reason, Smaller, Weighed, callers, dropped, exports,
-    gc_chosen, gc_counted, imports, list, report, snip_counted, snip_functions, strip,
-    stub_counted, stub_matching, why,
+    gc_chosen, gc_counted, imports, list, report, snip_counted, snip_functions, stub_counted,
+    stub_matching, why,
 };
 
 // ---- modules

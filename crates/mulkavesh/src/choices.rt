@@ -3,12 +3,13 @@
 ghost use Rattle.std.specs.Option.{option_to_list};
 ghost use Rattle.std.specs.Prelude.{◌≡◌, ◌∷◌, ◌++◌, [], IfOk, option_map};
 ghost use Rattle.mulkavesh.specs.Choices.{all_choices, choice_by, choices_about, functions_of, going, imports_of, modules_of, roots_of, sections_of, staying, texts_said, where_said};
-ghost use Rattle.walrus_tools.specs.Choice.{choice_seen, choices_seen};
+ghost use Rattle.walrus_sections.specs.Choice.{choice_seen, choices_seen};
 ghost use Rattle.walrus_tools.specs.FunctionMeaning.{texts};
 
 use crate::order::{Named, Naming, Order};
 use std::alloc::{AllocError, Global};
-use walrus_tools::{Choice, Meant};
+use walrus_sections::Choice;
+use walrus_tools::Meant;
 
 /// What the NAMEs are names of that choices are made of.
 #[derive(Clone, Copy, PartialEq, Eq)]

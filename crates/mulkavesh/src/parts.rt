@@ -3,13 +3,14 @@
 ghost use Rattle.std.specs.Prelude.{◌≡◌, ◌++◌, IfOk, OnOk, flat_map, map};
 ghost use Rattle.mulkavesh.specs.Sections.{item_line, part_line};
 ghost use Rattle.mulkavesh.specs.Subcommands.{ForPeople, TellsParts};
-ghost use Rattle.walrus_tools.specs.PartList.{part_record};
+ghost use Rattle.walrus_sections.specs.PartList.{part_record};
 
 use crate::numbers::add_decimal;
 use crate::sections;
 use crate::subcommands::Made;
 use std::alloc::{AllocError, Global};
-use walrus_tools::{Error, Item, Part, section_parts};
+use walrus_sections::{Item, Part, section_parts};
+use walrus_tools::Error;
 
 // Puts the line of a function or a data segment behind the text.
 fn add_item(alloc: Global, to: &mut Vec<u8>, word: &str, item: Item) -> Result<(), AllocError>

@@ -3,7 +3,7 @@
 ghost use Rattle.std.specs.Prelude.{◌≡◌, ◌++◌, IfOk, OnOk, false, flat_map, map, option_map};
 ghost use Rattle.mulkavesh.specs.Sections.{count_text, kind_text, kind_word, section_line, stop_text, what_text};
 ghost use Rattle.mulkavesh.specs.Subcommands.{ForPeople, TellsAll, TellsSections};
-ghost use Rattle.walrus_tools.specs.Sections.{piece_record};
+ghost use Rattle.walrus_sections.specs.Sections.{piece_record};
 
 use crate::json::add_string;
 use crate::numbers::add_decimal;
@@ -12,7 +12,8 @@ use crate::parts;
 use crate::subcommands::Made;
 use crate::visible::add_shown;
 use std::alloc::{AllocError, Global};
-use walrus_tools::{Error, ErrorKind, Pieced, RawPiece, sections};
+use walrus_sections::{Pieced, RawPiece, sections};
+use walrus_tools::{Error, ErrorKind};
 
 // The standard's word for the section with this id; none where it gives the id no meaning.
 fn kind_of(id: u8) -> Option<&'static str>

@@ -9,7 +9,8 @@ use crate::json::add_string;
 use crate::order::Order;
 use crate::subcommands::Made;
 use std::alloc::{AllocError, Global};
-use walrus_tools::{Beginning, BrokenRule, Error, Fault, beginning_of, diagnose, fault_words};
+use walrus_sections::{Beginning, beginning_of};
+use walrus_tools::{BrokenRule, Error, Fault, diagnose, fault_words};
 
 /// What is said of bytes that aren't accepted.
 pub(crate) const REFUSED: &str = "the input WebAssembly is invalid";

@@ -2,13 +2,13 @@
 use Rattle.std.proofs.Common.{◌≡◌, ◌⊎◌, ℕ, true, false, List, Option, Some, None, length, refl, sym, ap, ◌∙◌, subst, inl, inr}
 use Rattle.std.specs.Prelude.{Err, IsUtf8, unwrap_or, if◌then◌else◌}
 use Rattle.std.specs.declared.alloc.AllocError.{AllocError}
-use Rattle.walrus_tools.specs.Choice.{AreChoices, Choice, IsList, choices_seen}
+use Rattle.walrus_sections.specs.Choice.{AreChoices, Choice, IsList, choices_seen}
 use Rattle.walrus_tools.specs.ChosenModule.{AnswersUnfit, TellsOfParsed}
 use Rattle.walrus_tools.specs.Facade.{Config, Error, InvalidWasm, Memory, NotFound, TooLarge}
 use Rattle.walrus_tools.specs.Wanted.{config_wanted}
-use Rattle.walrus_tools.specs.declared.choice.Choice.{Choice as HeldChoice}
+use Rattle.walrus_sections.specs.declared.choice.Choice.{Choice as HeldChoice}
+use Rattle.walrus_sections.proofs.Records.{one_list}
 use Rattle.walrus_tools.specs.WantedValue.{Wanted}
-use Rattle.walrus_tools.proofs.Records.{one_list}
 use Rattle.mulkavesh_c.specs.Answer.{Answer, Puts}
 use Rattle.mulkavesh_c.specs.ChosenRoots.{AreAsked, GivesChosen, IsNumbered, IsUnfit, MakesChosen, NumbersUnfit, is_missing}
 use Rattle.mulkavesh_c.specs.Flags.{is_known, wanted}

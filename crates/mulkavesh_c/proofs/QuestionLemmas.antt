@@ -1,7 +1,7 @@
 -- A refusal for a cause that every answer may have stands for the answer to a question.
 use Rattle.std.proofs.Common.{ℕ, List}
 use Rattle.std.specs.Prelude.{Err}
-use Rattle.walrus_tools.specs.Choice.{Choice}
+use Rattle.walrus_sections.specs.Choice.{Choice}
 use Rattle.walrus_tools.specs.ChosenModule.{AnswersUnfit}
 use Rattle.walrus_tools.specs.Facade.{Config, Error, InvalidWasm, Memory, TooLarge}
 use Rattle.mulkavesh_c.specs.Questions.{AnswersTo}

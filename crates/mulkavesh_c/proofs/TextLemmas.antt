@@ -3,9 +3,9 @@ use Rattle.std.proofs.Common.{◌≡◌, ◌≤◌, ◌<◌, ◌+◌, ◌++◌, 
 use Rattle.std.specs.Prelude.{Contains, IsUtf8}
 use Rattle.std.proofs.lemmas.List.{get_or-map, length-map, map-append, map_more}
 use Rattle.std.proofs.lemmas.List.Elements.{All-contains, Contains-get_or}
-use Rattle.walrus_tools.specs.Choice.{choices_seen}
+use Rattle.walrus_sections.specs.Choice.{choices_seen}
 use Rattle.walrus_tools.specs.FunctionMeaning.{texts}
-use Rattle.walrus_tools.specs.declared.choice.Choice.{Choice as HeldChoice}
+use Rattle.walrus_sections.specs.declared.choice.Choice.{Choice as HeldChoice}
 use Rattle.walrus_tools.specs.declared.function_meaning.Meant.{Meant}
 use Rattle.mulkavesh_c.specs.Names.{names_of}
 

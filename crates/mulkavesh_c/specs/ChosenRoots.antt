@@ -1,6 +1,6 @@
 -- A call under a choice of exports, and which NAME of it fits none.
 use Rattle.std.specs.Prelude.{ℕ, Bool, true, false, List, length, Some, None, Err, ◌≡◌, ◌⊎◌, ⊤}
-use Rattle.walrus_tools.specs.Choice.{AreChoices, Choice, IsList}
+use Rattle.walrus_sections.specs.Choice.{AreChoices, Choice, IsList}
 use Rattle.walrus_tools.specs.ChosenModule.{AnswersUnfit, TellsOfParsed}
 use Rattle.walrus_tools.specs.Ends.{Answers, IfNotFound}
 use Rattle.walrus_tools.specs.Facade.{Config, Error, NotFound}

@@ -1,7 +1,7 @@
 -- A call that takes names, lists of choices or texts as bytes ("Structure > Values > Names").
 use Rattle.std.specs.Prelude.{ℕ, List, All, map, Err, IsUtf8, ◌≡◌, ◌⊎◌, ⊤}
 use Rattle.walrus_tools.specs.Facade.{Error, Memory, NotFound}
-use Rattle.walrus_tools.specs.Choice.{AreChoices, Choice, IsList}
+use Rattle.walrus_sections.specs.Choice.{AreChoices, Choice, IsList}
 use Rattle.mulkavesh_c.specs.Answer.{Answer}
 
 -- the answer by the choices that the bytes are

@@ -1,6 +1,6 @@
 -- What a call under a choice of exports answers, by what is asked.
 use Rattle.std.specs.Prelude.{ℕ, List, Ok, Err, ◌≡◌}
-use Rattle.walrus_tools.specs.Choice.{Choice}
+use Rattle.walrus_sections.specs.Choice.{Choice}
 use Rattle.walrus_tools.specs.ChosenModule.{AnswersChosen}
 use Rattle.walrus_tools.specs.DroppedList.{AnswersDroppedList}
 use Rattle.walrus_tools.specs.ExportList.{AnswersExportList}

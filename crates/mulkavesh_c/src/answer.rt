@@ -38,7 +38,8 @@ impl Made {
     }
 }
 
-fn status_of(error: &Error) -> u32
+/// The status of this refusal.
+pub(crate) fn status_of(error: &Error) -> u32
     ensures { result ≡ status_of error.now }
 {
     match error {

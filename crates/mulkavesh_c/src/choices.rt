@@ -1,7 +1,7 @@
 //! What is made under a choice of exports. Where a NAME of it fits none, its number is told.
 
 ghost use Rattle.std.specs.Prelude.{◌≡◌, Err};
-ghost use Rattle.walrus_tools.specs.Choice.{choices_seen};
+ghost use Rattle.walrus_sections.specs.Choice.{choices_seen};
 ghost use Rattle.walrus_tools.specs.Facade.{NotFound};
 ghost use Rattle.walrus_tools.specs.Wanted.{config_wanted};
 ghost use Rattle.mulkavesh_c.specs.ChosenRoots.{IsNumbered, MakesChosen, is_missing};
@@ -11,9 +11,10 @@ use crate::answer::Made;
 use crate::names::choices_of;
 use crate::question::Question;
 use std::alloc::Global;
+use walrus_sections::Choice;
 use walrus_tools::{
-    Choice, Error, Wanted, caller_list, dropped_list, export_list, function_list, gc_chosen,
-    import_list, reason_list, report, report_lines, unfit,
+    Error, Wanted, caller_list, dropped_list, export_list, function_list, gc_chosen, import_list,
+    reason_list, report, report_lines, unfit,
 };
 
 // What is kept and dropped, as the bytes of a text.

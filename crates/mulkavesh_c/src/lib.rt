@@ -8,35 +8,39 @@
 
 mod answer;
 mod choices;
+mod edits;
 mod flags;
 mod names;
 mod question;
 
 ghost use Rattle.std.specs.Prelude.{◌≡◌, ◌↔◌, true, ⊤};
 ghost use Rattle.walrus_tools.specs.Faults.{AnswersFault};
-ghost use Rattle.walrus_tools.specs.PartList.{AnswersPartList};
-ghost use Rattle.walrus_tools.specs.Choice.{AllGo, IsList};
+ghost use Rattle.walrus_sections.specs.PartList.{AnswersPartList};
+ghost use Rattle.walrus_sections.specs.Choice.{AllGo, IsList};
 ghost use Rattle.walrus_tools.specs.ChosenModule.{AnswersChosen};
 ghost use Rattle.walrus_tools.specs.DroppedList.{AnswersDroppedList};
 ghost use Rattle.walrus_tools.specs.ExportList.{AnswersExportList};
 ghost use Rattle.walrus_tools.specs.FunctionList.{AnswersFunctions};
 ghost use Rattle.walrus_tools.specs.ImportList.{AnswersImportList};
-ghost use Rattle.walrus_tools.specs.Sections.{AnswersSections};
-ghost use Rattle.walrus_tools.specs.StripAnswers.{AnswersStripped};
+ghost use Rattle.walrus_sections.specs.Sections.{AnswersSections};
+ghost use Rattle.walrus_sections.specs.StripAnswers.{AnswersStripped};
 ghost use Rattle.walrus_tools.specs.StubMatching.{AnswersMatching};
 ghost use Rattle.walrus_tools.specs.TrapEdit.{AnswersMeant};
 ghost use Rattle.walrus_tools.specs.Wanted.{config_wanted};
+ghost use Rattle.walrus_edits.specs.Edited.{AnswersEdit};
+ghost use Rattle.walrus_edits.specs.Items.{AnswersItems};
 ghost use Rattle.mulkavesh_c.specs.Answer.{Gives, NoNumber};
 ghost use Rattle.mulkavesh_c.specs.ChosenRoots.{GivesChosen};
-ghost use Rattle.mulkavesh_c.specs.Flags.{IsKnown, wanted};
+ghost use Rattle.mulkavesh_c.specs.Edits.{GivesEdited};
+ghost use Rattle.mulkavesh_c.specs.Flags.{IsKnown, IsKnownOfEdits, collects, wanted};
 ghost use Rattle.mulkavesh_c.specs.Names.{AreLists, UnderChoices, UnderLists, UnderTexts};
 ghost use Rattle.mulkavesh_c.specs.Questions.{AnswersCallers, AnswersLines, AnswersTo, AnswersWhy};
 
 use crate::answer::{Made, UNKNOWN_FLAG, put, refused};
-use crate::flags::wanted_by;
+use crate::flags::{collects, edit_wanted_by, wanted_by};
 use crate::question::Question;
 use std::alloc::Global;
-use walrus_tools::{all_go, are_choices};
+use walrus_sections::{all_go, are_choices};
 
 /// The version: the major number times 2^16, the minor one times 2^8, and the patch.
 const VERSION: u32 = 256;
@@ -296,7 +300,7 @@ pub extern "C" fn mulkavesh_diagnose(
     put(Made::of(made), output, length)
 }
 
-/// The bytes without the custom sections that go by a list of choices: `walrus_tools::strip`.
+/// The bytes without the custom sections that go by a list of choices: `walrus_sections::strip`.
 #[unsafe(no_mangle)]
 pub extern "C" fn mulkavesh_strip(
     alloc: Global,
@@ -315,7 +319,7 @@ pub extern "C" fn mulkavesh_strip(
     put(Made::of(made), output, length)
 }
 
-/// The sections, with the place and the size of each, whatever they hold: `walrus_tools::section_list`.
+/// The sections, with the place and the size of each, whatever they hold: `walrus_sections::section_list`.
 #[unsafe(no_mangle)]
 pub extern "C" fn mulkavesh_sections(
     alloc: Global,
@@ -325,11 +329,11 @@ pub extern "C" fn mulkavesh_sections(
 ) -> u32
     ensures { Gives ⊤ (AnswersSections input.now) NoNumber output.old output.new length.new result }
 {
-    let made = walrus_tools::section_list(alloc, input);
+    let made = walrus_sections::section_list(alloc, input);
     put(Made::of(made), output, length)
 }
 
-/// The sections of a module and what stands in them, with the place and the size of each: `walrus_tools::part_list`.
+/// The sections of a module and what stands in them, with the place and the size of each: `walrus_sections::part_list`.
 #[unsafe(no_mangle)]
 pub extern "C" fn mulkavesh_parts(
     alloc: Global,
@@ -339,7 +343,7 @@ pub extern "C" fn mulkavesh_parts(
 ) -> u32
     ensures { Gives ⊤ (AnswersPartList input.now) NoNumber output.old output.new length.new result }
 {
-    let made = walrus_tools::part_list(alloc, input);
+    let made = walrus_sections::part_list(alloc, input);
     put(Made::of(made), output, length)
 }
 
@@ -390,4 +394,48 @@ pub extern "C" fn mulkavesh_stub(
     }
     let made = names::stubbed(alloc, input, wanted, module, name);
     put(Made::of(made), output, length)
+}
+
+// ---- a module changed
+
+/// The items of the module, each with its id, as records: `walrus_edits::items`.
+#[unsafe(no_mangle)]
+pub extern "C" fn mulkavesh_read(
+    alloc: Global,
+    input: &[u8],
+    flags: u32,
+    output: &mut [u8],
+    length: &mut usize,
+) -> u32
+    ensures { Gives (IsKnown flags) (AnswersItems (config_wanted (wanted flags)) input.now) NoNumber
+        output.old output.new length.new result }
+{
+    let Some(wanted) = wanted_by(flags) else {
+        return refused(length, UNKNOWN_FLAG);
+    };
+    let made = walrus_edits::items(alloc, input, wanted);
+    put(Made::of(made), output, length)
+}
+
+/// The module that the edits of a list make of the input, each in its turn: `walrus_edits::edit`.
+#[unsafe(no_mangle)]
+pub extern "C" fn mulkavesh_edit(
+    alloc: Global,
+    input: &[u8],
+    flags: u32,
+    edits: &[u8],
+    output: &mut [u8],
+    length: &mut usize,
+) -> u32
+    ensures { GivesEdited (IsKnownOfEdits flags)
+        (AnswersEdit (config_wanted (wanted flags)) (collects flags) input.now edits.now)
+        output.old output.new length.new result }
+{
+    let Some(wanted) = edit_wanted_by(flags) else {
+        return refused(length, UNKNOWN_FLAG);
+    };
+    match walrus_edits::edit(alloc, input, edits, wanted, collects(flags)) {
+        Ok(bytes) => put(Made::of(Ok(bytes)), output, length),
+        Err(refusal) => edits::refuse(&refusal, length),
+    }
 }

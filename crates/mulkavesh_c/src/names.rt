@@ -2,18 +2,17 @@
 //! so those aren't found.
 
 ghost use Rattle.std.specs.Prelude.{◌≡◌, MatchResult};
-ghost use Rattle.walrus_tools.specs.Choice.{AreChoices, choices_seen};
+ghost use Rattle.walrus_sections.specs.Choice.{AreChoices, choices_seen};
 ghost use Rattle.walrus_tools.specs.FunctionMeaning.{texts};
-ghost use Rattle.walrus_tools.specs.StripAnswers.{AnswersStripped};
+ghost use Rattle.walrus_sections.specs.StripAnswers.{AnswersStripped};
 ghost use Rattle.walrus_tools.specs.StubMatching.{AnswersMatching};
 ghost use Rattle.walrus_tools.specs.TrapEdit.{AnswersMeant};
 ghost use Rattle.walrus_tools.specs.Wanted.{config_wanted};
 ghost use Rattle.mulkavesh_c.specs.Names.{LacksChoices, LacksTexts, UnderChoices, UnderLists, UnderTexts, names_of};
 
 use std::alloc::Global;
-use walrus_tools::{
-    Choice, Error, Meant, Wanted, read_choices, snip_functions, strip, stub_matching,
-};
+use walrus_sections::{Choice, read_choices, strip};
+use walrus_tools::{Error, Meant, Wanted, snip_functions, stub_matching};
 
 /// The choices that the bytes are. Bytes that are no list of choices choose nothing that could be found.
 pub(crate) fn choices_of<'a>(alloc: Global, bytes: &'a [u8]) -> Result<Vec<Choice<'a>>, Error>

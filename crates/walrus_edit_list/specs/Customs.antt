@@ -17,6 +17,10 @@ RefusesCustom c (Memory e) = ⊤
 RefusesCustom c (InvalidWasm kind) = is_apart c.name ≡ true
 RefusesCustom c _ = ⊥
 
+-- the section that stood here stands here with these bytes behind its name
+abbrev pub PutsBytes : List ℕ → (old new : Option Custom) → Type 0
+PutsBytes bytes old new = (was : Custom) × (old ≡ Some was) × (new ≡ Some (record was { bytes = bytes }))
+
 -- the custom section of this id has these bytes behind its name
 abbrev pub SetsCustom : ℕ → List ℕ → (old new : List (Option Custom)) → Type 0
 SetsCustom i bytes old new = ChangesAt i (λ was. record was { bytes = bytes }) old new

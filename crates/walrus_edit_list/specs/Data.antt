@@ -2,7 +2,7 @@
 use Rattle.std.specs.Prelude.{ℕ, Bool, true, false, List, [], ◌∷◌, ◌++◌, length, Option, Some, None, slice_set, ◌≡◌, ◌⊎◌}
 use Rattle.wasm_entries.specs.Record.{Segment}
 use Rattle.wasm_forms.specs.Reading.{◌>>=◌}
-use Rattle.walrus_base.specs.Arena.{IsLive, item_at}
+use Rattle.walrus_base.specs.Arena.{item_at}
 use Rattle.walrus_base.specs.Operators.{Memories}
 use Rattle.walrus_code.specs.Names.{Lookup}
 use Rattle.walrus_constants.specs.Named.{named_const}
@@ -16,9 +16,10 @@ use Rattle.walrus_model.specs.Abstract.{ActiveData, DataSegment, PassiveData}
 use Rattle.walrus_model.specs.Abstract as abstract
 use Rattle.walrus_model.specs.Sections as said
 use Rattle.walrus_edit_list.specs.Ids.{HasTooMany, ids_of}
-use Rattle.walrus_edit_list.specs.InTurn.{InTurn}
-use Rattle.walrus_edit_list.specs.Refuses.{HasUnfound, Refuses}
+use Rattle.walrus_edit_list.specs.Places.{IsGone}
+use Rattle.walrus_edit_list.specs.Refuses.{Refuses}
 use Rattle.walrus_edit_list.specs.SegmentSets.{changed_at, memory_in, memory_with, there}
+use Rattle.walrus_edit_list.specs.Turns.{InTurn, RefusesOne}
 
 module _ (names : Lookup) (slots : List (Option MemoryValue)) where
   -- how data is used, with the id for each number, where the memory is there
@@ -34,27 +35,30 @@ module _ (names : Lookup) (slots : List (Option MemoryValue)) where
 abbrev pub in_memory : Bool → abstract.DataKind → ℕ → List (Option MemoryValue) → List (Option MemoryValue)
 in_memory is_in kind segment slots = changed_at (memory_with is_in segment) (memory_in kind) slots
 
+-- what an entry says of the segments of a module; nothing where it names what isn't there
+abbrev pub data_in : Contents → Segment → Option DataSegment
+data_in m d = data_there (ids_of m) (memories m.memories) (said.data_of d)
+
 -- a segment that an entry says stands behind the others, and is in the set of its memory
-pub record AddsSegment (names : Lookup) (d : Segment) (old new : Contents) : Type 0 where
+pub record AddsSegment (d : Segment) (old new : Contents) : Type 0 where
   pub value : DataValue
-  pub says : data_there names (memories old.memories) (said.data_of d) ≡ Some (data_of value)
+  pub says : data_in old d ≡ Some (data_of value)
   pub own_id : value.id ≡ length (data_segments old.data_)
   pub unnamed : value.name ≡ None
   pub comes : data_segments new.data_ ≡ data_segments old.data_ ++ Some value ∷ []
   pub kept : memories new.memories ≡ in_memory true (data_kind_of value.kind) value.id (memories old.memories)
   pub only : new ≡ record old { data_ = new.data_; memories = new.memories }
 
--- each of these came
+-- it names what isn't there
+abbrev pub RefusesSegment : Segment → Contents → Error → Type 0
+RefusesSegment d m e = Refuses (data_in m d ≡ None) (HasTooMany m) e
+
+-- each of these came, one behind the other
 abbrev pub AddsData : List Segment → (old new : Contents) → Type 0
-AddsData ds old new = InTurn (AddsSegment (ids_of old)) ds old new
+AddsData ds old new = InTurn AddsSegment ds old new
 
--- what an entry says of the segments of a module; nothing where it names what isn't there
-abbrev pub data_in : Contents → Segment → Option DataSegment
-data_in m d = data_there (ids_of m) (memories m.memories) (said.data_of d)
-
--- one of them names what isn't there
 abbrev pub RefusesData : List Segment → Contents → Error → Type 0
-RefusesData ds m e = Refuses (HasUnfound (data_in m) ds) (HasTooMany m) e
+RefusesData ds m e = RefusesOne AddsSegment RefusesSegment ds m e
 
 -- the segment with this kind and these bytes
 abbrev pub with_data : DataKind → List ℕ → DataValue → DataValue
@@ -73,7 +77,7 @@ pub record SetsData (number : ℕ) (d : Segment) (old new : Contents) : Type 0 w
 
 -- it isn't there, or the entry names what isn't
 abbrev pub RefusesSetData : ℕ → Segment → Contents → Error → Type 0
-RefusesSetData number d m e = Refuses ((IsLive (data_segments m.data_) number → ⊥) ⊎ (data_in m d ≡ None)) (HasTooMany m) e
+RefusesSetData number d m e = Refuses (IsGone (data_segments m.data_) number ⊎ (data_in m d ≡ None)) (HasTooMany m) e
 
 -- the segment of this id is gone, and in no set of a memory that it was active in
 pub record DeletesData (number : ℕ) (old new : Contents) : Type 0 where
@@ -85,4 +89,4 @@ pub record DeletesData (number : ℕ) (old new : Contents) : Type 0 where
 
 -- it isn't there
 abbrev pub RefusesDeleteData : ℕ → Contents → Error → Type 0
-RefusesDeleteData number m e = Refuses (IsLive (data_segments m.data_) number → ⊥) ⊥ e
+RefusesDeleteData number m e = Refuses (IsGone (data_segments m.data_) number) ⊥ e

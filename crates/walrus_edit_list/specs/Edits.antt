@@ -1,5 +1,6 @@
 -- What edits say, and which bytes say them: records of a byte, a size and so many bytes.
 use Rattle.std.specs.Prelude.{◌≡◌, ℕ, List, [], ◌∷◌, Bool, Option, Some, None, option_map, nat_eq, if◌then◌else◌, ◌||◌}
+use Rattle.std.specs.Borrow.{Bor}
 use Rattle.wasm_forms.specs.Grammar.{Block, Byte, Form, Is, IsRow, U32, at, name, ◌then◌}
 use Rattle.wasm_forms.specs.Reading.{◌>>=◌}
 use Rattle.wasm_entries.specs.Forms.{data_form, export_form, global_form}
@@ -64,16 +65,36 @@ deletion_seen deletes.Start = DeletesStart
 deletion_seen (deletes.Element id) = Deletes OF_ELEMENT id
 deletion_seen (deletes.Data id) = Deletes OF_DATA id
 
+-- what a naming in memory names
+abbrev pub named_seen : Naming → Named
+named_seen (names.Type i n) = The OF_TYPE i
+named_seen (names.Table i n) = The OF_TABLE i
+named_seen (names.Memory i n) = The OF_MEMORY i
+named_seen (names.Global i n) = The OF_GLOBAL i
+named_seen (names.Element i n) = The OF_ELEMENT i
+named_seen (names.Function i n) = The OF_FUNCTION i
+named_seen (names.Data i n) = The OF_DATA i
+named_seen (names.Tag i n) = The OF_TAG i
+named_seen (names.Module n) = TheModule
+
+-- a name that is lent, as its bytes, or none
+abbrev pub name_given : Option (Bor (List ℕ)) → Option (List ℕ)
+name_given n = option_map (λ x. x.now) n
+
+-- the name that it gives, or none
+abbrev pub given_seen : Naming → Option (List ℕ)
+given_seen (names.Type i n) = name_given n
+given_seen (names.Table i n) = name_given n
+given_seen (names.Memory i n) = name_given n
+given_seen (names.Global i n) = name_given n
+given_seen (names.Element i n) = name_given n
+given_seen (names.Function i n) = name_given n
+given_seen (names.Data i n) = name_given n
+given_seen (names.Tag i n) = name_given n
+given_seen (names.Module n) = name_given n
+
 abbrev pub naming_seen : Naming → Said
-naming_seen (names.Type id given) = Names (The OF_TYPE id) (option_map (λ n. n.now) given)
-naming_seen (names.Table id given) = Names (The OF_TABLE id) (option_map (λ n. n.now) given)
-naming_seen (names.Memory id given) = Names (The OF_MEMORY id) (option_map (λ n. n.now) given)
-naming_seen (names.Global id given) = Names (The OF_GLOBAL id) (option_map (λ n. n.now) given)
-naming_seen (names.Element id given) = Names (The OF_ELEMENT id) (option_map (λ n. n.now) given)
-naming_seen (names.Function id given) = Names (The OF_FUNCTION id) (option_map (λ n. n.now) given)
-naming_seen (names.Data id given) = Names (The OF_DATA id) (option_map (λ n. n.now) given)
-naming_seen (names.Tag id given) = Names (The OF_TAG id) (option_map (λ n. n.now) given)
-naming_seen (names.Module given) = Names TheModule (option_map (λ n. n.now) given)
+naming_seen naming = Names (named_seen naming) (given_seen naming)
 
 abbrev pub edit_seen : Edit → Said
 edit_seen (edits.Add section) = Adds (section_record section)

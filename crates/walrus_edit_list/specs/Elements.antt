@@ -2,7 +2,7 @@
 use Rattle.std.specs.Prelude.{ℕ, Bool, true, false, List, [], ◌∷◌, ◌++◌, length, Option, Some, None, slice_set, ◌≡◌}
 use Rattle.wasm_entries.specs.Record as entries
 use Rattle.wasm_forms.specs.Reading.{◌>>=◌}
-use Rattle.walrus_base.specs.Arena.{IsLive, item_at}
+use Rattle.walrus_base.specs.Arena.{item_at}
 use Rattle.walrus_base.specs.Operators.{Tables}
 use Rattle.walrus_code.specs.Names.{Lookup}
 use Rattle.walrus_constants.specs.Named.{named_const}
@@ -15,9 +15,10 @@ use Rattle.walrus_items.specs.declared.error.Error.{Error}
 use Rattle.walrus_model.specs.Abstract.{ActiveElements, DeclaredElements, Element, ElementKind, PassiveElements}
 use Rattle.walrus_model.specs.Sections as said
 use Rattle.walrus_edit_list.specs.Ids.{HasTooMany, ids_of}
-use Rattle.walrus_edit_list.specs.InTurn.{InTurn}
-use Rattle.walrus_edit_list.specs.Refuses.{HasUnfound, Refuses}
+use Rattle.walrus_edit_list.specs.Places.{IsGone}
+use Rattle.walrus_edit_list.specs.Refuses.{Refuses}
 use Rattle.walrus_edit_list.specs.SegmentSets.{changed_at, table_in, table_with, there}
+use Rattle.walrus_edit_list.specs.Turns.{InTurn, RefusesOne}
 
 module _ (names : Lookup) (slots : List (Option TableValue)) where
   -- how elements are used, with the id for each number, where the table is there
@@ -34,27 +35,30 @@ module _ (names : Lookup) (slots : List (Option TableValue)) where
 abbrev pub in_table : Bool → ElementKind → ℕ → List (Option TableValue) → List (Option TableValue)
 in_table is_in kind segment slots = changed_at (table_with is_in segment) (table_in kind) slots
 
+-- what an entry says of the segments of a module; nothing where it names what isn't there
+abbrev pub element_in : Contents → entries.Element → Option Element
+element_in m e = element_there (ids_of m) (tables m.tables) (said.element_of e)
+
 -- a segment that an entry says stands behind the others, and is in the set of its table
-pub record AddsElement (names : Lookup) (e : entries.Element) (old new : Contents) : Type 0 where
+pub record AddsElement (e : entries.Element) (old new : Contents) : Type 0 where
   pub value : ElementValue
-  pub says : element_there names (tables old.tables) (said.element_of e) ≡ Some (element_of value)
+  pub says : element_in old e ≡ Some (element_of value)
   pub own_id : value.id ≡ length (elements old.elements)
   pub unnamed : value.name ≡ None
   pub comes : elements new.elements ≡ elements old.elements ++ Some value ∷ []
   pub kept : tables new.tables ≡ in_table true (element_kind_of value.kind) value.id (tables old.tables)
   pub only : new ≡ record old { elements = new.elements; tables = new.tables }
 
--- each of these came
+-- it names what isn't there
+abbrev pub RefusesElement : entries.Element → Contents → Error → Type 0
+RefusesElement e m error = Refuses (element_in m e ≡ None) (HasTooMany m) error
+
+-- each of these came, one behind the other
 abbrev pub AddsElements : List entries.Element → (old new : Contents) → Type 0
-AddsElements es old new = InTurn (AddsElement (ids_of old)) es old new
+AddsElements es old new = InTurn AddsElement es old new
 
--- what an entry says of the segments of a module; nothing where it names what isn't there
-abbrev pub element_in : Contents → entries.Element → Option Element
-element_in m e = element_there (ids_of m) (tables m.tables) (said.element_of e)
-
--- one of them names what isn't there
 abbrev pub RefusesElements : List entries.Element → Contents → Error → Type 0
-RefusesElements es m e = Refuses (HasUnfound (element_in m) es) (HasTooMany m) e
+RefusesElements es m error = RefusesOne AddsElement RefusesElement es m error
 
 -- the segment of this id is gone, and in no set of a table that it was active in
 pub record DeletesElement (number : ℕ) (old new : Contents) : Type 0 where
@@ -66,4 +70,4 @@ pub record DeletesElement (number : ℕ) (old new : Contents) : Type 0 where
 
 -- it isn't there
 abbrev pub RefusesDeleteElement : ℕ → Contents → Error → Type 0
-RefusesDeleteElement number m e = Refuses (IsLive (elements m.elements) number → ⊥) ⊥ e
+RefusesDeleteElement number m e = Refuses (IsGone (elements m.elements) number) ⊥ e

@@ -1,5 +1,5 @@
 -- Operators that come to stand in front of a body ("Binary Format > Instructions > Expressions").
-use Rattle.std.specs.Prelude.{ℕ, false, List, [], ◌∷◌, ◌++◌, Option, Some, None, slice_get, slice_set, ◌≡◌, ⊤}
+use Rattle.std.specs.Prelude.{ℕ, ◌-◌, false, List, [], ◌∷◌, ◌++◌, length, take, Option, Some, None, slice_get, slice_set, ◌≡◌, ⊤}
 use Rattle.walrus_base.specs.Arena.{item_at}
 use Rattle.walrus_base.specs.Operators.{Op}
 use Rattle.walrus_base.specs.declared.module_types.ModuleTypes.{ModuleTypes}
@@ -12,16 +12,16 @@ use Rattle.walrus_items.specs.Function.{KeepsOthers, args_of, body_of}
 use Rattle.walrus_items.specs.Functions.{FunctionValue, functions}
 use Rattle.walrus_items.specs.LocalFunction.{LocalFunction}
 use Rattle.walrus_items.specs.declared.error.Error.{Error}
-use Rattle.walrus_items.specs.declared.error.Error.TheVariants.{DeadItem, InvalidWasm, Memory, NotReplaceable, TooLarge}
+use Rattle.walrus_items.specs.declared.error.Error.TheVariants.{DeadItem, Memory, NotReplaceable, TooLarge}
 use Rattle.walrus_items.specs.declared.function_kind.FunctionKind.{FunctionKind}
 use Rattle.walrus_items.specs.declared.function_kind.FunctionKind.TheVariants.{Import, Local, Uninitialized}
+use Rattle.walrus_edit_list.specs.Functions.{RefusesForm}
 use Rattle.walrus_edit_list.specs.Ids.{HasTooMany, ids_of}
 use Rattle.walrus_edit_list.specs.declared.front.TheConstants.{END}
 
--- in front of the operators of a function stand these; nothing else changed
-pub record StandInFront (front : List Op) (old new : LocalFunction) : Type 0 where
-  pub operators : body_of new ≡ front ++ body_of old
-  pub others : KeepsOthers old new
+-- operators but for the last one
+abbrev pub but_last : List Op → List Op
+but_last ops = take (length ops - 1) ops
 
 -- by the items that indices lead to, the types, the proposals that may be used, and the bytes
 module _ (names : Lookup) (types : ModuleTypes) (f : Features) (bytes : List ℕ) where
@@ -29,17 +29,16 @@ module _ (names : Lookup) (types : ModuleTypes) (f : Features) (bytes : List ℕ
   abbrev pub IsFront : (parameters : List ℕ) → List Op → Type 0
   IsFront parameters ops = OperatorsRead (context names (is_function_at types) (record f { legacy_exceptions = false })) (slice_get parameters) (bytes ++ END ∷ []) ops
 
-  abbrev pub RefusesRead : (parameters : List ℕ) → Error → Type 0
-  RefusesRead parameters (Memory e) = ⊤
-  RefusesRead parameters (InvalidWasm kind) = (ops : List Op) → IsFront parameters ops → ⊥
-  RefusesRead parameters _ = ⊥
+  -- they are none
+  abbrev pub IsNoFront : (parameters : List ℕ) → Type 0
+  IsNoFront parameters = (ops : List Op) → IsFront parameters ops → ⊥
 
-  -- in front of a body stand the operators that the bytes are, without the last one, which is that `end`
+  -- in front of a body stand the operators that the bytes are, without that `end`; nothing else changed
   pub record FrontsBody (old new : LocalFunction) : Type 0 where
-    pub front : List Op
-    pub last : Op
-    pub read : IsFront (args_of old) (front ++ last ∷ [])
-    pub stand : StandInFront front old new
+    pub read : List Op
+    pub front : IsFront (args_of old) read
+    pub operators : body_of new ≡ but_last read ++ body_of old
+    pub others : KeepsOthers old new
 
   -- the same of a function of this kind, which has a body
   abbrev pub FrontsKind : (old new : FunctionKind) → Type 0
@@ -49,7 +48,7 @@ module _ (names : Lookup) (types : ModuleTypes) (f : Features) (bytes : List ℕ
 
   -- it has no body, or the bytes are no operators over its parameters
   abbrev pub RefusesKind : FunctionKind → Error → Type 0
-  RefusesKind (Local own) e = RefusesRead (args_of own) e
+  RefusesKind (Local own) e = RefusesForm (IsNoFront (args_of own)) e
   RefusesKind (Import i) e = e ≡ NotReplaceable
   RefusesKind (Uninitialized ty) e = e ≡ NotReplaceable
 

@@ -1,6 +1,6 @@
 -- Functions whose bodies are given in the binary format, with ids as indices ("Binary Format > Modules > Code Section").
-use Rattle.std.specs.Prelude.{ℕ, ◌+◌, ◌<◌, ◌≤◌, true, false, List, [], ◌∷◌, ◌++◌, length, map, sum, Option, Some, None, option_map, slice_set, ◌≡◌, ◌⊎◌, ⊤}
-use Rattle.wasm_forms.specs.Grammar.{at}
+use Rattle.std.specs.Prelude.{ℕ, ◌+◌, ◌<◌, ◌≤◌, true, false, List, [], ◌∷◌, ◌++◌, length, Option, Some, None, option_map, slice_set, ◌≡◌, ◌⊎◌, ⊤}
+use Rattle.wasm_forms.specs.Grammar.{Is, at}
 use Rattle.wasm_forms.specs.declared.types.RawVal.{RawVal}
 use Rattle.walrus_base.specs.Arena.{item_at}
 use Rattle.walrus_base.specs.Id.{place}
@@ -16,6 +16,7 @@ use Rattle.walrus_bodies.specs.declared.features.Features.{Features}
 use Rattle.walrus_code.specs.Names.{Lookup}
 use Rattle.walrus_contents.specs.declared.parts.Contents.{Contents}
 use Rattle.walrus_functions.specs.Handlers.{params_of}
+use Rattle.walrus_functions.specs.Plain.{total}
 use Rattle.walrus_functions.specs.ReadFunction.{FunctionIsRead, StaysInFront, locals_from}
 use Rattle.walrus_functions.specs.Signatures.{slots_of}
 use Rattle.walrus_items.specs.FunctionKinds.{kind_type}
@@ -33,23 +34,27 @@ use Rattle.walrus_edit_list.specs.declared.functions.TheConstants.{MOST_LOCALS}
 
 -- ---- how many locals a body declares
 
--- how many locals these declare
-abbrev pub count_of : List (ℕ × RawVal) → ℕ
-count_of ds = sum (map (λ d. d.0) ds)
-
 abbrev pub count_in : Option (List (ℕ × RawVal) × List ℕ) → ℕ
 count_in None = 0
-count_in (Some read) = count_of read.0
+count_in (Some read) = total read.0
 
 -- how many locals the bytes of a body declare, where declarations stand in front of them
 abbrev pub declared_count : List ℕ → ℕ
 declared_count code = count_in (at declarations code)
 
--- these bytes declare more locals than engines take, or don't begin with declarations
-abbrev pub RefusesCounted : List ℕ → Error → Type 0
-RefusesCounted code (Memory e) = ⊤
-RefusesCounted code (InvalidWasm kind) = (MOST_LOCALS < declared_count code) ⊎ (at declarations code ≡ None)
-RefusesCounted code _ = ⊥
+-- memory ran out, or bytes aren't of a form
+abbrev pub RefusesForm : (malformed : Type 0) → Error → Type 0
+RefusesForm malformed (Memory e) = ⊤
+RefusesForm malformed (InvalidWasm kind) = malformed
+RefusesForm malformed _ = ⊥
+
+-- no declarations stand in front of the bytes
+abbrev pub HasNoDeclarations : List ℕ → Type 0
+HasNoDeclarations code = (front rest : List ℕ) (declared : List (ℕ × RawVal)) → code ≡ front ++ rest → Is declarations front declared → ⊥
+
+-- the bytes declare more locals than engines take, or no declarations stand in front of them
+abbrev pub DeclaresNone : List ℕ → Type 0
+DeclaresNone code = (MOST_LOCALS < declared_count code) ⊎ HasNoDeclarations code
 
 -- ---- a body among types and locals
 
@@ -75,6 +80,21 @@ module _ (names : Lookup) (tags : ℕ → Option ℕ) (f : Features) (ty : ℕ) 
   RefusesBody types all (InvalidWasm kind) = (MOST_LOCALS < declared_count code) ⊎ IsNoBody types all
   RefusesBody types all _ = ⊥
 
+-- ---- the import of a function
+
+-- the import that brings a function, by its place
+abbrev pub brought_by : FunctionKind → Option ℕ
+brought_by (Import i) = Some (place i.«import»)
+brought_by (Local l) = None
+brought_by (Uninitialized ty) = None
+
+-- the imports without this one, if it is told
+abbrev pub without : Option ℕ → List (Option ImportValue) → List (Option ImportValue)
+without None all = all
+without (Some i) all = slice_set all i None
+
+-- ---- in a module
+
 module _ (f : Features) where
   -- so the bytes were read in a module, where each id is its index
   abbrev pub IsReadAs : (ty : ℕ) (code : List ℕ) (old new : Contents) → LocalFunction → Type 0
@@ -99,17 +119,6 @@ module _ (f : Features) where
 
   abbrev pub RefusesFunction : (ty : ℕ) (code : List ℕ) → Held → Error → Type 0
   RefusesFunction ty code old e = RefusesRead ty code old.contents e
-
-  -- the import that brings a function, by its place
-  abbrev pub brought_by : FunctionKind → Option ℕ
-  brought_by (Import i) = Some (place i.«import»)
-  brought_by (Local l) = None
-  brought_by (Uninitialized ty) = None
-
-  -- the imports without this one, if it is told
-  abbrev pub without : Option ℕ → List (Option ImportValue) → List (Option ImportValue)
-  without None all = all
-  without (Some i) all = slice_set all i None
 
   -- the function of this id has this body; its type and its name stay, and the import that brought it, if one did, is gone
   pub record SetsFunction (id : ℕ) (code : List ℕ) (old new : Held) : Type 0 where

@@ -2,37 +2,45 @@
 use Rattle.std.specs.Prelude.{ℕ, List, [], ◌∷◌, ◌++◌, length, Option, Some, None, slice_set, ◌≡◌, ◌⊎◌}
 use Rattle.wasm_entries.specs.Record.{Global}
 use Rattle.wasm_entries.specs.declared.record.RawGlobalType.{RawGlobalType}
-use Rattle.walrus_base.specs.Arena.{IsLive, item_at}
+use Rattle.walrus_base.specs.Arena.{item_at}
 use Rattle.walrus_base.specs.Types.{ValType}
 use Rattle.walrus_base.specs.declared.const_expr.ConstExpr.{ConstExpr}
-use Rattle.walrus_code.specs.Names.{Lookup}
 use Rattle.walrus_constants.specs.Named.{named_global}
 use Rattle.walrus_contents.specs.View.{global_of}
 use Rattle.walrus_contents.specs.declared.parts.Contents.{Contents}
 use Rattle.walrus_items.specs.Globals.{GlobalValue, globals}
 use Rattle.walrus_items.specs.Imports.{ImportValue, imports}
 use Rattle.walrus_items.specs.declared.error.Error.{Error}
+use Rattle.walrus_model.specs.Abstract as abstract
 use Rattle.walrus_model.specs.Sections as said
 use Rattle.walrus_edit_list.specs.Ids.{HasTooMany, ids_of}
-use Rattle.walrus_edit_list.specs.InTurn.{InTurn}
-use Rattle.walrus_edit_list.specs.Refuses.{HasUnfound, Refuses}
+use Rattle.walrus_edit_list.specs.Places.{IsGone}
+use Rattle.walrus_edit_list.specs.Refuses.{Refuses}
+use Rattle.walrus_edit_list.specs.Turns.{InTurn, RefusesOne}
+
+-- what an entry says, with the id for each number in it; nothing where one has none
+abbrev pub global_in : Contents → Global → Option abstract.Global
+global_in m g = named_global (ids_of m) (said.global_of g)
 
 -- a global that an entry says, of the module's own, stands behind the others
-pub record AddsGlobal (names : Lookup) (g : Global) (old new : Contents) : Type 0 where
+pub record AddsGlobal (g : Global) (old new : Contents) : Type 0 where
   pub value : GlobalValue
-  pub says : named_global names (said.global_of g) ≡ Some (global_of value)
+  pub says : global_in old g ≡ Some (global_of value)
   pub own_id : value.id ≡ length (globals old.globals)
   pub unnamed : value.name ≡ None
   pub comes : globals new.globals ≡ globals old.globals ++ Some value ∷ []
   pub only : new ≡ record old { globals = new.globals }
 
--- each of these came, and names what was there before the first of them
-abbrev pub AddsGlobals : List Global → (old new : Contents) → Type 0
-AddsGlobals gs old new = InTurn (AddsGlobal (ids_of old)) gs old new
+-- it names what was never there
+abbrev pub RefusesGlobal : Global → Contents → Error → Type 0
+RefusesGlobal g m e = Refuses (global_in m g ≡ None) (HasTooMany m) e
 
--- one of them names what was never there
+-- each of these came, one behind the other
+abbrev pub AddsGlobals : List Global → (old new : Contents) → Type 0
+AddsGlobals gs old new = InTurn AddsGlobal gs old new
+
 abbrev pub RefusesGlobals : List Global → Contents → Error → Type 0
-RefusesGlobals gs m e = Refuses (HasUnfound (λ g. named_global (ids_of m) (said.global_of g)) gs) (HasTooMany m) e
+RefusesGlobals gs m e = RefusesOne AddsGlobal RefusesGlobal gs m e
 
 -- the global is of the module's own, with this type and this initialiser
 abbrev pub defines : ValType ℕ → RawGlobalType → ConstExpr → GlobalValue → GlobalValue
@@ -48,7 +56,7 @@ pub record SetsGlobal (number : ℕ) (g : Global) (old new : Contents) : Type 0 
   pub was : GlobalValue
   pub there : item_at (globals old.globals) number ≡ Some was
   pub value : GlobalValue
-  pub says : named_global (ids_of old) (said.global_of g) ≡ Some (global_of value)
+  pub says : global_in old g ≡ Some (global_of value)
   pub stays : (value.id ≡ was.id) × (value.name ≡ was.name)
   pub set : globals new.globals ≡ slice_set (globals old.globals) number (Some value)
   pub freed : imports new.imports ≡ without was.imported_by (imports old.imports)
@@ -56,5 +64,4 @@ pub record SetsGlobal (number : ℕ) (g : Global) (old new : Contents) : Type 0 
 
 -- it isn't there, or the entry names what was never there
 abbrev pub RefusesSetGlobal : ℕ → Global → Contents → Error → Type 0
-RefusesSetGlobal number g m e =
-    Refuses ((IsLive (globals m.globals) number → ⊥) ⊎ (named_global (ids_of m) (said.global_of g) ≡ None)) (HasTooMany m) e
+RefusesSetGlobal number g m e = Refuses (IsGone (globals m.globals) number ⊎ (global_in m g ≡ None)) (HasTooMany m) e

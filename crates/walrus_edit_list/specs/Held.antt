@@ -1,5 +1,5 @@
 -- What is held while edits are made: what the module holds, its custom sections beside it, and whether a body was read.
-use Rattle.std.specs.Prelude.{ℕ, Bool, List, Option}
+use Rattle.std.specs.Prelude.{Bool, List, Option}
 use Rattle.std.specs.String.{string_bytes}
 use Rattle.wasm_frames.specs.Record.{Custom}
 use Rattle.walrus_contents.specs.declared.parts.Contents.{Contents}

@@ -1,5 +1,5 @@
 -- Imports that come with what they bring, and imports under other names ("Structure > Modules > Imports").
-use Rattle.std.specs.Prelude.{ℕ, List, Option, Some, None, ◌≡◌, ⊤}
+use Rattle.std.specs.Prelude.{ℕ, List, Some, None, ◌≡◌, ⊤}
 use Rattle.walrus_base.specs.Id.{place}
 use Rattle.walrus_base.specs.Operators.{Types}
 use Rattle.walrus_base.specs.Types.{ValType}
@@ -16,7 +16,7 @@ use Rattle.walrus_items.specs.Functions.{functions}
 use Rattle.walrus_items.specs.Globals.{globals}
 use Rattle.walrus_items.specs.Imports.{imports}
 use Rattle.walrus_items.specs.declared.error.Error.{Error}
-use Rattle.walrus_items.specs.declared.error.Error.TheVariants.{DeadItem, InvalidWasm, Memory, TooLarge}
+use Rattle.walrus_items.specs.declared.error.Error.TheVariants.{InvalidWasm}
 use Rattle.walrus_items.specs.declared.kinds.ImportKind.TheVariants as kinds
 use Rattle.walrus_module.specs.Edits.{brought}
 use Rattle.walrus_module.specs.Imported.{IsImported, imported_global}
@@ -26,6 +26,7 @@ use Rattle.wasm_entries.specs.declared.record.RawDesc.TheVariants as descs
 use Rattle.wasm_entries.specs.declared.record.RawGlobalType.{RawGlobalType}
 use Rattle.walrus_edit_list.specs.Ids.{HasTooMany, ids_of}
 use Rattle.walrus_edit_list.specs.Places.{ChangesAt, IsGone}
+use Rattle.walrus_edit_list.specs.Refuses.{Refuses}
 use Rattle.walrus_edit_list.specs.Turns.{InTurn, RefusesOne}
 
 -- a function of the type of this number came, and its import, each behind the others
@@ -55,29 +56,18 @@ Brings (descs.Tag ty) from name old new = ⊥
 abbrev pub AddsImport : Import → (old new : Contents) → Type 0
 AddsImport i old new = Brings i.desc i.from i.name old new
 
--- the type that it names isn't there
-abbrev pub LacksType : RawDesc → Contents → Type 0
-LacksType (descs.Function ty) old = ids_of old Types ty ≡ None
-LacksType (descs.Global ty) old = named_val (ids_of old) (val_of ty.value) ≡ None
-LacksType (descs.Table ty) old = ⊥
-LacksType (descs.Memory ty) old = ⊥
-LacksType (descs.Tag ty) old = ⊥
+-- imports of tables, memories and tags aren't taken
+abbrev pub IsNotTaken : Error → Type 0
+IsNotTaken (InvalidWasm kind) = ⊤
+IsNotTaken _ = ⊥
 
--- it is of a table, a memory or a tag
-abbrev pub IsOther : RawDesc → Type 0
-IsOther (descs.Function ty) = ⊥
-IsOther (descs.Global ty) = ⊥
-IsOther (descs.Table ty) = ⊤
-IsOther (descs.Memory ty) = ⊤
-IsOther (descs.Tag ty) = ⊤
-
--- what is brought so doesn't come
+-- what is brought so doesn't come: the type that it names isn't there
 abbrev pub RefusesDesc : RawDesc → Contents → Error → Type 0
-RefusesDesc desc old (Memory e) = ⊤
-RefusesDesc desc old DeadItem = LacksType desc old
-RefusesDesc desc old (InvalidWasm kind) = IsOther desc
-RefusesDesc desc old TooLarge = HasTooMany old
-RefusesDesc desc old _ = ⊥
+RefusesDesc (descs.Function ty) old e = Refuses (ids_of old Types ty ≡ None) (HasTooMany old) e
+RefusesDesc (descs.Global ty) old e = Refuses (named_val (ids_of old) (val_of ty.value) ≡ None) (HasTooMany old) e
+RefusesDesc (descs.Table ty) old e = IsNotTaken e
+RefusesDesc (descs.Memory ty) old e = IsNotTaken e
+RefusesDesc (descs.Tag ty) old e = IsNotTaken e
 
 abbrev pub RefusesImport : Import → Contents → Error → Type 0
 RefusesImport i old error = RefusesDesc i.desc old error

@@ -1,3 +1,4 @@
+pub mod Applies
 pub mod Bringing
 pub mod Constants
 pub mod Customs
@@ -5,13 +6,15 @@ pub mod Data
 pub mod Edits
 pub mod Elements
 pub mod Exports
+pub mod Fine
+pub mod Formed
 pub mod Fronts
 pub mod Functions
 pub mod Globals
 pub mod Held
 pub mod Ids
 pub mod Imports
-pub mod InTurn
+pub mod Makes
 pub mod Memories
 pub mod Naming
 pub mod Places
@@ -21,3 +24,5 @@ pub mod SegmentSets
 pub mod Start
 pub mod Turns
 pub mod Types
+pub use Rattle.walrus_module.specs.Check
+pub use Rattle.walrus_module.specs.declared.flaw.Flaw

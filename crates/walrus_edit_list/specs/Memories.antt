@@ -1,10 +1,11 @@
 -- Memories whose types are written anew ("Structure > Modules > Memories").
 use Rattle.std.specs.Prelude.{ℕ, Some, slice_set, ◌≡◌}
 use Rattle.wasm_entries.specs.declared.record.RawLimits.{RawLimits}
-use Rattle.walrus_base.specs.Arena.{IsLive, item_at}
+use Rattle.walrus_base.specs.Arena.{item_at}
 use Rattle.walrus_contents.specs.declared.parts.Contents.{Contents}
 use Rattle.walrus_items.specs.Memories.{MemoryValue, memories}
 use Rattle.walrus_items.specs.declared.error.Error.{Error}
+use Rattle.walrus_edit_list.specs.Places.{IsGone}
 use Rattle.walrus_edit_list.specs.Refuses.{Refuses}
 
 -- the memory has this size
@@ -20,4 +21,4 @@ pub record SetsMemory (number : ℕ) (l : RawLimits) (old new : Contents) : Type
 
 -- it isn't there
 abbrev pub RefusesSetMemory : ℕ → Contents → Error → Type 0
-RefusesSetMemory number m e = Refuses (IsLive (memories m.memories) number → ⊥) ⊥ e
+RefusesSetMemory number m e = Refuses (IsGone (memories m.memories) number) ⊥ e

@@ -1,9 +1,10 @@
 -- Names that something gets or loses (Appendix > Custom Sections > Name Section).
-use Rattle.std.specs.Prelude.{ℕ, List, Option, Some, None, option_map, slice_set, nat_eq, if◌then◌else◌, ◌≡◌}
+use Rattle.std.specs.Prelude.{ℕ, List, Option, Some, None, slice_set, nat_eq, if◌then◌else◌, ◌≡◌}
 use Rattle.walrus_base.specs.Arena.{IsLive}
-use Rattle.walrus_base.specs.ModuleTypes.{ModuleTypes, type_names, type_slots}
+use Rattle.walrus_base.specs.ModuleTypes.{type_names, type_slots}
 use Rattle.walrus_base.specs.Operators.{Space, Types, Functions, Tables, Memories, Tags, Globals, Elements, DataSegments}
 use Rattle.walrus_base.specs.TypeDef.{name_bytes}
+use Rattle.walrus_base.specs.declared.module_types.ModuleTypes.{ModuleTypes}
 use Rattle.walrus_contents.specs.There.{IsRefusal}
 use Rattle.walrus_contents.specs.declared.parts.Contents.{Contents}
 use Rattle.walrus_items.specs.Data.{data_segments}
@@ -16,33 +17,7 @@ use Rattle.walrus_items.specs.Tags.{tags}
 use Rattle.walrus_items.specs.declared.error.Error.{Error}
 use Rattle.walrus_edit_list.specs.Edits.{Named, The, TheModule}
 use Rattle.walrus_edit_list.specs.Places.{ChangesAt}
-use Rattle.walrus_edit_list.specs.declared.edit.Naming.{Naming}
-use Rattle.walrus_edit_list.specs.declared.edit.Naming.TheVariants as namings
 use Rattle.walrus_edit_list.specs.declared.numbers.TheConstants.{OF_TYPE, OF_TABLE, OF_MEMORY, OF_GLOBAL, OF_ELEMENT, OF_FUNCTION, OF_DATA, OF_TAG}
-
--- what a naming in memory names
-abbrev pub named_seen : Naming → Named
-named_seen (namings.Type i n) = The OF_TYPE i
-named_seen (namings.Table i n) = The OF_TABLE i
-named_seen (namings.Memory i n) = The OF_MEMORY i
-named_seen (namings.Global i n) = The OF_GLOBAL i
-named_seen (namings.Element i n) = The OF_ELEMENT i
-named_seen (namings.Function i n) = The OF_FUNCTION i
-named_seen (namings.Data i n) = The OF_DATA i
-named_seen (namings.Tag i n) = The OF_TAG i
-named_seen (namings.Module n) = TheModule
-
--- the name that it gives, or none
-abbrev pub given_seen : Naming → Option (List ℕ)
-given_seen (namings.Type i n) = option_map (λ x. x.now) n
-given_seen (namings.Table i n) = option_map (λ x. x.now) n
-given_seen (namings.Memory i n) = option_map (λ x. x.now) n
-given_seen (namings.Global i n) = option_map (λ x. x.now) n
-given_seen (namings.Element i n) = option_map (λ x. x.now) n
-given_seen (namings.Function i n) = option_map (λ x. x.now) n
-given_seen (namings.Data i n) = option_map (λ x. x.now) n
-given_seen (namings.Tag i n) = option_map (λ x. x.now) n
-given_seen (namings.Module n) = option_map (λ x. x.now) n
 
 -- the space of what has this number
 abbrev pub space_of : ℕ → Option Space

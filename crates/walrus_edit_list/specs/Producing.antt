@@ -4,7 +4,8 @@ use Rattle.walrus_contents.specs.declared.parts.Contents.{Contents}
 use Rattle.walrus_items.specs.declared.error.Error.{Error}
 use Rattle.walrus_items.specs.declared.error.Error.TheVariants.{InvalidWasm, Memory}
 use Rattle.walrus_producers.specs.Producers.{with_field}
-use Rattle.walrus_producers.specs.Seen.{ModuleProducers, producers}
+use Rattle.walrus_producers.specs.Seen.{producers}
+use Rattle.walrus_producers.specs.declared.producers.ModuleProducers.{ModuleProducers}
 
 -- the fields of the producers section
 abbrev pub is_field : List ℕ → Bool

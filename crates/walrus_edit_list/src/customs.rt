@@ -1,11 +1,12 @@
 //! Custom sections that come, are written anew and go. They lie beside the module while it is edited.
 
-ghost use Rattle.std.specs.Prelude.{◌≡◌, ◌↔◌, IfOk, IsOkUnless, IsTrue, MatchResult};
+ghost use Rattle.std.specs.Prelude.{◌≡◌, ◌↔◌, None, IfOk, IsOkUnless, IsTrue, MatchResult, option_map};
 ghost use Rattle.walrus_base.specs.Arena.{IsLive};
+ghost use Rattle.walrus_contents.specs.There.{IsRefusal};
 ghost use Rattle.walrus_items.specs.Errors.{out_of_memory};
 ghost use Rattle.walrus_model.specs.Sections.{is_apart};
 ghost use Rattle.wasm_frames.specs.Record.{custom_record};
-ghost use Rattle.walrus_edit_list.specs.Customs.{AddsCustom, DeletesCustom, LacksCustom, RefusesCustom, SetsCustom};
+ghost use Rattle.walrus_edit_list.specs.Customs.{AddsCustom, DeletesCustom, LacksCustom, PutsBytes, RefusesCustom, SetsCustom};
 ghost use Rattle.walrus_edit_list.specs.Held.{custom_value, customs};
 
 use std::alloc::Global;
@@ -63,6 +64,21 @@ fn has_custom(all: &[Option<RawCustomSection>], at: usize) -> bool
     }
 }
 
+// Gives the section that stands here these bytes behind its name.
+fn put_bytes(alloc: Global, bytes: &[u8], slot: &mut Option<RawCustomSection>) -> Result<()>
+    ensures { MatchResult result
+        (λ _. PutsBytes bytes.now (option_map custom_value slot.old) (option_map custom_value slot.new))
+        (IsRefusal (option_map custom_value slot.old ≡ None)) }
+{
+    match slot {
+        Some(section) => {
+            section.data_ = bytes.to_vec(alloc)?;
+            Ok(())
+        }
+        None => Err(Error::DeadItem),
+    }
+}
+
 /// Gives the custom section of this id these bytes behind its name.
 ///
 /// # Errors
@@ -78,13 +94,12 @@ pub(crate) fn set_custom(
         (λ _. SetsCustom number bytes.now (customs all.old.items) (customs all.new.items))
         (LacksCustom number (customs all.old.items)) }
 {
-    match all.get_mut(number as usize) {
-        Some(Some(section)) => {
-            section.data_ = bytes.to_vec(alloc)?;
-            Ok(())
-        }
-        _ => Err(Error::DeadItem),
+    let at = number as usize;
+    if at >= all.len() {
+        return Err(Error::DeadItem);
     }
+    put_bytes(alloc, bytes, &mut all[at])?;
+    Ok(())
 }
 
 /// Takes the custom section of this id away.

@@ -1,6 +1,6 @@
 //! Data segments that come, are written anew, or go ("Structure > Modules > Data Segments"). The set of a memory has those that are active in it.
 
-ghost use Rattle.std.specs.Prelude.{◌≡◌, IsOkUnless, MatchResult, None, OnOk, Some, false, map, option_map, slice_set, true};
+ghost use Rattle.std.specs.Prelude.{◌≡◌, IsOkUnless, MatchResult, OnOk, Some, false, map, option_map, slice_set, true};
 ghost use Rattle.wasm_entries.specs.Record.{data_entry, data_mode, expression};
 ghost use Rattle.walrus_base.specs.Arena.{IsLive, item_at};
 ghost use Rattle.walrus_base.specs.Id.{place};
@@ -15,9 +15,7 @@ ghost use Rattle.walrus_model.specs.Constants.{consts_of};
 ghost use Rattle.walrus_model.specs.Sections as said;
 ghost use Rattle.walrus_module.specs.View.{contents_of};
 ghost use Rattle.walrus_edit_list.specs.Constants.{Finds};
-ghost use Rattle.walrus_edit_list.specs.Data.{AddsData, AddsSegment, DeletesData, RefusesData, RefusesDeleteData, RefusesSetData, SetsData, data_kind_there, data_there, in_memory, with_data};
-ghost use Rattle.walrus_edit_list.specs.InTurn.{InTurn};
-ghost use Rattle.walrus_edit_list.specs.Refuses.{HasUnfound, Refuses};
+ghost use Rattle.walrus_edit_list.specs.Data.{AddsData, AddsSegment, DeletesData, RefusesData, RefusesDeleteData, RefusesSegment, RefusesSetData, SetsData, data_kind_there, in_memory, with_data};
 ghost use Rattle.walrus_edit_list.specs.SegmentSets.{changed_at, memory_with, there};
 
 use crate::constants::constant;
@@ -83,9 +81,10 @@ fn put_in(memory: MemoryId, segment: DataId, all: &mut ModuleMemories) -> Result
         ≡ changed_at (memory_with true (place segment)) (Some (place memory)) (memories all.old)) }
     ensures fails { IsOkUnless result out_of_memory }
 {
-    if all.contains(memory) {
-        all.get_mut(memory).data_segments.insert(segment)?;
+    if !all.contains(memory) {
+        return Ok(());
     }
+    all.get_mut(memory).data_segments.insert(segment)?;
     Ok(())
 }
 
@@ -122,54 +121,35 @@ fn free(kind: &DataKind, segment: DataId, all: &mut ModuleMemories)
 }
 
 // Adds the segment of an entry.
-fn add_segment<S>(
-    alloc: Global,
-    raw: &RawData<'_>,
-    ids: &IndicesToIds,
-    module: &mut Module<S>,
-) -> Result<()>
+fn add_segment<S>(alloc: Global, raw: &RawData<'_>, module: &mut Module<S>) -> Result<()>
     ensures { MatchResult result
-        (λ _. AddsSegment (ids_at ids.now) (data_entry raw.now) (contents_of «module».old) (contents_of «module».new))
-        (Refuses (data_there (ids_at ids.now) (memories «module».old.memories) (said.data_of (data_entry raw.now)) ≡ None) ⊥) }
+        (λ _. AddsSegment (data_entry raw.now)
+        (contents_of «module».old) (contents_of «module».new))
+        (RefusesSegment (data_entry raw.now) (contents_of «module».old)) }
 {
-    let kind = read_kind(alloc, &raw.mode, ids, &module.memories)?;
+    let ids = ids_of(alloc, module)?;
+    let kind = read_kind(alloc, &raw.mode, &ids, &module.memories)?;
     let value = raw.bytes.to_vec(alloc)?;
     keep(&kind, module.data_.next_id(), &mut module.memories)?;
     module.data_.add(kind, value)?;
     Ok(())
 }
 
-// Adds the segments of these entries.
-fn add_each<S>(
-    alloc: Global,
-    raw: &[RawData<'_>],
-    ids: &IndicesToIds,
-    module: &mut Module<S>,
-) -> Result<()>
-    ensures { MatchResult result
-        (λ _. InTurn (AddsSegment (ids_at ids.now)) (map data_entry raw.now) (contents_of «module».old) (contents_of «module».new))
-        (Refuses (HasUnfound (λ d. data_there (ids_at ids.now) (memories «module».old.memories) (said.data_of d)) (map data_entry raw.now)) ⊥) }
-{
-    let mut rest = raw;
-    'segments: while let [first, behind @ ..] = rest {
-        add_segment(alloc, first, ids, module)?;
-        rest = behind;
-    }
-    Ok(())
-}
-
-/// Adds data segments, each behind the others. The set of its memory has each that is active.
+/// Adds data segments, each behind the others (Binary Format > Modules > Data Section). The set of its memory has each that is active.
 ///
 /// # Errors
 ///
-/// `DeadItem` exactly where one names what isn't there, `TooLarge` only where ids are too many, and `Memory`.
+/// `DeadItem` only where one names what isn't there, `TooLarge` only where more than 2^32 ids of a space were given, and `Memory`.
 pub(crate) fn add_data<S>(alloc: Global, raw: &[RawData<'_>], module: &mut Module<S>) -> Result<()>
     ensures { MatchResult result
-        (λ _. AddsData (map data_entry raw.now) (contents_of «module».old) (contents_of «module».new))
+        (λ _. AddsData (map data_entry raw.now)
+        (contents_of «module».old) (contents_of «module».new))
         (RefusesData (map data_entry raw.now) (contents_of «module».old)) }
 {
-    let ids = ids_of(alloc, module)?;
-    add_each(alloc, raw, &ids, module)
+    'segments: for entry in raw {
+        add_segment(alloc, entry, module)?;
+    }
+    Ok(())
 }
 
 // The segment of this live id has this kind and these bytes.
@@ -188,7 +168,8 @@ fn write(id: DataId, kind: DataKind, value: Vec<u8>, all: &mut ModuleData)
 ///
 /// # Errors
 ///
-/// `DeadItem` exactly where it isn't there, or the entry names what isn't, `TooLarge` only where ids are too many, and `Memory`.
+/// `DeadItem` exactly where it isn't there, or the entry names what isn't, `TooLarge` only where more than 2^32 ids of a
+/// space were given, and `Memory`.
 pub(crate) fn set_data<S>(
     alloc: Global,
     number: u32,
@@ -196,7 +177,8 @@ pub(crate) fn set_data<S>(
     module: &mut Module<S>,
 ) -> Result<()>
     ensures { MatchResult result
-        (λ _. SetsData number (data_entry raw.now) (contents_of «module».old) (contents_of «module».new))
+        (λ _. SetsData number (data_entry raw.now)
+        (contents_of «module».old) (contents_of «module».new))
         (RefusesSetData number (data_entry raw.now) (contents_of «module».old)) }
 {
     let id = DataId::at(number as usize);

@@ -1,6 +1,6 @@
 //! Element segments that come, or go ("Structure > Modules > Element Segments"). The set of a table has those that are active in it.
 
-ghost use Rattle.std.specs.Prelude.{◌≡◌, IsOkUnless, MatchResult, None, OnOk, Some, false, map, true};
+ghost use Rattle.std.specs.Prelude.{◌≡◌, IsOkUnless, MatchResult, OnOk, Some, false, map, true};
 ghost use Rattle.wasm_entries.specs.Record.{Expressions, element_entry, element_mode, expression, items_of};
 ghost use Rattle.walrus_base.specs.Id.{place};
 ghost use Rattle.walrus_base.specs.Operators.{Functions, Tables};
@@ -15,9 +15,7 @@ ghost use Rattle.walrus_model.specs.Constants.{consts_of};
 ghost use Rattle.walrus_model.specs.Sections as said;
 ghost use Rattle.walrus_module.specs.View.{contents_of};
 ghost use Rattle.walrus_edit_list.specs.Constants.{Finds};
-ghost use Rattle.walrus_edit_list.specs.Elements.{AddsElement, AddsElements, DeletesElement, RefusesDeleteElement, RefusesElements, element_kind_there, element_there, in_table};
-ghost use Rattle.walrus_edit_list.specs.InTurn.{InTurn};
-ghost use Rattle.walrus_edit_list.specs.Refuses.{HasUnfound, Refuses};
+ghost use Rattle.walrus_edit_list.specs.Elements.{AddsElement, AddsElements, DeletesElement, RefusesDeleteElement, RefusesElement, RefusesElements, element_kind_there, in_table};
 ghost use Rattle.walrus_edit_list.specs.SegmentSets.{changed_at, table_with, there};
 
 use crate::constants::{constant, constants, reference_type};
@@ -130,9 +128,10 @@ fn put_in(table: TableId, segment: ElementId, all: &mut ModuleTables) -> Result<
         ≡ changed_at (table_with true (place segment)) (Some (place table)) (tables all.old)) }
     ensures fails { IsOkUnless result out_of_memory }
 {
-    if all.contains(table) {
-        all.get_mut(table).elem_segments.insert(segment)?;
+    if !all.contains(table) {
+        return Ok(());
     }
+    all.get_mut(table).elem_segments.insert(segment)?;
     Ok(())
 }
 
@@ -169,58 +168,39 @@ fn free(kind: &ElementKind, segment: ElementId, all: &mut ModuleTables)
 }
 
 // Adds the segment of an entry.
-fn add_segment<S>(
-    alloc: Global,
-    raw: &RawElement,
-    ids: &IndicesToIds,
-    module: &mut Module<S>,
-) -> Result<()>
+fn add_segment<S>(alloc: Global, raw: &RawElement, module: &mut Module<S>) -> Result<()>
     ensures { MatchResult result
-        (λ _. AddsElement (ids_at ids.now) (element_entry raw.now) (contents_of «module».old) (contents_of «module».new))
-        (Refuses (element_there (ids_at ids.now) (tables «module».old.tables) (said.element_of (element_entry raw.now)) ≡ None) ⊥) }
+        (λ _. AddsElement (element_entry raw.now)
+        (contents_of «module».old) (contents_of «module».new))
+        (RefusesElement (element_entry raw.now) (contents_of «module».old)) }
 {
-    let kind = read_kind(alloc, &raw.mode, ids, &module.tables)?;
-    let held = read_items(alloc, &raw.items, ids)?;
+    let ids = ids_of(alloc, module)?;
+    let kind = read_kind(alloc, &raw.mode, &ids, &module.tables)?;
+    let held = read_items(alloc, &raw.items, &ids)?;
     keep(&kind, module.elements.next_id(), &mut module.tables)?;
     module.elements.add(kind, held)?;
     Ok(())
 }
 
-// Adds the segments of these entries.
-fn add_each<S>(
-    alloc: Global,
-    raw: &[RawElement],
-    ids: &IndicesToIds,
-    module: &mut Module<S>,
-) -> Result<()>
-    ensures { MatchResult result
-        (λ _. InTurn (AddsElement (ids_at ids.now)) (map element_entry raw.now) (contents_of «module».old) (contents_of «module».new))
-        (Refuses (HasUnfound (λ e. element_there (ids_at ids.now) (tables «module».old.tables) (said.element_of e)) (map element_entry raw.now)) ⊥) }
-{
-    let mut rest = raw;
-    'segments: while let [first, behind @ ..] = rest {
-        add_segment(alloc, first, ids, module)?;
-        rest = behind;
-    }
-    Ok(())
-}
-
-/// Adds element segments, each behind the others. The set of its table has each that is active.
+/// Adds element segments, each behind the others (Binary Format > Modules > Element Section). The set of its table has each that is active.
 ///
 /// # Errors
 ///
-/// `DeadItem` exactly where one names what isn't there, `TooLarge` only where ids are too many, and `Memory`.
+/// `DeadItem` only where one names what isn't there, `TooLarge` only where more than 2^32 ids of a space were given, and `Memory`.
 pub(crate) fn add_elements<S>(
     alloc: Global,
     raw: &[RawElement],
     module: &mut Module<S>,
 ) -> Result<()>
     ensures { MatchResult result
-        (λ _. AddsElements (map element_entry raw.now) (contents_of «module».old) (contents_of «module».new))
+        (λ _. AddsElements (map element_entry raw.now)
+        (contents_of «module».old) (contents_of «module».new))
         (RefusesElements (map element_entry raw.now) (contents_of «module».old)) }
 {
-    let ids = ids_of(alloc, module)?;
-    add_each(alloc, raw, &ids, module)
+    'segments: for entry in raw {
+        add_segment(alloc, entry, module)?;
+    }
+    Ok(())
 }
 
 /// Takes the element segment of this id away, out of the set of its table too. `DeadItem` exactly where it isn't there.

@@ -1,9 +1,10 @@
 //! Exports that come, are written anew and go.
 
-ghost use Rattle.std.specs.Prelude.{◌≡◌, ◌⊎◌, MatchResult, map};
+ghost use Rattle.std.specs.Prelude.{◌≡◌, MatchOption, MatchResult, map};
 ghost use Rattle.std.specs.String.{string_bytes};
+ghost use Rattle.walrus_base.specs.Arena.{IsLive};
+ghost use Rattle.walrus_base.specs.Id.{place};
 ghost use Rattle.walrus_contents.specs.There.{IsRefusal};
-ghost use Rattle.walrus_contents.specs.View.{lent};
 ghost use Rattle.walrus_items.specs.Exports.{exports};
 ghost use Rattle.walrus_items.specs.Kinds.{exported};
 ghost use Rattle.walrus_module.specs.View.{contents_of};
@@ -13,7 +14,7 @@ ghost use Rattle.walrus_edit_list.specs.Places.{ChangesAt, DeletesAt, IsGone};
 
 use std::alloc::Global;
 use walrus_base::{ExportId, FunctionId, GlobalId, MemoryId, TableId, TagId};
-use walrus_contents::{Parts, is_live};
+use walrus_contents::is_live;
 use walrus_items::{Error, ExportItem, ModuleExports, Result};
 use walrus_module::Module;
 use wasm_entries::{RawExport, RawExportKind};
@@ -33,16 +34,16 @@ fn item_of(raw: &RawExport<'_>) -> ExportItem
 }
 
 // The same, where it is there.
-fn live_item(parts: Parts<'_>, raw: &RawExport<'_>) -> Result<ExportItem>
-    ensures { MatchResult result
-        (IsNamed (export_entry raw.now) (lent parts.entry))
-        (IsRefusal (NamesNothing (export_entry raw.now) (lent parts.entry))) }
+fn live_item<S>(raw: &RawExport<'_>, module: &Module<S>) -> Option<ExportItem>
+    ensures { MatchOption result
+        (NamesNothing (export_entry raw.now) (contents_of «module».now))
+        (IsNamed (export_entry raw.now) (contents_of «module».now)) }
 {
     let item = item_of(raw);
-    if !is_live(parts, item.item_id()) {
-        return Err(Error::DeadItem);
+    if is_live(module.parts(), item.item_id()) {
+        return Some(item);
     }
-    Ok(item)
+    None
 }
 
 // Adds an export behind the others.
@@ -51,7 +52,9 @@ fn add_export<S>(raw: &RawExport<'_>, module: &mut Module<S>) -> Result<()>
         (λ _. AddsExport (export_entry raw.now) (contents_of «module».old) (contents_of «module».new))
         (RefusesExport (export_entry raw.now) (contents_of «module».old)) }
 {
-    let item = live_item(module.parts(), raw)?;
+    let Some(item) = live_item(raw, module) else {
+        return Err(Error::DeadItem);
+    };
     module.exports.add(raw.name, item)?;
     Ok(())
 }
@@ -72,21 +75,15 @@ pub(crate) fn add_exports<S>(raw: &[RawExport<'_>], module: &mut Module<S>) -> R
     Ok(())
 }
 
-// Gives the export of this id this name and this item.
-fn write_export(number: u32, name: String, item: ExportItem, all: &mut ModuleExports) -> Result<()>
-    ensures { MatchResult result
-        (λ _. ChangesAt number (λ was. record was { name = string_bytes name; item = item })
-        (exports all.old) (exports all.new))
-        (IsRefusal (IsGone (exports all.old) number)) }
+// Gives the export of this live id this name and this item.
+fn write_export(id: ExportId, name: String, item: ExportItem, all: &mut ModuleExports)
+    requires { IsLive (exports all.old) (place id) }
+    ensures { ChangesAt (place id) (λ was. record was { name = string_bytes name; item = item })
+        (exports all.old) (exports all.new) }
 {
-    let id = ExportId::at(number as usize);
-    if !all.contains(id) {
-        return Err(Error::DeadItem);
-    }
     let export = all.get_mut(id);
     export.name = name;
     export.item = item;
-    Ok(())
 }
 
 /// Gives the export of this id another name and another item.
@@ -105,9 +102,16 @@ pub(crate) fn set_export<S>(
         (contents_of «module».new))
         (RefusesSetExport number (export_entry raw.now) (contents_of «module».old)) }
 {
-    let item = live_item(module.parts(), raw)?;
+    let id = ExportId::at(number as usize);
+    if !module.exports.contains(id) {
+        return Err(Error::DeadItem);
+    }
+    let Some(item) = live_item(raw, module) else {
+        return Err(Error::DeadItem);
+    };
     let name = String::from_str(alloc, raw.name)?;
-    write_export(number, name, item, &mut module.exports)
+    write_export(id, name, item, &mut module.exports);
+    Ok(())
 }
 
 /// Takes the export of this id away.

@@ -1,12 +1,14 @@
 //! Operators that come to stand in front of a body (Binary Format > Instructions > Expressions).
 
-ghost use Rattle.std.specs.Prelude.{◌≡◌, MatchResult, map};
+ghost use Rattle.std.specs.Prelude.{◌≡◌, ◌++◌, MatchResult, map};
 ghost use Rattle.walrus_base.specs.Id.{place};
 ghost use Rattle.walrus_code.specs.Code.{ops_of};
 ghost use Rattle.walrus_code.specs.Indices.{ids_at};
 ghost use Rattle.walrus_items.specs.Errors.{out_of_memory};
+ghost use Rattle.walrus_items.specs.Function.{KeepsOthers, body_of};
 ghost use Rattle.walrus_module.specs.View.{contents_of};
-ghost use Rattle.walrus_edit_list.specs.Fronts.{FrontsFunction, FrontsKind, IsFront, RefusesFront, RefusesKind, RefusesRead, StandInFront};
+ghost use Rattle.walrus_edit_list.specs.Fronts.{FrontsFunction, FrontsKind, IsFront, IsNoFront, RefusesFront, RefusesKind, but_last};
+ghost use Rattle.walrus_edit_list.specs.Functions.{RefusesForm};
 
 use crate::ids::ids_of;
 use std::alloc::Global;
@@ -17,7 +19,7 @@ use walrus_items::{Error, FunctionKind, Result};
 use walrus_module::Module;
 
 /// The byte of `end`, which closes a body.
-const END: u8 = 0x0B;
+const END: u8 = 11;
 
 // Reads these bytes, with an `end` behind them, as operators over these parameters, none of them of legacy exceptions.
 fn read_front(
@@ -31,7 +33,8 @@ fn read_front(
     ensures { MatchResult result
         (λ operators. IsFront (ids_at ids.now) types.now features.now bytes.now
         (map place parameters.now) (ops_of operators.items))
-        (RefusesRead (ids_at ids.now) types.now features.now bytes.now (map place parameters.now)) }
+        (RefusesForm (IsNoFront (ids_at ids.now) types.now features.now bytes.now
+        (map place parameters.now))) }
 {
     let mut closed = Vec::new(alloc);
     closed.extend_from_slice(bytes)?;
@@ -53,19 +56,21 @@ fn read_front(
     )?)
 }
 
-// Puts operators in front of those of a function, all at once. `Memory` is the only error.
-fn put_front(alloc: Global, front: Vec<Operator>, own: &mut LocalFunction) -> Result<()>
-    ensures { MatchResult result (λ _. StandInFront (ops_of front.items) own.old own.new)
+// Puts operators, but for the last one, in front of those of a function, all at once. `Memory` is the only error.
+fn put_front(alloc: Global, mut front: Vec<Operator>, own: &mut LocalFunction) -> Result<()>
+    ensures { MatchResult result
+        (λ _. (body_of own.new ≡ but_last (ops_of front.items) ++ body_of own.old)
+        × KeepsOthers own.old own.new)
         (λ e. e ≡ out_of_memory) }
 {
-    let mut all = front;
+    let _end = front.pop();
     let operators = own.operators_mut(alloc)?;
-    all.append(operators)?;
-    *operators = all;
+    front.append(operators)?;
+    *operators = front;
     Ok(())
 }
 
-// The same of what these bytes are without the `end`, if the function has a body.
+// The same of what these bytes are, closed by an `end`, of a function that has a body.
 fn front_kind(
     alloc: Global,
     bytes: &[u8],
@@ -82,9 +87,9 @@ fn front_kind(
         return Err(Error::NotReplaceable);
     };
     let parameters = own.args(alloc)?;
-    let mut front = read_front(alloc, bytes, features, ids, types, parameters.as_slice())?;
-    let _end = front.pop();
-    put_front(alloc, front, own)
+    let front = read_front(alloc, bytes, features, ids, types, parameters.as_slice())?;
+    put_front(alloc, front, own)?;
+    Ok(())
 }
 
 /// Puts the operators that these bytes are in front of the body of the function of this number. They name ids as indices, and of locals the
@@ -112,5 +117,6 @@ pub(crate) fn front_function<S>(
     }
     let ids = ids_of(alloc, module)?;
     let kind = &mut module.funcs.get_mut(id).kind;
-    front_kind(alloc, bytes, features, &ids, &module.types, kind)
+    front_kind(alloc, bytes, features, &ids, &module.types, kind)?;
+    Ok(())
 }

@@ -6,11 +6,12 @@ ghost use Rattle.walrus_base.specs.Id.{place};
 ghost use Rattle.walrus_bodies.specs.Declarations.{declarations_of};
 ghost use Rattle.walrus_bodies.specs.FunctionTypes.{is_function_at};
 ghost use Rattle.walrus_code.specs.Indices.{ids_at};
+ghost use Rattle.walrus_functions.specs.Plain.{total};
 ghost use Rattle.walrus_functions.specs.Signatures.{tag_places};
 ghost use Rattle.walrus_items.specs.Functions.{functions};
 ghost use Rattle.walrus_items.specs.Imports.{imports};
 ghost use Rattle.walrus_module.specs.Replaced.{with_body};
-ghost use Rattle.walrus_edit_list.specs.Functions.{AddsFunction, IsBodyOf, RefusesBody, RefusesCounted, RefusesFunction, RefusesSetFunction, SetsFunction, brought_by, count_of, declared_count, without};
+ghost use Rattle.walrus_edit_list.specs.Functions.{AddsFunction, DeclaresNone, IsBodyOf, RefusesBody, RefusesForm, RefusesFunction, RefusesSetFunction, SetsFunction, brought_by, declared_count, without};
 ghost use Rattle.walrus_edit_list.specs.Held.{held};
 ghost use Rattle.walrus_edit_list.specs.Ids.{tag_types};
 
@@ -30,7 +31,7 @@ const MOST_LOCALS: u32 = 50_000;
 
 // Whether these declare no more locals than that.
 fn are_few(declarations: &[Declaration]) -> bool
-    ensures { result ≡ nat_le (count_of (declarations_of declarations.now)) 50_000 }
+    ensures { result ≡ nat_le (total (declarations_of declarations.now)) 50_000 }
 {
     let mut left = MOST_LOCALS;
     'declarations: for declaration in declarations {
@@ -44,7 +45,8 @@ fn are_few(declarations: &[Declaration]) -> bool
 
 // Refuses a body that declares more locals than that, before memory is taken for them.
 fn count_locals(alloc: Global, body: &[u8]) -> Result<()>
-    ensures { MatchResult result (λ _. declared_count body.now ≤ 50_000) (RefusesCounted body.now) }
+    ensures { MatchResult result (λ _. declared_count body.now ≤ 50_000)
+        (RefusesForm (DeclaresNone body.now)) }
 {
     let (declared, _rest) = read_declarations(alloc, body)?;
     if !are_few(declared.as_slice()) {
@@ -60,21 +62,21 @@ fn is_typed(types: &ModuleTypes, ty: TypeId) -> bool
     types.contains(ty) && types.get(ty).is_function()
 }
 
-// Reads a function of this type with this body. `tag_types` are the types of the tags, by their places. Refused, locals and types may have come.
+// Reads a function of this type with this body. `tags` are the types of the tags, by their places. Refused, locals and types may have come.
 fn read_function(
     alloc: Global,
     ty: TypeId,
     body: &[u8],
     features: &Features,
     ids: &IndicesToIds,
-    tag_types: &[TypeId],
+    tags: &[TypeId],
     types: &mut ModuleTypes,
     module_locals: &mut ModuleLocals,
 ) -> Result<LocalFunction>
     ensures { MatchResult result
-        (IsBodyOf (ids_at ids.now) (tag_places tag_types.now) features.now (place ty) body.now types.old
+        (IsBodyOf (ids_at ids.now) (tag_places tags.now) features.now (place ty) body.now types.old
         types.new module_locals.old module_locals.new)
-        (RefusesBody (ids_at ids.now) (tag_places tag_types.now) features.now (place ty) body.now types.old
+        (RefusesBody (ids_at ids.now) (tag_places tags.now) features.now (place ty) body.now types.old
         module_locals.old) }
 {
     if !is_typed(types, ty) {
@@ -88,7 +90,7 @@ fn read_function(
         0,
         features,
         ty,
-        tag_types,
+        tags,
         ids,
         types,
         module_locals,
@@ -98,7 +100,7 @@ fn read_function(
     )?)
 }
 
-/// Adds a function of the type of this number with this body, without a name, behind the others. `tag_types` are the types of the tags, by their
+/// Adds a function of the type of this number with this body, without a name, behind the others. `tags` are the types of the tags, by their
 /// places.
 ///
 /// # Errors
@@ -110,11 +112,11 @@ pub(crate) fn add_function<S>(
     number: u32,
     body: &[u8],
     features: &Features,
-    tag_types: &[TypeId],
+    tags: &[TypeId],
     module: &mut Module<S>,
     beside: &mut Beside,
 ) -> Result<()>
-    requires tags { tag_places tag_types.now ≡ tag_types «module».old.tags }
+    requires typed { tag_places tags.now ≡ tag_types «module».old.tags }
     ensures { MatchResult result
         (λ _. AddsFunction features.now number body.now (held «module».old beside.old)
         (held «module».new beside.new))
@@ -128,7 +130,7 @@ pub(crate) fn add_function<S>(
         body,
         features,
         &ids,
-        tag_types,
+        tags,
         &mut module.types,
         &mut module.locals,
     )?;
@@ -169,7 +171,7 @@ fn give_body(all: &mut ModuleFunctions, id: FunctionId, made: LocalFunction)
 }
 
 /// Gives the function of this number this body. Its type, its name and its id stay. One that was imported is the module's own then, and its import
-/// goes. `tag_types` are the types of the tags, by their places.
+/// goes. `tags` are the types of the tags, by their places.
 ///
 /// # Errors
 ///
@@ -180,11 +182,11 @@ pub(crate) fn set_function<S>(
     number: u32,
     body: &[u8],
     features: &Features,
-    tag_types: &[TypeId],
+    tags: &[TypeId],
     module: &mut Module<S>,
     beside: &mut Beside,
 ) -> Result<()>
-    requires tags { tag_places tag_types.now ≡ tag_types «module».old.tags }
+    requires typed { tag_places tags.now ≡ tag_types «module».old.tags }
     ensures { MatchResult result
         (λ _. SetsFunction features.now number body.now (held «module».old beside.old)
         (held «module».new beside.new))
@@ -203,7 +205,7 @@ pub(crate) fn set_function<S>(
         body,
         features,
         &ids,
-        tag_types,
+        tags,
         &mut module.types,
         &mut module.locals,
     )?;

@@ -1,79 +1,54 @@
 //! Globals that come, or are written anew ("Structure > Modules > Globals").
 
-ghost use Rattle.std.specs.Prelude.{◌≡◌, MatchResult, None, map, option_map, slice_set};
+ghost use Rattle.std.specs.Prelude.{◌≡◌, MatchResult, map, option_map, slice_set};
 ghost use Rattle.wasm_entries.specs.Record.{global_entry};
 ghost use Rattle.walrus_base.specs.Arena.{IsLive, item_at};
 ghost use Rattle.walrus_base.specs.Id.{place};
 ghost use Rattle.walrus_base.specs.Value.{val_type};
-ghost use Rattle.walrus_code.specs.Indices.{ids_at};
-ghost use Rattle.walrus_constants.specs.Named.{named_global};
 ghost use Rattle.walrus_items.specs.Globals.{global_import, globals};
 ghost use Rattle.walrus_items.specs.Imports.{imports};
-ghost use Rattle.walrus_model.specs.Sections as said;
 ghost use Rattle.walrus_module.specs.View.{contents_of};
-ghost use Rattle.walrus_edit_list.specs.Globals.{AddsGlobal, AddsGlobals, RefusesGlobals, RefusesSetGlobal, SetsGlobal, defines, without};
-ghost use Rattle.walrus_edit_list.specs.InTurn.{InTurn};
-ghost use Rattle.walrus_edit_list.specs.Refuses.{HasUnfound, Refuses};
+ghost use Rattle.walrus_edit_list.specs.Globals.{AddsGlobal, AddsGlobals, RefusesGlobal, RefusesGlobals, RefusesSetGlobal, SetsGlobal, defines, without};
 
 use crate::constants::{constant, value_type};
 use crate::ids::ids_of;
 use std::alloc::Global;
 use walrus_base::{ConstExpr, GlobalId, ValType};
-use walrus_code::IndicesToIds;
 use walrus_items::{Error, GlobalKind, ModuleGlobals, ModuleImports, Result};
 use walrus_module::Module;
 use wasm_entries::{RawGlobal, RawGlobalType};
 
 // Adds the global of an entry.
-fn add_global<S>(
-    alloc: Global,
-    raw: &RawGlobal,
-    ids: &IndicesToIds,
-    module: &mut Module<S>,
-) -> Result<()>
+fn add_global<S>(alloc: Global, raw: &RawGlobal, module: &mut Module<S>) -> Result<()>
     ensures { MatchResult result
-        (λ _. AddsGlobal (ids_at ids.now) (global_entry raw.now) (contents_of «module».old) (contents_of «module».new))
-        (Refuses (named_global (ids_at ids.now) (said.global_of (global_entry raw.now)) ≡ None) ⊥) }
+        (λ _. AddsGlobal (global_entry raw.now)
+        (contents_of «module».old) (contents_of «module».new))
+        (RefusesGlobal (global_entry raw.now) (contents_of «module».old)) }
 {
-    let ty = value_type(raw.ty.value, ids)?;
-    let initial = constant(alloc, &raw.initial, ids)?;
+    let ids = ids_of(alloc, module)?;
+    let ty = value_type(raw.ty.value, &ids)?;
+    let initial = constant(alloc, &raw.initial, &ids)?;
     module
         .globals
         .add_local(ty, raw.ty.mutable, raw.ty.shared, initial)?;
     Ok(())
 }
 
-// Adds the globals of these entries, with the ids of what was there before the first of them.
-fn add_each<S>(
-    alloc: Global,
-    raw: &[RawGlobal],
-    ids: &IndicesToIds,
-    module: &mut Module<S>,
-) -> Result<()>
-    ensures { MatchResult result
-        (λ _. InTurn (AddsGlobal (ids_at ids.now)) (map global_entry raw.now) (contents_of «module».old) (contents_of «module».new))
-        (Refuses (HasUnfound (λ g. named_global (ids_at ids.now) (said.global_of g)) (map global_entry raw.now)) ⊥) }
-{
-    let mut rest = raw;
-    'globals: while let [first, behind @ ..] = rest {
-        add_global(alloc, first, ids, module)?;
-        rest = behind;
-    }
-    Ok(())
-}
-
-/// Adds globals of the module's own, each behind the others. They name what was there before the first of them.
+/// Adds globals of the module's own, each behind the others (Binary Format > Modules > Global Section).
 ///
 /// # Errors
 ///
-/// `DeadItem` exactly where one names what was never there, `TooLarge` only where ids are too many, and `Memory`.
+/// `DeadItem` only where one names what was never there, `TooLarge` only where more than 2^32 ids of a space were given, and `Memory`.
 pub(crate) fn add_globals<S>(alloc: Global, raw: &[RawGlobal], module: &mut Module<S>) -> Result<()>
     ensures { MatchResult result
-        (λ _. AddsGlobals (map global_entry raw.now) (contents_of «module».old) (contents_of «module».new))
+        (λ _. AddsGlobals (map global_entry raw.now)
+        (contents_of «module».old) (contents_of «module».new))
         (RefusesGlobals (map global_entry raw.now) (contents_of «module».old)) }
 {
-    let ids = ids_of(alloc, module)?;
-    add_each(alloc, raw, &ids, module)
+    'globals: for entry in raw {
+        add_global(alloc, entry, module)?;
+    }
+    Ok(())
 }
 
 // The import that brings a global of this kind goes, if one does and is there.
@@ -110,7 +85,8 @@ fn define(
 ///
 /// # Errors
 ///
-/// `DeadItem` exactly where it isn't there, or the entry names what was never there, `TooLarge` only where ids are too many, and `Memory`.
+/// `DeadItem` exactly where it isn't there, or the entry names what was never there, `TooLarge` only where more than 2^32 ids of
+/// a space were given, and `Memory`.
 pub(crate) fn set_global<S>(
     alloc: Global,
     number: u32,
@@ -118,7 +94,8 @@ pub(crate) fn set_global<S>(
     module: &mut Module<S>,
 ) -> Result<()>
     ensures { MatchResult result
-        (λ _. SetsGlobal number (global_entry raw.now) (contents_of «module».old) (contents_of «module».new))
+        (λ _. SetsGlobal number (global_entry raw.now)
+        (contents_of «module».old) (contents_of «module».new))
         (RefusesSetGlobal number (global_entry raw.now) (contents_of «module».old)) }
 {
     let id = GlobalId::at(number as usize);

@@ -6,7 +6,7 @@ ghost use Rattle.walrus_items.specs.Imports.{imports};
 ghost use Rattle.walrus_module.specs.View.{contents_of};
 ghost use Rattle.wasm_entries.specs.Record.{import_entry};
 ghost use Rattle.wasm_entries.specs.declared.record.RawDesc.TheVariants as descs;
-ghost use Rattle.walrus_edit_list.specs.Imports.{AddsImport, AddsImports, ImportsFunction, ImportsGlobal, RefusesDesc, RefusesImport, RefusesImports};
+ghost use Rattle.walrus_edit_list.specs.Imports.{AddsImport, AddsImports, Brings, ImportsFunction, ImportsGlobal, RefusesDesc, RefusesImport, RefusesImports};
 ghost use Rattle.walrus_edit_list.specs.Places.{ChangesAt, IsGone};
 
 use crate::ids::ids_of;
@@ -57,19 +57,34 @@ fn import_global<S>(
     Ok(())
 }
 
+// Adds an import of these names, and what it brings.
+fn bring<S>(
+    alloc: Global,
+    desc: RawDesc,
+    from: &str,
+    name: &str,
+    module: &mut Module<S>,
+) -> Result<()>
+    ensures { MatchResult result
+        (λ _. Brings desc from.now name.now (contents_of «module».old) (contents_of «module».new))
+        (RefusesDesc desc (contents_of «module».old)) }
+{
+    match desc {
+        RawDesc::Function(ty) => import_function(alloc, ty, from, name, module),
+        RawDesc::Global(ty) => import_global(alloc, ty, from, name, module),
+        RawDesc::Table(_) | RawDesc::Memory(_) | RawDesc::Tag(_) => {
+            Err(Error::InvalidWasm(ErrorKind::InvalidWasm))
+        }
+    }
+}
+
 // Adds an import and what it brings.
 fn add_import<S>(alloc: Global, raw: &RawImport<'_>, module: &mut Module<S>) -> Result<()>
     ensures { MatchResult result
         (λ _. AddsImport (import_entry raw.now) (contents_of «module».old) (contents_of «module».new))
         (RefusesImport (import_entry raw.now) (contents_of «module».old)) }
 {
-    match raw.desc() {
-        RawDesc::Function(ty) => import_function(alloc, ty, raw.from, raw.name, module),
-        RawDesc::Global(ty) => import_global(alloc, ty, raw.from, raw.name, module),
-        RawDesc::Table(_) | RawDesc::Memory(_) | RawDesc::Tag(_) => {
-            Err(Error::InvalidWasm(ErrorKind::InvalidWasm))
-        }
-    }
+    bring(alloc, raw.desc(), raw.from, raw.name, module)
 }
 
 /// Adds these imports of functions and globals, and what they bring, each behind the others (Binary Format > Modules > Import Section).

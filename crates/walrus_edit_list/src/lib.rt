@@ -5,6 +5,7 @@
 //! refused, so many are, and the next one isn't one, or can't be made of that.
 #![tactic(auto)]
 
+mod apply;
 mod beside;
 mod bring;
 mod constants;
@@ -19,6 +20,7 @@ mod globals;
 mod ids;
 mod imports;
 mod law;
+mod list;
 mod memories;
 mod names;
 pub mod numbers;
@@ -31,5 +33,6 @@ mod types;
 
 pub use beside::Beside;
 pub use edit::{Deletion, Edit, Naming, Replacement};
-pub use law::one_list;
+pub use law::{bodies_read_are_formed, edits_keep_fine, one_list, sets_stay_formed};
+pub use list::{Refusal, apply_all};
 pub use read::read_edit;

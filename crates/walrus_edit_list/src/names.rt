@@ -1,6 +1,6 @@
 //! Names that something gets or loses.
 
-ghost use Rattle.std.specs.Prelude.{◌≡◌, IfOk, IsOkUnless, MatchResult, option_map};
+ghost use Rattle.std.specs.Prelude.{◌≡◌, IfOk, IsOkUnless, MatchResult};
 ghost use Rattle.walrus_base.specs.ModuleTypes.{type_slots};
 ghost use Rattle.walrus_base.specs.TypeDef.{name_bytes};
 ghost use Rattle.walrus_contents.specs.There.{IsRefusal};
@@ -13,7 +13,8 @@ ghost use Rattle.walrus_items.specs.Memories.{memories};
 ghost use Rattle.walrus_items.specs.Tables.{tables};
 ghost use Rattle.walrus_items.specs.Tags.{tags};
 ghost use Rattle.walrus_module.specs.View.{contents_of};
-ghost use Rattle.walrus_edit_list.specs.Naming.{GivesName, NamesType, RefusesName, given_seen, named_seen};
+ghost use Rattle.walrus_edit_list.specs.Edits.{given_seen, name_given, named_seen};
+ghost use Rattle.walrus_edit_list.specs.Naming.{GivesName, NamesType, RefusesName};
 ghost use Rattle.walrus_edit_list.specs.Places.{ChangesAt, IsGone};
 
 use crate::edit::Naming;
@@ -27,7 +28,7 @@ use walrus_module::Module;
 
 // A name of one's own, if one is given.
 fn owned_name(alloc: Global, name: Option<&str>) -> Result<Option<String>>
-    ensures value { IfOk result (λ owned. name_bytes owned ≡ option_map (λ n. n.now) name) }
+    ensures value { IfOk result (λ owned. name_bytes owned ≡ name_given name.entry) }
     ensures fails { IsOkUnless result out_of_memory }
 {
     match name {
@@ -39,7 +40,7 @@ fn owned_name(alloc: Global, name: Option<&str>) -> Result<Option<String>>
 // Gives the type of this id this name, or none.
 fn name_type(alloc: Global, number: u32, name: Option<&str>, all: &mut ModuleTypes) -> Result<()>
     ensures { MatchResult result
-        (λ _. NamesType number (option_map (λ n. n.now) name) all.old all.new)
+        (λ _. NamesType number (name_given name.entry) all.old all.new)
         (IsRefusal (IsGone (type_slots all.old) number)) }
 {
     let id = Id::at(number as usize);
@@ -59,7 +60,7 @@ fn name_function(
     all: &mut ModuleFunctions,
 ) -> Result<()>
     ensures { MatchResult result
-        (λ _. ChangesAt number (λ x. record x { name = option_map (λ n. n.now) name }) (functions all.old)
+        (λ _. ChangesAt number (λ x. record x { name = name_given name.entry }) (functions all.old)
         (functions all.new))
         (IsRefusal (IsGone (functions all.old) number)) }
 {
@@ -75,7 +76,7 @@ fn name_function(
 // Gives the table of this id this name, or none.
 fn name_table(alloc: Global, number: u32, name: Option<&str>, all: &mut ModuleTables) -> Result<()>
     ensures { MatchResult result
-        (λ _. ChangesAt number (λ x. record x { name = option_map (λ n. n.now) name }) (tables all.old)
+        (λ _. ChangesAt number (λ x. record x { name = name_given name.entry }) (tables all.old)
         (tables all.new))
         (IsRefusal (IsGone (tables all.old) number)) }
 {
@@ -96,7 +97,7 @@ fn name_memory(
     all: &mut ModuleMemories,
 ) -> Result<()>
     ensures { MatchResult result
-        (λ _. ChangesAt number (λ x. record x { name = option_map (λ n. n.now) name }) (memories all.old)
+        (λ _. ChangesAt number (λ x. record x { name = name_given name.entry }) (memories all.old)
         (memories all.new))
         (IsRefusal (IsGone (memories all.old) number)) }
 {
@@ -112,7 +113,7 @@ fn name_memory(
 // Gives the tag of this id this name, or none.
 fn name_tag(alloc: Global, number: u32, name: Option<&str>, all: &mut ModuleTags) -> Result<()>
     ensures { MatchResult result
-        (λ _. ChangesAt number (λ x. record x { name = option_map (λ n. n.now) name }) (tags all.old)
+        (λ _. ChangesAt number (λ x. record x { name = name_given name.entry }) (tags all.old)
         (tags all.new))
         (IsRefusal (IsGone (tags all.old) number)) }
 {
@@ -133,7 +134,7 @@ fn name_global(
     all: &mut ModuleGlobals,
 ) -> Result<()>
     ensures { MatchResult result
-        (λ _. ChangesAt number (λ x. record x { name = option_map (λ n. n.now) name }) (globals all.old)
+        (λ _. ChangesAt number (λ x. record x { name = name_given name.entry }) (globals all.old)
         (globals all.new))
         (IsRefusal (IsGone (globals all.old) number)) }
 {
@@ -154,7 +155,7 @@ fn name_element(
     all: &mut ModuleElements,
 ) -> Result<()>
     ensures { MatchResult result
-        (λ _. ChangesAt number (λ x. record x { name = option_map (λ n. n.now) name }) (elements all.old)
+        (λ _. ChangesAt number (λ x. record x { name = name_given name.entry }) (elements all.old)
         (elements all.new))
         (IsRefusal (IsGone (elements all.old) number)) }
 {
@@ -170,7 +171,7 @@ fn name_element(
 // Gives the segment of data of this id this name, or none.
 fn name_data(alloc: Global, number: u32, name: Option<&str>, all: &mut ModuleData) -> Result<()>
     ensures { MatchResult result
-        (λ _. ChangesAt number (λ x. record x { name = option_map (λ n. n.now) name }) (data_segments all.old)
+        (λ _. ChangesAt number (λ x. record x { name = name_given name.entry }) (data_segments all.old)
         (data_segments all.new))
         (IsRefusal (IsGone (data_segments all.old) number)) }
 {
@@ -190,9 +191,9 @@ fn name_data(alloc: Global, number: u32, name: Option<&str>, all: &mut ModuleDat
 /// `DeadItem` exactly where it isn't there, and `Memory`.
 pub(crate) fn give_name<S>(alloc: Global, naming: Naming<'_>, module: &mut Module<S>) -> Result<()>
     ensures { MatchResult result
-        (λ _. GivesName (named_seen naming) (given_seen naming) (contents_of «module».old)
+        (λ _. GivesName (named_seen naming.entry) (given_seen naming.entry) (contents_of «module».old)
         (contents_of «module».new))
-        (RefusesName (named_seen naming) (contents_of «module».old)) }
+        (RefusesName (named_seen naming.entry) (contents_of «module».old)) }
 {
     match naming {
         Naming::Type(id, name) => name_type(alloc, id, name, &mut module.types),
@@ -201,7 +202,10 @@ pub(crate) fn give_name<S>(alloc: Global, naming: Naming<'_>, module: &mut Modul
         Naming::Memory(id, name) => name_memory(alloc, id, name, &mut module.memories),
         Naming::Tag(id, name) => name_tag(alloc, id, name, &mut module.tags),
         Naming::Global(id, name) => name_global(alloc, id, name, &mut module.globals),
-        Naming::Element(id, name) => name_element(alloc, id, name, &mut module.elements),
+        Naming::Element(id, name) => {
+            name_element(alloc, id, name, &mut module.elements)?;
+            Ok(())
+        }
         Naming::Data(id, name) => name_data(alloc, id, name, &mut module.data_),
         Naming::Module(name) => {
             module.name = owned_name(alloc, name)?;

@@ -6,8 +6,8 @@ ghost use Rattle.walrus_edit_list.specs.Held.{held};
 ghost use Rattle.walrus_edit_list.specs.Types.{AddsTypes, RefusesTypes};
 
 use crate::beside::Beside;
-use crate::ids::ids_of;
 use std::alloc::Global;
+use walrus_code::{IndexSpace, IndicesToIds};
 use walrus_groups::read_types;
 use walrus_items::{Error, ErrorKind, Result};
 use walrus_module::Module;
@@ -19,7 +19,7 @@ use wasm_entries::RawGroup;
 /// # Errors
 ///
 /// `InvalidWasm` only where a body was read before, or a type names one that isn't declared before the end of its group, or has two supertypes,
-/// `TooLarge` only where more than 2^32 ids of a space were given or there are more than 2^32 types, and `Memory`.
+/// `TooLarge` only where there are more than 2^32 types, and `Memory`.
 pub(crate) fn add_types<S>(
     alloc: Global,
     groups: &[RawGroup],
@@ -33,6 +33,12 @@ pub(crate) fn add_types<S>(
     if beside.has_read {
         return Err(Error::InvalidWasm(ErrorKind::InvalidWasm));
     }
-    let mut ids = ids_of(alloc, module)?;
-    Ok(read_types(alloc, groups, &mut ids, &mut module.types)?)
+    let count = module.types.next_id().index();
+    if count > 1 << 32 {
+        return Err(Error::TooLarge);
+    }
+    let mut ids = IndicesToIds::new(alloc);
+    ids.types = IndexSpace::in_place(alloc, count)?;
+    read_types(alloc, groups, &mut ids, &mut module.types)?;
+    Ok(())
 }

@@ -6,3 +6,6 @@ mod RowSteps
 mod TellSteps
 mod TypeSteps
 mod ZipSteps
+mod Assembled
+mod Ended
+mod SectionsLeft

@@ -7,15 +7,15 @@ use Rattle.wasm_entries.specs.Record.{Group, Import, import_entry}
 use Rattle.wasm_entries.specs.declared.record.RawImport.{RawImport}
 use Rattle.wasm_entries.specs.declared.record.RawDesc.{RawDesc}
 use Rattle.wasm_entries.specs.declared.record.RawDesc.TheVariants as descs
-use Rattle.wasm_forms.specs.Spelling.{row_bytes}
+use Rattle.walrus.specs.Forms.Spelling.{row_bytes}
 use Rattle.wasm_forms.specs.Writing.{Adds, EachFits}
 use Rattle.wasm_forms.specs.declared.error.WireError.{WireError}
 use Rattle.wasm_forms.specs.declared.error.WireError.TheVariants as wires
-use Rattle.wasm_frames.specs.Record as wire
+use Rattle.walrus.specs.Frames.Record as wire
 use Rattle.wasm_payloads.specs.Names.{Names}
-use Rattle.walrus_contents.specs.declared.parts.Contents.{Contents}
-use Rattle.walrus_model.specs.Sections.{function_types, imported, imported_type}
-use Rattle.walrus_theorem.specs.Headline.{has_function, payloads}
+use Rattle.walrus.specs.Contents.Contents.{Contents}
+use Rattle.walrus.specs.Model.Sections.{function_types, imported, imported_type}
+use Rattle.walrus.specs.Theorem.Headline.{has_function, payloads}
 use Rattle.walrus_edits.specs.ItemRecords.{Told, ToldFits, told_bytes}
 use Rattle.walrus_edits.specs.ItemSteps.{ListsItems, RowsFit, rows}
 use Rattle.walrus_edits.specs.ItemValues.{AreTold, brings_function, told_parts}

@@ -5,7 +5,7 @@ use Rattle.std.proofs.lemmas.List.{take_all}
 use Rattle.std.specs.Prelude.{slice_index_or}
 use Rattle.std.specs.List.{AllZip}
 use Rattle.walrus_base.proofs.ZipTurns.{zip_turn}
-use Rattle.wasm_frames.specs.Record as wire
+use Rattle.walrus.specs.Frames.Record as wire
 use Rattle.wasm_frames.specs.declared.record.RawCustom.{RawCustom}
 use Rattle.wasm_payloads.specs.Names.{Named, Names}
 use Rattle.wasm_payloads.specs.Sink.{after_all}

@@ -1,7 +1,7 @@
 -- One name more.
 use Rattle.std.proofs.Common.{◌≡◌, ℕ, zero, suc, ◌+◌, ◌<◌, ◌≤◌, List, [], ◌∷◌, ◌++◌, length, get_or, drop, map, refl, sym, ap, ◌∙◌, append_assoc, append-nil, arith}
 use Rattle.std.specs.Prelude.{Option, Some, option_and_then}
-use Rattle.walrus_base.specs.Arena.{item_at}
+use Rattle.walrus.specs.Base.Arena.{item_at}
 use Rattle.walrus_edit_list.specs.declared.numbers.TheConstants.{OF_TYPE}
 use Rattle.walrus_edits.specs.ItemRecords.{Told}
 use Rattle.walrus_edits.specs.ItemValues.{named, names_in, type_names_in}

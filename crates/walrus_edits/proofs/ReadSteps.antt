@@ -3,24 +3,24 @@ use Rattle.std.proofs.Common.{ℕ, List, refl, subst, inl, inr}
 use Rattle.std.specs.Prelude.{Err, Ok, Some}
 use Rattle.std.specs.Global.{Vec}
 use Rattle.wasm_entries.specs.Record.{Group}
-use Rattle.wasm_forms.specs.Reading.{Refuses}
+use Rattle.walrus.specs.Forms.Reading.{Refuses}
 use Rattle.wasm_forms.specs.declared.error.WireError.{WireError}
 use Rattle.wasm_forms.specs.declared.error.WireError.TheVariants as wires
-use Rattle.wasm_frames.specs.Frames.{Frames}
-use Rattle.wasm_frames.specs.Record as wire
-use Rattle.walrus_items.specs.Errors.{error_of_wire}
-use Rattle.walrus_items.specs.declared.custom.CustomSection.{Ghosts}
-use Rattle.walrus_items.specs.declared.error.Error.{Error}
-use Rattle.walrus_items.specs.declared.error.Error.TheVariants as error
-use Rattle.walrus_contents.specs.declared.parts.Contents.{Contents}
-use Rattle.walrus_model.specs.Abstract.{Abstract}
-use Rattle.walrus_model.specs.Config.{Config}
-use Rattle.walrus_theorem.specs.Features.{features_of}
-use Rattle.walrus_theorem.specs.WellMade.{IsWellMade}
-use Rattle.walrus_module.specs.Parsed.{IsParsed, RefusesBytes, TakenFrom}
-use Rattle.walrus_module.specs.View.{contents_of, held_view, view}
-use Rattle.walrus_module.specs.declared.entry.SectionEntry.{SectionEntry}
-use Rattle.walrus_module.specs.declared.module.Module.{Module}
+use Rattle.walrus.specs.Frames.Frames.{Frames}
+use Rattle.walrus.specs.Frames.Record as wire
+use Rattle.walrus.specs.Items.Errors.{error_of_wire}
+use Rattle.walrus.specs.Items.CustomSection.{Ghosts}
+use Rattle.walrus.specs.Items.Error.{Error}
+use Rattle.walrus.specs.Items.Error.TheVariants as error
+use Rattle.walrus.specs.Contents.Contents.{Contents}
+use Rattle.walrus.specs.Model.Abstract.{Abstract}
+use Rattle.walrus.specs.Model.Config.{Config}
+use Rattle.walrus.specs.Theorem.Features.{features_of}
+use Rattle.walrus.specs.Theorem.WellMade.{IsWellMade}
+use Rattle.walrus.specs.Modules.Parsed.{IsParsed, RefusesBytes, TakenFrom}
+use Rattle.walrus.specs.Modules.View.{contents_of, held_view, view}
+use Rattle.walrus.specs.Modules.SectionEntry.{SectionEntry}
+use Rattle.walrus.specs.Modules.Module.{Module}
 use Rattle.walrus.proofs.EditEnds.{parsed_whole, plain_read}
 use Rattle.walrus_edits.specs.Items.{AnswersItems, AreRead}
 use Rattle.walrus_edits.specs.ItemSteps.{ListsItems}

@@ -4,7 +4,7 @@ use Rattle.std.proofs.lemmas.List.{take_all, take_more}
 use Rattle.std.specs.Prelude.{Err, Ok}
 use Rattle.wasm_forms.specs.declared.error.WireError.{WireError}
 use Rattle.wasm_forms.specs.declared.error.WireError.TheVariants.{Malformed, Memory, TooLarge}
-use Rattle.wasm_forms.specs.Spelling.{row_bytes}
+use Rattle.walrus.specs.Forms.Spelling.{row_bytes}
 use Rattle.wasm_forms.specs.Writing.{Adds, EachFits}
 use Rattle.walrus_edits.proofs.TellSteps.{each_append, row_append}
 

@@ -4,28 +4,28 @@ use Rattle.std.specs.Prelude.{Contains, Option, None, Some, IsSome, Err}
 use Rattle.std.specs.Global.{Vec}
 use Rattle.wasm_entries.specs.Record.{group}
 use Rattle.wasm_entries.specs.declared.record.RawSub.{RawSub}
-use Rattle.walrus_base.specs.Arena.{item_at, items, live_places}
-use Rattle.walrus_base.specs.ModuleTypes.{type_slots}
-use Rattle.walrus_base.specs.Operators.{Types, type_item}
-use Rattle.walrus_base.specs.TypeDef.{TypeDef}
-use Rattle.walrus_base.specs.Types.{comp_heaps, sub_names}
-use Rattle.walrus_base.specs.declared.module_types.ModuleTypes.{ModuleTypes}
-use Rattle.walrus_base.proofs.Lists.{Contains-append_2, Contains-map}
+use Rattle.walrus.specs.Base.Arena.{item_at, items, live_places}
+use Rattle.walrus.specs.Base.ModuleTypes.{type_slots}
+use Rattle.walrus.specs.Base.Operators.{Types, type_item}
+use Rattle.walrus.specs.Base.TypeDef.{TypeDef}
+use Rattle.walrus.specs.Base.Types.{comp_heaps, sub_names}
+use Rattle.walrus.specs.Base.ModuleTypesValue.{ModuleTypes}
+use Rattle.walrus.proofs.Base.Lists.{Contains-append_2, Contains-map}
 use Rattle.walrus_base.proofs.SameVal.{placed}
-use Rattle.walrus_code.specs.Names.{Lookup}
+use Rattle.walrus.specs.Code.Names.{Lookup}
 use Rattle.walrus_code.specs.declared.error.IrError.{IrError}
 use Rattle.walrus_code.specs.declared.error.IrError.TheVariants as Ir
-use Rattle.walrus_contents.specs.View.{types_of}
+use Rattle.walrus.specs.Contents.View.{types_of}
 use Rattle.walrus_groups.specs.Indexed.{HasExact, IndexesTypes, NumbersTypes}
-use Rattle.walrus_items.specs.Errors.{error_of_ir}
-use Rattle.walrus_model.specs.Abstract.{Abstract}
-use Rattle.walrus_model.specs.Config.{Config}
-use Rattle.walrus_model.specs.Refers.{named_by, type_names}
-use Rattle.walrus_model.specs.WellMade.{heaps_by}
+use Rattle.walrus.specs.Items.Errors.{error_of_ir}
+use Rattle.walrus.specs.Model.Abstract.{Abstract}
+use Rattle.walrus.specs.Model.Config.{Config}
+use Rattle.walrus.specs.Model.Refers.{named_by, type_names}
+use Rattle.walrus.specs.Model.WellMade.{heaps_by}
 use Rattle.walrus_model.proofs.Orders.{ordered_entries}
-use Rattle.walrus_model.proofs.Slots.{item_seen}
-use Rattle.walrus_theorem.specs.WellMade.{IsWellMade}
-use Rattle.walrus_theorem.proofs.EditSound.{well_made_is_sound}
+use Rattle.walrus.proofs.Model.Slots.{item_seen}
+use Rattle.walrus.specs.Theorem.WellMade.{IsWellMade}
+use Rattle.walrus.proofs.Theorem.EditSound.{well_made_is_sound}
 use Rattle.walrus_edits.specs.TypeRecords.{GroupsTypes, NamesNone}
 
 -- what is answered, by what the types are indexed as

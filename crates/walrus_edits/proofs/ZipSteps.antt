@@ -1,7 +1,7 @@
 -- One pair more of two lists.
 use Rattle.std.proofs.Common.{◌≡◌, ℕ, zero, suc, ◌+◌, ◌<◌, ◌≤◌, List, [], ◌∷◌, ◌++◌, length, get_or, take, map, refl, sym, ap, ◌∙◌, arith}
 use Rattle.std.specs.Prelude.{zip}
-use Rattle.wasm_frames.specs.Record.{body_record}
+use Rattle.walrus.specs.Frames.Record.{body_record}
 use Rattle.wasm_frames.specs.declared.record.RawBody.{RawBody}
 use Rattle.walrus_edits.specs.ItemSteps.{defined_told}
 use Rattle.walrus_edits.specs.ItemValues.{functions_in}

@@ -1,6 +1,6 @@
 -- What is told of a module's items, as values and as bytes: records of a byte, a size and so many bytes.
 use Rattle.std.specs.Prelude.{ℕ, List, [], ◌∷◌, ◌++◌, length, Option, Some, None}
-use Rattle.wasm_forms.specs.Spelling.{block_bytes, name_bytes, number_bytes, vector_bytes}
+use Rattle.walrus.specs.Forms.Spelling.{block_bytes, name_bytes, number_bytes, vector_bytes}
 use Rattle.wasm_forms.specs.Types.{reference_bytes}
 use Rattle.wasm_forms.specs.Writing.{FitsLength, FitsVector}
 use Rattle.wasm_entries.specs.Record.{DataMode, ActiveData, PassiveData, Element, ElementMode, ActiveElements, PassiveElements, DeclaredElements, Export, Expression, Global, Group, Import, Items, Functions, Expressions, Segment, Table}
@@ -9,7 +9,7 @@ use Rattle.wasm_entries.specs.TypeSpelling.{GroupFits, LimitsFit, global_type_by
 use Rattle.wasm_entries.specs.declared.record.RawDesc.{RawDesc}
 use Rattle.wasm_entries.specs.declared.record.RawDesc.TheVariants as descs
 use Rattle.wasm_entries.specs.declared.record.RawLimits.{RawLimits}
-use Rattle.wasm_frames.specs.Record.{Body, Custom}
+use Rattle.walrus.specs.Frames.Record.{Body, Custom}
 use Rattle.walrus_edit_list.specs.declared.numbers.TheConstants.{NAME, PRODUCER, OF_CUSTOM, OF_TYPE, OF_IMPORT, OF_TABLE, OF_MEMORY, OF_GLOBAL, OF_EXPORT, OF_START, OF_ELEMENT, OF_FUNCTION, OF_DATA, OF_TAG}
 use Rattle.walrus_edits.specs.declared.records.TheConstants.{LOCAL_NAME}
 

@@ -1,14 +1,14 @@
 -- The steps of a list of items: for the functions inside.
 use Rattle.std.specs.Prelude.{ℕ, ◌≡◌, ⊤, List, [], ◌∷◌, ◌++◌, Option, Result, Ok, Err}
 use Rattle.std.specs.Global.{Vec}
-use Rattle.walrus_contents.specs.declared.parts.Contents.{Contents}
+use Rattle.walrus.specs.Contents.Contents.{Contents}
 use Rattle.wasm_entries.specs.Record.{Group}
-use Rattle.wasm_forms.specs.Spelling.{row_bytes}
+use Rattle.walrus.specs.Forms.Spelling.{row_bytes}
 use Rattle.wasm_forms.specs.Writing.{Adds, EachFits}
 use Rattle.wasm_forms.specs.declared.error.WireError.{WireError}
 use Rattle.wasm_forms.specs.declared.error.WireError.TheVariants.{Malformed, Memory, TooLarge}
-use Rattle.wasm_frames.specs.Record as wire
-use Rattle.wasm_frames.specs.Record.{body_record, custom_record}
+use Rattle.walrus.specs.Frames.Record as wire
+use Rattle.walrus.specs.Frames.Record.{body_record, custom_record}
 use Rattle.walrus_edits.specs.ItemRecords.{Told, ACustom, AFunction, AName, AProducer, ToldFits, told_bytes}
 use Rattle.walrus_edits.specs.ItemValues.{AreTold}
 use Rattle.walrus_edits.specs.declared.name_records.NameOf.{NameOf}

@@ -1,28 +1,28 @@
 -- What is told of the items of a module, as values.
 use Rattle.std.specs.Prelude.{ℕ, suc, ◌≡◌, Bool, true, false, not, List, [], ◌∷◌, ◌++◌, Option, None, Some, codes, filter, flat_map, map, option_and_then, option_to_list, zip}
 use Rattle.std.specs.List.{AllZip}
-use Rattle.walrus_base.specs.Arena.{entries, item_at, items, live_places}
-use Rattle.walrus_base.specs.ModuleTypes.{type_names, type_slots}
-use Rattle.walrus_base.specs.TypeDef.{name_bytes}
-use Rattle.walrus_base.specs.declared.module_types.ModuleTypes.{ModuleTypes}
-use Rattle.walrus_code.specs.Names.{Lookup}
+use Rattle.walrus.specs.Base.Arena.{entries, item_at, items, live_places}
+use Rattle.walrus.specs.Base.ModuleTypes.{type_names, type_slots}
+use Rattle.walrus.specs.Base.TypeDef.{name_bytes}
+use Rattle.walrus.specs.Base.ModuleTypesValue.{ModuleTypes}
+use Rattle.walrus.specs.Code.Names.{Lookup}
 use Rattle.walrus_groups.specs.Indexed.{AreIndexed, NumbersTypes}
-use Rattle.walrus_items.specs.Data.{data_segments}
-use Rattle.walrus_items.specs.Elements.{elements}
-use Rattle.walrus_items.specs.Functions.{functions}
-use Rattle.walrus_items.specs.Globals.{globals}
-use Rattle.walrus_items.specs.Memories.{memories}
-use Rattle.walrus_items.specs.Tables.{tables}
-use Rattle.walrus_items.specs.Tags.{tags}
-use Rattle.walrus_contents.specs.declared.parts.Contents.{Contents}
-use Rattle.walrus_model.specs.Sections.{is_apart}
+use Rattle.walrus.specs.Items.Data.{data_segments}
+use Rattle.walrus.specs.Items.Elements.{elements}
+use Rattle.walrus.specs.Items.Functions.{functions}
+use Rattle.walrus.specs.Items.Globals.{globals}
+use Rattle.walrus.specs.Items.Memories.{memories}
+use Rattle.walrus.specs.Items.Tables.{tables}
+use Rattle.walrus.specs.Items.Tags.{tags}
+use Rattle.walrus.specs.Contents.Contents.{Contents}
+use Rattle.walrus.specs.Model.Sections.{is_apart}
 use Rattle.walrus_producers.specs.Producers.{ProducerField, ProducerValue}
 use Rattle.walrus_producers.specs.Seen.{producers}
-use Rattle.walrus_theorem.specs.Headline.{has_function, payloads}
+use Rattle.walrus.specs.Theorem.Headline.{has_function, payloads}
 use Rattle.wasm_entries.specs.Record.{Group, Import}
 use Rattle.wasm_entries.specs.declared.record.RawDesc.{RawDesc}
 use Rattle.wasm_entries.specs.declared.record.RawDesc.TheVariants as descs
-use Rattle.wasm_frames.specs.Record as wire
+use Rattle.walrus.specs.Frames.Record as wire
 use Rattle.wasm_payloads.specs.Names.{Named, ModuleName, ItemName, LocalName, Names}
 use Rattle.walrus_edit_list.specs.declared.numbers.TheConstants.{OF_TYPE, OF_TABLE, OF_MEMORY, OF_GLOBAL, OF_ELEMENT, OF_FUNCTION, OF_DATA, OF_TAG, OF_MODULE}
 use Rattle.walrus_edits.specs.ItemRecords.{Told, AGroup, AnImport, Brought, AFunction, ATable, AMemory, ATag, AGlobal, AnExport, TheStart, AnElement, ASegment, ACustom, AProducer, AName, ALocalName}

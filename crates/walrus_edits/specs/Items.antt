@@ -1,21 +1,21 @@
 -- The items of a module that is read, as a list of records.
 use Rattle.std.specs.Prelude.{ℕ, ◌^◌, ◌<◌, ◌≡◌, ◌⊎◌, List, length, Result}
 use Rattle.std.specs.Global.{Vec}
-use Rattle.walrus_base.specs.Arena.{live_places}
-use Rattle.walrus_base.specs.ModuleTypes.{type_slots}
-use Rattle.walrus_items.specs.declared.error.Error.{Error}
-use Rattle.walrus_contents.specs.declared.parts.Contents.{Contents}
-use Rattle.walrus_model.specs.Abstract.{Custom}
-use Rattle.walrus_model.specs.Config.{Config}
-use Rattle.walrus_module.specs.Parsed.{IsParsed, TakenFrom}
-use Rattle.walrus_theorem.specs.Features.{features_of}
+use Rattle.walrus.specs.Base.Arena.{live_places}
+use Rattle.walrus.specs.Base.ModuleTypes.{type_slots}
+use Rattle.walrus.specs.Items.Error.{Error}
+use Rattle.walrus.specs.Contents.Contents.{Contents}
+use Rattle.walrus.specs.Model.Abstract.{Custom}
+use Rattle.walrus.specs.Model.Config.{Config}
+use Rattle.walrus.specs.Modules.Parsed.{IsParsed, TakenFrom}
+use Rattle.walrus.specs.Theorem.Features.{features_of}
 use Rattle.walrus.specs.Edits.{with_customs}
 use Rattle.walrus.specs.Ends.{Answers}
 use Rattle.wasm_entries.specs.Record.{Group}
-use Rattle.wasm_forms.specs.Spelling.{row_bytes}
+use Rattle.walrus.specs.Forms.Spelling.{row_bytes}
 use Rattle.wasm_forms.specs.Writing.{EachFits}
-use Rattle.wasm_frames.specs.Frames.{Frames}
-use Rattle.wasm_frames.specs.Record as wire
+use Rattle.walrus.specs.Frames.Frames.{Frames}
+use Rattle.walrus.specs.Frames.Record as wire
 use Rattle.walrus_edits.specs.ItemRecords.{Told, ToldFits, told_bytes}
 use Rattle.walrus_edits.specs.ItemValues.{AreGroups, AreTold}
 

@@ -1,6 +1,8 @@
 pub mod ItemRecords
+pub mod ItemSteps
 pub mod ItemValues
+pub mod Items
 pub mod LocalNames
 pub mod TypeRecords
-pub mod ItemSteps
-pub mod Items
+pub mod Edited
+pub mod Ending

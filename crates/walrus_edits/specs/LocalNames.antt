@@ -1,7 +1,7 @@
 -- The names of locals that sections called `name` give (Appendix > Custom Sections > Name Section).
 use Rattle.std.specs.Prelude.{ℕ, ◌+◌, ◌++◌, Bool, List, bytes_eq, codes, filter, flat_map, map, nat_lt, string_bytes, ◌≡◌}
 use Rattle.std.specs.List.{AllZip}
-use Rattle.wasm_frames.specs.Record as wire
+use Rattle.walrus.specs.Frames.Record as wire
 use Rattle.wasm_payloads.specs.Names.{Named, Names}
 use Rattle.walrus_edits.specs.ItemRecords.{Told, ALocalName}
 use Rattle.walrus_edits.specs.ItemValues.{local_named}

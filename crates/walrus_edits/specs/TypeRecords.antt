@@ -1,13 +1,13 @@
 -- The groups of a module's types.
 use Rattle.std.specs.Prelude.{◌<◌, ◌^◌, ⊤, length, map, Result, Ok, Err}
 use Rattle.std.specs.Global.{Vec}
-use Rattle.walrus_base.specs.Arena.{items, live_places}
-use Rattle.walrus_base.specs.ModuleTypes.{type_slots}
-use Rattle.walrus_base.specs.declared.module_types.ModuleTypes.{ModuleTypes}
+use Rattle.walrus.specs.Base.Arena.{items, live_places}
+use Rattle.walrus.specs.Base.ModuleTypes.{type_slots}
+use Rattle.walrus.specs.Base.ModuleTypesValue.{ModuleTypes}
 use Rattle.walrus_groups.specs.Indexed.{HasExact, LacksAnIndex, NumbersTypes}
-use Rattle.walrus_code.specs.Names.{Lookup}
-use Rattle.walrus_items.specs.declared.error.Error.{Error}
-use Rattle.walrus_items.specs.declared.error.Error.TheVariants.{Memory, NoIndex, NotWritable, TooLarge}
+use Rattle.walrus.specs.Code.Names.{Lookup}
+use Rattle.walrus.specs.Items.Error.{Error}
+use Rattle.walrus.specs.Items.Error.TheVariants.{Memory, NoIndex, NotWritable, TooLarge}
 use Rattle.wasm_entries.specs.Record.{group}
 use Rattle.wasm_entries.specs.declared.record.RawSub.{RawSub}
 use Rattle.walrus_edits.specs.ItemValues.{AreGroups}

@@ -2,9 +2,9 @@
 
 ghost use Rattle.std.specs.Prelude.{◌≡◌, filter, flat_map, length, map, option_to_list, zip};
 ghost use Rattle.wasm_entries.specs.Record.{data_entry, element_entry, export_entry, global_entry, group, import_entry, table_entry};
-ghost use Rattle.wasm_frames.specs.Record.{body_record, sections};
-ghost use Rattle.walrus_contents.specs.View.{lent};
-ghost use Rattle.walrus_module.specs.View.{contents_of};
+ghost use Rattle.walrus.specs.Frames.Record.{body_record, sections};
+ghost use Rattle.walrus.specs.Contents.View.{lent};
+ghost use Rattle.walrus.specs.Modules.View.{contents_of};
 ghost use Rattle.walrus.specs.Wanted.{config_wanted};
 ghost use Rattle.walrus_edits.specs.ItemRecords.{AGlobal, AGroup, ASegment, ATable, AnElement, AnExport, TheStart};
 ghost use Rattle.walrus_edits.specs.ItemValues.{brings_function, functions_in, section_parts, told_parts, with_brought};
@@ -20,8 +20,8 @@ use crate::section_records::{Start, defined_functions};
 use crate::type_records::type_groups;
 use std::alloc::Global;
 use std::result;
+use walrus::below::Parts;
 use walrus::{Module, ModuleConfig, Result, Wanted};
-use walrus_contents::Parts;
 use wasm_entries::{
     RawData, RawDesc, RawElement, RawExport, RawGlobal, RawGroup, RawImport, RawTable,
 };

@@ -2,7 +2,7 @@
 
 ghost use Rattle.std.specs.Prelude.{List, ◌≡◌, ◌++◌, IfErr, IfOk, OnOk, alloc_error, map};
 ghost use Rattle.wasm_forms.specs.declared.error.WireError.TheVariants.{Memory};
-ghost use Rattle.wasm_frames.specs.Record.{custom_record};
+ghost use Rattle.walrus.specs.Frames.Record.{custom_record};
 ghost use Rattle.walrus_edits.specs.ItemRecords.{Told};
 ghost use Rattle.walrus_edits.specs.ItemValues.{local_named};
 ghost use Rattle.walrus_edits.specs.LocalNames.{AreLocalNames, SaysLocals, are_known, local_told, name_payloads};

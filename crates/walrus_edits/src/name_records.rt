@@ -1,24 +1,23 @@
 //! What is told of the names of items.
 
 ghost use Rattle.std.specs.Prelude.{List, Option, ℕ, ◌≡◌, ◌++◌, IfOk, OnOk, map};
-ghost use Rattle.walrus_base.specs.Arena.{entries, live_places};
-ghost use Rattle.walrus_base.specs.ModuleTypes.{type_names, type_slots};
-ghost use Rattle.walrus_items.specs.Held.{held};
-ghost use Rattle.walrus_items.specs.Seen.{text_of};
-ghost use Rattle.walrus_contents.specs.View.{lent};
+ghost use Rattle.walrus.specs.Base.Arena.{entries, live_places};
+ghost use Rattle.walrus.specs.Base.ModuleTypes.{type_names, type_slots};
+ghost use Rattle.walrus.specs.Items.Held.{held};
+ghost use Rattle.walrus.specs.Items.Seen.{text_of};
+ghost use Rattle.walrus.specs.Contents.View.{lent};
 ghost use Rattle.walrus_edits.specs.ItemSteps.{IsNameOf, PutsAll, name_told};
 ghost use Rattle.walrus_edits.specs.ItemValues.{all_names, named, names_in, type_names_in};
 
 use crate::records::{Tells, put_byte, put_number, tell_all};
 use std::alloc::{AllocError, Global};
 use std::result;
-use walrus_base::ModuleTypes;
-use walrus_contents::Parts;
+use walrus::below::{Item, Items, Parts};
+use walrus::{Data, Element, Function, Memory, ModuleTypes, Table, Tag};
 use walrus_edit_list::numbers::{
     NAME, OF_DATA, OF_ELEMENT, OF_FUNCTION, OF_GLOBAL, OF_MEMORY, OF_MODULE, OF_TABLE, OF_TAG,
     OF_TYPE,
 };
-use walrus_items::{Data, Element, Function, Item, Items, Memory, Table, Tag};
 use wasm_forms::{WireError, write_name};
 
 /// A name, what it is the name of, and that one's place.

@@ -1,8 +1,8 @@
 //! What is told of producers and of custom sections.
 
 ghost use Rattle.std.specs.Prelude.{◌≡◌, ◌++◌, IfOk, OnOk, map, not};
-ghost use Rattle.wasm_frames.specs.Record.{custom_record};
-ghost use Rattle.walrus_model.specs.Sections.{is_apart};
+ghost use Rattle.walrus.specs.Frames.Record.{custom_record};
+ghost use Rattle.walrus.specs.Model.Sections.{is_apart};
 ghost use Rattle.walrus_producers.specs.Seen.{fields_seen, values_seen};
 ghost use Rattle.walrus_edits.specs.ItemSteps.{PutsAll, custom_told, producer_told};
 ghost use Rattle.walrus_edits.specs.ItemValues.{customs_from, producers_in, producers_of, with_ids};

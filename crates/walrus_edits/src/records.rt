@@ -1,7 +1,7 @@
 //! Records that tell of items: a byte, a size and so many bytes. docs/FORMATS.md has their forms.
 
 ghost use Rattle.std.specs.Prelude.{◌≡◌, ◌∷◌, [], map};
-ghost use Rattle.wasm_forms.specs.Spelling.{block_bytes, number_bytes};
+ghost use Rattle.walrus.specs.Forms.Spelling.{block_bytes, number_bytes};
 ghost use Rattle.wasm_forms.specs.Writing.{Adds, FitsLength};
 ghost use Rattle.walrus_edits.specs.ItemSteps.{PutsAll};
 ghost use Rattle.walrus_edits.specs.ItemRecords.{PayloadFits, Told, ToldFits, number_of, payload, told_bytes};

@@ -1,10 +1,10 @@
 //! What is told of the entries of sections.
 
 ghost use Rattle.std.specs.Prelude.{◌≡◌, IfOk, map, zip};
-ghost use Rattle.wasm_forms.specs.Spelling.{row_bytes, vector_bytes};
+ghost use Rattle.walrus.specs.Forms.Spelling.{row_bytes, vector_bytes};
 ghost use Rattle.wasm_forms.specs.Writing.{Adds, EachFits, FitsVector};
 ghost use Rattle.wasm_entries.specs.Record.{data_entry, data_mode, element_entry, element_mode, export_entry, expression, global_entry, group, import_entry, items_of, table_entry};
-ghost use Rattle.wasm_frames.specs.Record.{body_record};
+ghost use Rattle.walrus.specs.Frames.Record.{body_record};
 ghost use Rattle.walrus_edits.specs.ItemSteps.{defined_told};
 ghost use Rattle.walrus_edits.specs.ItemValues.{functions_in};
 ghost use Rattle.walrus_edits.specs.ItemRecords.{AGlobal, AGroup, AMemory, ASegment, ATable, ATag, AnElement, AnExport, AnImport, Brought, DataModeFits, ElementModeFits, ElementsFit, InitialFits, SizedFits, TheStart, data_mode_bytes, element_mode_bytes, elements_bytes, initial_bytes, sized, table_of};

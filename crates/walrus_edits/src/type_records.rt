@@ -3,10 +3,8 @@
 ghost use Rattle.walrus_edits.specs.TypeRecords.{GroupsTypes};
 
 use std::alloc::Global;
-use walrus_base::ModuleTypes;
-use walrus_code::{IdsToIndices, Numbering};
+use walrus::{Error, IdsToIndices, ModuleTypes, Numbering, Result};
 use walrus_groups::index_types;
-use walrus_items::{Error, Result};
 use wasm_entries::RawGroup;
 
 /// The groups of a module's types, each under the index of its place, by rising id.

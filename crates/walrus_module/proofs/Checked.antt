@@ -32,7 +32,7 @@ use Rattle.walrus_model.proofs.Living.{AllLive, all_live}
 use Rattle.walrus_model.proofs.Spaces.{live_to}
 use Rattle.walrus_base.proofs.Standing.{some_inj}
 use Rattle.walrus_items.specs.declared.error.Error.{Error}
-use Rattle.walrus_items.specs.declared.error.Error.TheVariants.{DeadItem, Memory, NoIndex, TooLarge, TwoIndices}
+use Rattle.walrus_items.specs.declared.error.Error.TheVariants.{DeadItem, InvalidWasm, Memory, NoIndex, TooLarge, TwoIndices}
 use Rattle.walrus_base.proofs.Counting.{no_longer}
 use Rattle.walrus_theorem.proofs.NoCause.{two}
 use Rattle.walrus_theorem.specs.WellMade.{IsCounted}
@@ -42,7 +42,10 @@ use Rattle.walrus_plan.specs.Refusals.{RefusesPlan}
 use Rattle.walrus_plan.specs.declared.prepared.Prepared.{Prepared}
 use Rattle.walrus_plan.proofs.RefusesPlanned.{lacks_none}
 use Rattle.walrus_writing.proofs.RefusesLarge.{too_many_items}
-use Rattle.walrus_module.specs.Check.{PassesCheck, RefusesCheck}
+use Rattle.walrus_module.specs.Check.{IsFlaw, PassesCheck, RefusesCheck}
+use Rattle.walrus_module.specs.Flaws.{error_of_flaw}
+use Rattle.walrus_module.specs.declared.flaw.Flaw.{Flaw}
+use Rattle.walrus_module.specs.declared.flaw.Flaw.TheVariants.{Form, Rule}
 use Rattle.walrus_module.specs.Tested.{KeepsRules, KindDeclaresFew, forms_are_spelled}
 use Rattle.walrus_module.proofs.CountedBodies.{held_counted}
 use Rattle.walrus_model.proofs.Deciding.{all_so}
@@ -51,17 +54,23 @@ use Rattle.walrus_module.proofs.FormsTested.{const_heaps_fine, consts_fine, heap
 
 -- ---- refusals of what is called
 
-pub live_refused : (v : Abstract) (e : Error) → IsRefusal (HasDead v) e → RefusesCheck v e
+pub live_refused : (v : Abstract) (e : Error) → IsRefusal (HasDead v) e → IsFlaw v (Form e)
 live_refused v (Memory m) h = tt
 live_refused v DeadItem h = h
 live_refused v _ h = absurd h
 
-pub plan_refused : (p : Parts) (e : Error) → RefusesPlan p e → RefusesCheck (parts_view p) e
+pub plan_refused : (p : Parts) (e : Error) → RefusesPlan p e → IsFlaw (parts_view p) (Form e)
 plan_refused p (Memory m) h = tt
 plan_refused p TwoIndices h = h
 plan_refused p NoIndex h = h
 plan_refused p TooLarge h = λ c. too_many_items c p [] [] h.2
 plan_refused p _ h = absurd h
+
+-- what is wrong is a cause of the error that stands for it
+pub flaw_refused : (v : Abstract) (f : Flaw) → IsFlaw v f → RefusesCheck v (error_of_flaw f)
+flaw_refused v (Rule rule) h = (rule, h)
+flaw_refused v (Form (InvalidWasm kind)) h = absurd h
+flaw_refused v (Form _) h = h
 
 -- ---- types
 

@@ -28,6 +28,7 @@ pub mod Checked
 pub mod CheckedWell
 pub mod FirstRaw
 pub mod RawStays
+mod TakenRaws
 pub use Rattle.walrus_bodies.proofs.LawNamed
 pub use Rattle.walrus_bodies.proofs.MoreNames
 pub use Rattle.walrus_reading.proofs.AllHeld

@@ -29,9 +29,10 @@ use Rattle.walrus_model.specs.Abstract as abstract
 use Rattle.walrus_model.specs.Abstract.{Abstract}
 use Rattle.walrus_model.specs.Names.{body_of_function, body_of_kind}
 use Rattle.walrus_base.proofs.Standing.{some_inj}
-use Rattle.walrus_model.specs.Rules.{ExportsHold, FunctionTypesHold, IsAtMost, IsEmptyFunctionType, IsExponent, IsFunctionComp, IsFunctionType, LimitsHold, MaximumIsAtMost, MemoryHolds}
+use Rattle.walrus_model.specs.Rules.{FunctionTypesHold, IsAtMost, IsEmptyFunctionType, IsExponent, IsFunctionComp, IsFunctionType, LimitsHold, MaximumIsAtMost, MemoryHolds}
 use Rattle.walrus_model.proofs.NestedBack.{blocks_fine, function_def}
 use Rattle.walrus_plan.proofs.ReadsBefore.{each_passes}
+use Rattle.walrus_module.specs.Check.{NamesAreApart, StartHolds}
 use Rattle.walrus_module.specs.Tested.{AreNamedApart, function_blocks_hold, function_is_empty, function_is_typed, is_at_most, is_empty_comp, is_empty_def, is_exponent, is_nothing, kind_blocks_hold, maximum_is_at_most, memory_is_limited, most_pages, pages_are_few, start_is_empty, table_is_limited, tag_is_typed}
 use Rattle.walrus_model.proofs.Deciding.{decides_by, leb_decides, passed, passes}
 use Rattle.walrus_module.proofs.NamesApart.{mapped_pairs, unmapped_pairs}
@@ -203,9 +204,6 @@ module _ (c : Contents) where
 
   -- ---- exports and the start function
 
-  abbrev StartHolds : Type 0
-  StartHolds = (i : ℕ) (f : abstract.Function) → V.start ≡ Some i → V.functions i ≡ Some f → IsEmptyFunctionType V f.ty
-
   start_at : (o : Option FunctionValue) → Decides (function_is_empty c.types o) ((f : abstract.Function) → option_map (function c.locals) o ≡ Some f → IsEmptyFunctionType V f.ty)
   start_at None = (λ e f at. absurd (let no : ◌≡◌ {A = Option abstract.Function} None (Some f) = at in cc), λ h. refl)
   start_at (Some x) = (
@@ -223,14 +221,14 @@ module _ (c : Contents) where
   abbrev Other : abstract.Export → abstract.Export → Type 0
   Other d e = d.name ≢ e.name
 
-  pub exports_hold : start_is_empty c.types (functions c.funcs) (option_map place c.start) ≡ true → AreNamedApart (items (exports c.exports)) → ExportsHold V
-  exports_hold s h = record {
-    distinct = mapped_pairs export_of Other (items (exports c.exports)) h;
-    start = (start_of (option_map place c.start)).0 s;
-  }
+  pub start_holds : start_is_empty c.types (functions c.funcs) (option_map place c.start) ≡ true → StartHolds V
+  start_holds e = (start_of (option_map place c.start)).0 e
 
-  pub start_kept : ExportsHold V → start_is_empty c.types (functions c.funcs) (option_map place c.start) ≡ true
-  start_kept rules = (start_of (option_map place c.start)).1 rules.start
+  pub start_kept : StartHolds V → start_is_empty c.types (functions c.funcs) (option_map place c.start) ≡ true
+  start_kept rule = (start_of (option_map place c.start)).1 rule
 
-  pub names_kept : ExportsHold V → AreNamedApart (items (exports c.exports))
-  names_kept rules = unmapped_pairs export_of Other (items (exports c.exports)) rules.distinct
+  pub names_hold : AreNamedApart (items (exports c.exports)) → NamesAreApart V
+  names_hold h = mapped_pairs export_of Other (items (exports c.exports)) h
+
+  pub names_kept : NamesAreApart V → AreNamedApart (items (exports c.exports))
+  names_kept rule = unmapped_pairs export_of Other (items (exports c.exports)) rule

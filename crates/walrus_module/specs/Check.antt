@@ -5,17 +5,21 @@ use Rattle.walrus_base.specs.Operators.{Space, Functions, Item, Op}
 use Rattle.walrus_items.specs.declared.custom.CustomSection.{Ghosts}
 use Rattle.walrus_items.specs.declared.error.Error.{Error}
 use Rattle.walrus_items.specs.declared.error.Error.TheVariants.{Memory, InvalidWasm, DeadItem, NoIndex, TwoIndices, TooLarge, NotWritable}
-use Rattle.walrus_model.specs.Abstract.{Abstract, Body, Custom, Function, LocalFunction}
+use Rattle.wasm_wire.specs.declared.rules.broken.BrokenRule.{BrokenRule}
+use Rattle.wasm_wire.specs.declared.rules.broken.BrokenRule.TheVariants as rules
+use Rattle.walrus_model.specs.Abstract.{Abstract, Body, Custom, Export, Function, LocalFunction}
 use Rattle.walrus_model.specs.Config.{Config}
 use Rattle.walrus_model.specs.Dead.{HasDead}
 use Rattle.walrus_model.specs.Live.{Has}
 use Rattle.walrus_model.specs.Order.{ByImport}
-use Rattle.walrus_model.specs.Rules.{ExportsHold, FunctionTypesHold, LimitsHold, LocalsHold, OffsetsHold, RulesHold}
+use Rattle.walrus_model.specs.Rules.{FunctionTypesHold, IsEmptyFunctionType, LimitsHold, LocalsHold, OffsetsHold, RulesHold}
 use Rattle.walrus_model.specs.WellMade.{consts_in, heaps_in, op_heaps}
 use Rattle.walrus_theorem.specs.Refused.{HasTwoIndices, HasUnspelled, LacksIndex, PassesLimits}
 use Rattle.walrus_theorem.specs.WellMade.{IsWellFormed, IsWellMade}
 use Rattle.walrus_module.specs.View.{view, held_view}
 use Rattle.walrus_module.specs.declared.entry.SectionEntry.{SectionEntry}
+use Rattle.walrus_module.specs.declared.flaw.Flaw.{Flaw}
+use Rattle.walrus_module.specs.declared.flaw.Flaw.TheVariants.{Form, Rule}
 use Rattle.walrus_module.specs.declared.module.Module.{Module}
 
 -- All that is named is there, each item can be given one index, which 32 bits hold, bytes spell all that stands outside bodies, and the rules hold.
@@ -30,13 +34,27 @@ pub record PassesCheck (v : Abstract) : Type 0 where
   pub consts : (x : Item) (ops : List Op) → Contains (consts_in v x) ops → ops ≢ []
   pub rules : RulesHold (ByImport v) v
 
+-- no two exports have the same name
+abbrev pub NamesAreApart : Abstract → Type 0
+NamesAreApart v = AllPairs (λ (d : Export) (e : Export). d.name ≢ e.name) v.exports
+
+-- the start function has neither parameters nor results
+abbrev pub StartHolds : Abstract → Type 0
+StartHolds v = (i : ℕ) (f : Function) → v.start ≡ Some i → v.functions i ≡ Some f → IsEmptyFunctionType v f.ty
+
+-- This rule is broken. Those that aren't named here no module in memory breaks, or a check says in other words that they are.
+abbrev pub Breaks : BrokenRule → Abstract → Type 0
+Breaks rules.FunctionTypes v = FunctionTypesHold v → ⊥
+Breaks rules.Limits v = LimitsHold v → ⊥
+Breaks rules.ExportNames v = NamesAreApart v → ⊥
+Breaks rules.Start v = StartHolds v → ⊥
+Breaks rules.Offsets v = OffsetsHold v → ⊥
+Breaks rules.Locals v = LocalsHold v → ⊥
+Breaks _ v = ⊥
+
 -- a rule is broken: on the types of functions, tags and blocks, on limits, on exports and the start function, on offsets, or on the number of locals
-pub data BreaksRule (v : Abstract) : Type 0 where
-  FunctionTypes : (FunctionTypesHold v → ⊥) → BreaksRule v
-  Limits : (LimitsHold v → ⊥) → BreaksRule v
-  Exports : (ExportsHold v → ⊥) → BreaksRule v
-  Offsets : (OffsetsHold v → ⊥) → BreaksRule v
-  Locals : (LocalsHold v → ⊥) → BreaksRule v
+abbrev pub BreaksRule : Abstract → Type 0
+BreaksRule v = (rule : BrokenRule) × Breaks rule v
 
 -- refused only with a cause, which is emission's own where no rule is broken
 abbrev pub RefusesCheck : Abstract → Error → Type 0
@@ -48,6 +66,12 @@ RefusesCheck v NoIndex = LacksIndex v
 RefusesCheck v NotWritable = (c : Config) → HasUnspelled c v
 RefusesCheck v TooLarge = (c : Config) → PassesLimits c v
 RefusesCheck v _ = ⊥
+
+-- what is wrong: the rule that is broken, or the cause beside the rules for which a check refuses
+abbrev pub IsFlaw : Abstract → Flaw → Type 0
+IsFlaw v (Rule rule) = Breaks rule v
+IsFlaw v (Form (InvalidWasm kind)) = ⊥
+IsFlaw v (Form e) = RefusesCheck v e
 
 -- ---- the law
 

@@ -11,6 +11,11 @@ module _ {V : Type 0} {O : V → Type 0} where
   raw_of (Raw s) = Some s
   raw_of (Boxed b) = None
 
+  -- the raw section, if one is there
+  abbrev pub raw_in : Option (SectionEntry V O) → Option RawCustomSection
+  raw_in None = None
+  raw_in (Some e) = raw_of e
+
   -- a raw section of this name
   abbrev pub names_raw : List ℕ → SectionEntry V O → Bool
   names_raw name (Raw s) = bytes_eq (string_bytes s.name) name

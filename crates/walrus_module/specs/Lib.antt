@@ -6,6 +6,7 @@ pub mod Edits
 pub mod Emission
 pub mod Entry
 pub mod Flags
+pub mod Flaws
 pub mod Following
 pub mod Imported
 pub mod Laws

@@ -39,8 +39,10 @@ use Rattle.walrus_items.specs.Memories.{MemoryValue}
 use Rattle.walrus_items.specs.Tables.{TableValue, tables}
 use Rattle.walrus_items.specs.Tags.{TagValue}
 use Rattle.walrus_contents.specs.declared.parts.Contents.{Contents}
+use Rattle.wasm_wire.specs.declared.rules.broken.BrokenRule.{BrokenRule}
 use Rattle.walrus_model.specs.Abstract.{Abstract}
 use Rattle.walrus_model.specs.Rules.{ExportsHold, FunctionTypesHold, LimitsHold, LocalsHold, OffsetsHold}
+use Rattle.walrus_module.specs.Check.{Breaks}
 
 -- ---- types of functions, tags and blocks
 
@@ -282,3 +284,8 @@ pub record KeepsRules (v : Abstract) : Type 0 where
   pub exports : ExportsHold v
   pub offsets : OffsetsHold v
   pub locals : LocalsHold v
+
+-- no rule is broken, or the one that is named
+abbrev pub Judges : Abstract → Option BrokenRule → Type 0
+Judges v None = KeepsRules v
+Judges v (Some rule) = Breaks rule v

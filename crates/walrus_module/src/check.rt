@@ -1,15 +1,16 @@
 //! Whether a module may be written, told before bytes go out ("Validation > Modules").
-ghost use Rattle.std.specs.Prelude.{MatchResult, IfOk, true, false, ◌≡◌};
+ghost use Rattle.std.specs.Prelude.{MatchResult, IfOk};
 ghost use Rattle.std.specs.Bool.{Decides};
 ghost use Rattle.walrus_contents.specs.View.{parts_view};
 ghost use Rattle.walrus_model.specs.Dead.{HasDead};
-ghost use Rattle.walrus_model.specs.Rules.{ExportsHold, FunctionTypesHold, LimitsHold, OffsetsHold};
-ghost use Rattle.walrus_module.specs.Check.{BreaksRule, PassesCheck, RefusesCheck};
-ghost use Rattle.walrus_module.specs.Tested.{KeepsRules};
+ghost use Rattle.walrus_model.specs.Rules.{FunctionTypesHold, LimitsHold, OffsetsHold};
+ghost use Rattle.walrus_module.specs.Check.{IsFlaw, NamesAreApart, PassesCheck, RefusesCheck, StartHolds};
+ghost use Rattle.walrus_module.specs.Tested.{Judges};
 ghost use Rattle.walrus_module.specs.View.{held_view};
 
 use crate::declared::do_all_declare_few;
 use crate::exported::{are_exports_apart, is_start_empty};
+use crate::flaw::Flaw;
 use crate::limits::{are_memories_limited, are_tables_limited};
 use crate::module::Module;
 use crate::offsets::{are_data_placed, are_elements_placed};
@@ -18,10 +19,11 @@ use crate::typed::{are_functions_typed, are_tags_typed, do_all_blocks_hold};
 use std::alloc::{AllocError, Global};
 use std::result;
 use walrus_contents::{Parts, check_live};
-use walrus_items::{Error, ErrorKind, Result};
+use walrus_items::{Error, Result};
 use walrus_plan::prepare;
+use wasm_wire::BrokenRule;
 
-impl Module {
+impl<S> Module<S> {
     /// Whether the module may be written, for who edits without proofs: that all that is named is there, that each item can be given one index,
     /// that bytes spell each type and each constant expression, and that the rules of a module hold. Nothing is written and nothing changes; custom
     /// sections aren't asked, and whether bodies are well formed isn't looked at. What passes is well made where its bodies are well formed
@@ -37,26 +39,39 @@ impl Module {
         ensures { MatchResult result (λ _. PassesCheck (held_view self.now))
             (RefusesCheck (held_view self.now)) }
     {
-        check_parts(alloc, self.parts())
+        Ok(self.diagnose(alloc)?)
+    }
+
+    /// The same as [`check`](Module::check), which tells the rule that is broken.
+    ///
+    /// # Errors
+    ///
+    /// The rule, one of `FunctionTypes`, `Limits`, `ExportNames`, `Start`, `Offsets` and `Locals`, or the cause beside them, each only where it is so. Which
+    /// of several is open.
+    pub fn diagnose(&self, alloc: Global) -> result::Result<(), Flaw>
+        ensures { MatchResult result (λ _. PassesCheck (held_view self.now))
+            (IsFlaw (held_view self.now)) }
+    {
+        diagnose_parts(alloc, self.parts())
     }
 }
 
 // The same of parts.
-fn check_parts(alloc: Global, parts: Parts<'_>) -> Result<()>
+fn diagnose_parts(alloc: Global, parts: Parts<'_>) -> result::Result<(), Flaw>
     ensures { MatchResult result (λ _. PassesCheck (parts_view parts.entry))
-        (RefusesCheck (parts_view parts.entry)) }
+        (IsFlaw (parts_view parts.entry)) }
 {
     check_live(alloc, parts)?;
     let prepared = prepare(alloc, parts)?;
     drop(prepared);
     if !are_forms_spelled(parts) {
-        return Err(Error::NotWritable);
+        return Err(Flaw::Form(Error::NotWritable));
     }
-    let kept = are_rules_kept(alloc, parts)?;
-    if !kept {
-        return Err(Error::InvalidWasm(ErrorKind::InvalidWasm));
+    let broken = broken_rule(alloc, parts)?;
+    match broken {
+        None => Ok(()),
+        Some(rule) => Err(Flaw::Rule(rule)),
     }
-    Ok(())
 }
 
 // Whether functions, tags and blocks have function types.
@@ -83,17 +98,6 @@ fn are_limits_kept(parts: Parts<'_>) -> bool
     are_memories_limited(parts.memories)
 }
 
-// Whether exports have names of their own, and the start function takes and gives nothing.
-fn are_exports_kept(alloc: Global, parts: Parts<'_>) -> result::Result<bool, AllocError>
-    ensures { IfOk result (λ kept. Decides kept (ExportsHold (parts_view parts.entry))) }
-{
-    if !is_start_empty(parts) {
-        return Ok(false);
-    }
-    let apart = are_exports_apart(alloc, parts.exports)?;
-    Ok(apart)
-}
-
 // Whether the offsets of active segments are addresses.
 fn are_offsets_kept(parts: Parts<'_>) -> bool
     ensures { Decides result (OffsetsHold (parts_view parts.entry)) }
@@ -104,26 +108,46 @@ fn are_offsets_kept(parts: Parts<'_>) -> bool
     are_data_placed(parts)
 }
 
-// Whether all of these rules are kept, and that no body declares too many locals.
-fn are_rules_kept(alloc: Global, parts: Parts<'_>) -> result::Result<bool, AllocError>
+// Whether the start function takes and gives nothing.
+fn is_start_kept(parts: Parts<'_>) -> bool
+    ensures { Decides result (StartHolds (parts_view parts.entry)) }
+{
+    is_start_empty(parts)
+}
+
+// Whether exports have names of their own.
+fn are_names_kept(alloc: Global, parts: Parts<'_>) -> result::Result<bool, AllocError>
+    ensures { IfOk result (λ kept. Decides kept (NamesAreApart (parts_view parts.entry))) }
+{
+    let apart = are_exports_apart(alloc, parts.exports)?;
+    Ok(apart)
+}
+
+// Which of these rules is broken, the number of locals that a body declares among them.
+fn broken_rule(alloc: Global, parts: Parts<'_>) -> result::Result<Option<BrokenRule>, AllocError>
     requires there { HasDead (parts_view parts) → ⊥ }
-    ensures kept { IfOk result (λ kept. kept ≡ true → KeepsRules (parts_view parts.entry)) }
-    ensures broken { IfOk result (λ kept. kept ≡ false → BreaksRule (parts_view parts.entry)) }
+    ensures { IfOk result (Judges (parts_view parts.entry)) }
 {
     if !are_limits_kept(parts) {
-        return Ok(false);
+        return Ok(Some(BrokenRule::Limits));
     }
     if !are_offsets_kept(parts) {
-        return Ok(false);
+        return Ok(Some(BrokenRule::Offsets));
     }
     let typed = are_types_kept(parts)?;
     if !typed {
-        return Ok(false);
+        return Ok(Some(BrokenRule::FunctionTypes));
     }
-    let apart = are_exports_kept(alloc, parts)?;
+    if !is_start_kept(parts) {
+        return Ok(Some(BrokenRule::Start));
+    }
+    let apart = are_names_kept(alloc, parts)?;
     if !apart {
-        return Ok(false);
+        return Ok(Some(BrokenRule::ExportNames));
     }
     let few = do_all_declare_few(alloc, parts.funcs)?;
-    Ok(few)
+    if !few {
+        return Ok(Some(BrokenRule::Locals));
+    }
+    Ok(None)
 }

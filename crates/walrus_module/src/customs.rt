@@ -6,12 +6,12 @@ ghost use Rattle.std.specs.Borrow.{sem};
 ghost use Rattle.std.specs.Iterator.{YieldsFirstBy, item_count};
 ghost use Rattle.walrus_base.specs.Arena.{IsLive, item_at, entries, live_places};
 ghost use Rattle.walrus_base.specs.Id.{place};
-ghost use Rattle.walrus_module.specs.Entry.{names_raw, raw_of};
+ghost use Rattle.walrus_module.specs.Entry.{names_raw, raw_in, raw_of};
 ghost use Rattle.walrus_items.specs.Errors.{out_of_memory};
 
 use crate::entry::SectionEntry;
 use std::alloc::Global;
-use walrus_base::{ArenaIter, CustomSectionKey, TombstoneArena, UntypedCustomSectionId};
+use walrus_base::{ArenaIter, CustomSectionKey, Id, TombstoneArena, UntypedCustomSectionId};
 use walrus_items::{RawCustomSection, Result};
 
 // Whether the section is a raw one of this name.
@@ -21,6 +21,16 @@ fn is_raw_named(entry: &SectionEntry, name: &str) -> bool
     match entry {
         SectionEntry::Raw(section) => section.name.as_str() == name,
         SectionEntry::Boxed(_) => false,
+    }
+}
+
+// The raw section, if one is there.
+fn raw_in(entry: Option<SectionEntry>) -> Option<RawCustomSection>
+    ensures { result ≡ raw_in entry }
+{
+    match entry? {
+        SectionEntry::Raw(section) => Some(section),
+        SectionEntry::Boxed(_) => None,
     }
 }
 
@@ -113,11 +123,8 @@ impl ModuleCustomSections {
     ghost use Rattle.walrus_module.specs.Customs.{sections};
     ghost use Rattle.walrus_module.specs.Raws.{first_raw, raw_sections, without_first};
 
-    // These sections, kept as they were read, in their order. Want of memory is the only refusal.
-    pub(crate) fn keeping(
-        alloc: Global,
-        raws: Vec<RawCustomSection>,
-    ) -> Result<ModuleCustomSections>
+    /// These sections, kept as they were read, in their order: each gets the id of its place. `Memory` is the only error.
+    pub fn keeping(alloc: Global, raws: Vec<RawCustomSection>) -> Result<ModuleCustomSections>
         ensures kept { IfOk result (λ all. sections all ≡ raw_sections raws.items) }
         ensures fails { IsOkUnless result out_of_memory }
     {
@@ -126,6 +133,21 @@ impl ModuleCustomSections {
             all.add(SectionEntry::Raw(raw))?;
         }
         Ok(all)
+    }
+
+    /// The sections that were kept as they were read, each at the place of its id. None stands where one is of a caller's own, or where none is there.
+    /// Takes memory once; `Memory` is the only error.
+    pub fn into_raws(self, alloc: Global) -> Result<Vec<Option<RawCustomSection>>>
+        ensures taken { IfOk result (λ raws. raws.items ≡ map raw_in (sections self)) }
+        ensures fails { IsOkUnless result out_of_memory }
+    {
+        let mut all = self;
+        let places = all.arena.next_id().index();
+        let mut raws = Vec::with_capacity(alloc, places)?;
+        'places: for place in 0..places {
+            raws.push(raw_in(all.delete(Id::at(place))))?;
+        }
+        Ok(raws)
     }
 
     /// Takes the first raw section of this name out, if there is one.

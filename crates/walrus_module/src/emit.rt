@@ -120,7 +120,9 @@ impl Module {
         self.elements.add(ElementKind::Declared, items)?;
         Ok(())
     }
+}
 
+impl<S> Module<S> {
     /// The parts of the module, lent: all that it holds but its custom sections.
     pub fn parts(&self) -> Parts<'_>
         ensures { parts_view result ≡ held_view self.now }

@@ -2,7 +2,8 @@
 
 use std::test::Fail;
 use test_support::{demand, is_text};
-use walrus_tools::{Beginning, Fault, beginning_of, fault_words};
+use walrus_sections::{Beginning, beginning_of};
+use walrus_tools::{Fault, fault_words};
 
 // Whether the bytes begin so.
 fn is(bytes: &[u8], wanted: Beginning) -> bool {

@@ -3,7 +3,7 @@
 use std::alloc::Global;
 use std::test::Fail;
 use test_support::demand;
-use walrus_tools::{Choice, are_choices, goes, read_choices};
+use walrus_sections::{Choice, are_choices, goes, read_choices};
 
 // A name, a text, and whether they fit.
 const FITTING: [(&[u8], &[u8], bool); 26] = [

@@ -3,7 +3,8 @@
 use std::alloc::Global;
 use std::test::Fail;
 use test_support::{bytes_of, demand, demand_bytes, is_text};
-use walrus_tools::{Choice, Result, Wanted, gc_chosen, unfit};
+use walrus_sections::Choice;
+use walrus_tools::{Result, Wanted, gc_chosen, unfit};
 
 const PLAIN: Wanted = Wanted {
     names: true,

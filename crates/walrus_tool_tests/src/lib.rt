@@ -1,4 +1,4 @@
-//! Tests of `walrus_tools`: each call on a small module whose bytes were worked out by hand, and on bytes that it refuses.
+//! Tests of `walrus_tools` and `walrus_examples`: each call on a small module whose bytes were worked out by hand, and on bytes that it refuses.
 //! And what no clause says: that its definitions mean what people take them for.
 //!
 //! Read first: `src/samples.rt` (the callers) and `src/choice_samples.rt` (names with stars).

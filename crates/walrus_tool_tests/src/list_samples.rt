@@ -3,9 +3,10 @@
 use std::alloc::Global;
 use std::test::Fail;
 use test_support::{bytes_of, demand, demand_bytes, is_name, is_text};
+use walrus_sections::Choice;
 use walrus_tools::{
-    Choice, Exported, Imported, Listed, Result, Wanted, dropped, dropped_list, export_list,
-    exports, function_list, import_list, imports, item_index, item_word, list,
+    Exported, Imported, Listed, Result, Wanted, dropped, dropped_list, export_list, exports,
+    function_list, import_list, imports, item_index, item_word, list,
 };
 
 const PLAIN: Wanted = Wanted {

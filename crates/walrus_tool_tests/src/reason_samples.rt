@@ -3,9 +3,10 @@
 use std::alloc::Global;
 use std::test::Fail;
 use test_support::{bytes_of, demand, demand_bytes, is_name, is_text};
+use walrus_sections::Choice;
 use walrus_tools::{
-    Alone, Choice, Link, Reason, Root, Wanted, caller_list, callers, item_index, item_word,
-    reason_list, why,
+    Alone, Link, Reason, Root, Wanted, caller_list, callers, item_index, item_word, reason_list,
+    why,
 };
 
 const PLAIN: Wanted = Wanted {

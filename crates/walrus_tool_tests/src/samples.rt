@@ -3,10 +3,11 @@
 use std::alloc::Global;
 use std::test::Fail;
 use test_support::{bytes_of, demand, demand_bytes, is_name, is_text};
-use walrus_tools::{
-    Result, Wanted, count_calls, fault, gc, keep_listed, moves, rename_export, shrink, snip_export,
-    stub_module, why_with_sizes, with_export, with_metadata, with_places,
+use walrus_examples::{
+    count_calls, keep_listed, moves, rename_export, shrink, snip_export, stub_module,
+    why_with_sizes, with_export, with_metadata, with_places,
 };
+use walrus_tools::{Result, Wanted, fault, gc};
 
 // Fails where a caller refused, or answered with other bytes than these.
 fn demand_output(

@@ -3,7 +3,8 @@
 use std::alloc::Global;
 use std::test::Fail;
 use test_support::{bytes_of, demand, demand_bytes, is_text};
-use walrus_tools::{Choice, Item, Part, Result, part_list, section_list, section_parts, strip};
+use walrus_sections::{Choice, Item, Part, part_list, section_list, section_parts, strip};
+use walrus_tools::Result;
 
 // Fails where a caller refused, or answered with other bytes than these.
 fn demand_output(

@@ -3,8 +3,9 @@
 use std::alloc::Global;
 use std::test::Fail;
 use test_support::{bytes_of, demand, demand_bytes, is_text};
+use walrus_sections::Choice;
 use walrus_tools::{
-    Choice, Kinds, Meant, Smaller, Wanted, Weighed, gc_counted, report, report_lines, rest_of,
+    Kinds, Meant, Smaller, Wanted, Weighed, gc_counted, report, report_lines, rest_of,
     snip_counted, stub_counted,
 };
 

@@ -4,36 +4,36 @@ use Rattle.std.proofs.Common.{◌≡◌, ◌≢◌, ◌==◌, ℕ, Bool, true, f
 use Rattle.std.specs.Prelude.{◌<◌, ◌≤◌, ◌↔◌, IsSome, is_some}
 use Rattle.std.proofs.lemmas.Bool.{cases_lt, eqb-true, eq-eqb}
 use Rattle.std.proofs.lemmas.List.{get_or_past, set-get_or}
-use Rattle.walrus_base.specs.Arena.{IsLive as IsLiveAt, item_at}
-use Rattle.walrus_base.specs.Id.{place}
-use Rattle.walrus_base.specs.IdSet.{has_id}
-use Rattle.walrus_base.specs.Marks.{is_marked, mark_places}
-use Rattle.walrus_base.specs.Operators.{Types, Functions, Tables, Memories, Tags, Globals, Elements, DataSegments, Item, function_item}
-use Rattle.walrus_base.specs.declared.id.Id.{Id}
-use Rattle.walrus_base.specs.declared.keys.FunctionKey.{FunctionKey}
-use Rattle.walrus_base.specs.declared.keys.TypeKey.{TypeKey}
-use Rattle.walrus_base.specs.declared.marks.Marks.{Marks}
-use Rattle.walrus_base.proofs.Lookups.{still_some}
-use Rattle.walrus_base.proofs.Standing.{some_inj, was_some}
-use Rattle.walrus_contents.specs.View.{body, contents_view, function, functions_of, handlers_at, name_at, named_of}
-use Rattle.walrus_contents.specs.declared.parts.Contents.{Contents}
-use Rattle.walrus_items.specs.Function.{function_type}
-use Rattle.walrus_items.specs.Functions.{FunctionValue, ModuleFunctions, functions}
-use Rattle.walrus_items.specs.LocalFunction.{LocalFunction}
-use Rattle.walrus_items.specs.declared.custom.CustomSection.{Ghosts}
-use Rattle.walrus_items.specs.declared.function_kind.FunctionKind.{FunctionKind}
-use Rattle.walrus_items.specs.declared.function_kind.FunctionKind.TheVariants.{Local}
-use Rattle.walrus_model.specs.Abstract as abstract
-use Rattle.walrus_model.specs.Abstract.{Abstract, Name, Subject, TheModule, AnItem, ALocal}
-use Rattle.walrus_model.specs.Kept.{Kept}
-use Rattle.walrus_model.specs.Reached.{Reached}
-use Rattle.walrus_model.proofs.PipelineCollected.{left_is_kept, reached_out as left_reached}
-use Rattle.walrus_module.specs.View.{contents_of, held_view, locations_of, view}
-use Rattle.walrus_module.specs.declared.entry.SectionEntry.{SectionEntry}
-use Rattle.walrus_module.specs.declared.module.Module.{Module}
-use Rattle.walrus_reading.proofs.EditedSlots.{set_elsewhere, set_here}
-use Rattle.walrus_writing.specs.Parts.{local_in}
-use Rattle.walrus_writing.specs.Transform.{locations_in}
+use Rattle.walrus.specs.Base.Arena.{IsLive as IsLiveAt, item_at}
+use Rattle.walrus.specs.Base.Id.{place}
+use Rattle.walrus.specs.Base.IdSet.{has_id}
+use Rattle.walrus.specs.Base.Marks.{is_marked, mark_places}
+use Rattle.walrus.specs.Base.Operators.{Types, Functions, Tables, Memories, Tags, Globals, Elements, DataSegments, Item, function_item}
+use Rattle.walrus.specs.Base.IdValue.{Id}
+use Rattle.walrus.specs.Base.FunctionKey.{FunctionKey}
+use Rattle.walrus.specs.Base.TypeKey.{TypeKey}
+use Rattle.walrus.specs.Base.MarksValue.{Marks}
+use Rattle.walrus.proofs.Base.Lookups.{still_some}
+use Rattle.walrus.proofs.Base.Standing.{some_inj, was_some}
+use Rattle.walrus.specs.Contents.View.{body, contents_view, function, functions_of, handlers_at, name_at, named_of}
+use Rattle.walrus.specs.Contents.Contents.{Contents}
+use Rattle.walrus.specs.Items.Function.{function_type}
+use Rattle.walrus.specs.Items.Functions.{FunctionValue, ModuleFunctions, functions}
+use Rattle.walrus.specs.Items.LocalFunction.{LocalFunction}
+use Rattle.walrus.specs.Items.CustomSection.{Ghosts}
+use Rattle.walrus.specs.Items.FunctionKind.{FunctionKind}
+use Rattle.walrus.specs.Items.FunctionKind.TheVariants.{Local}
+use Rattle.walrus.specs.Model.Abstract as abstract
+use Rattle.walrus.specs.Model.Abstract.{Abstract, Name, Subject, TheModule, AnItem, ALocal}
+use Rattle.walrus.specs.Model.Kept.{Kept}
+use Rattle.walrus.specs.Model.Reached.{Reached}
+use Rattle.walrus.proofs.Model.PipelineCollected.{left_is_kept, reached_out as left_reached}
+use Rattle.walrus.specs.Modules.View.{contents_of, held_view, locations_of, view}
+use Rattle.walrus.specs.Modules.SectionEntry.{SectionEntry}
+use Rattle.walrus.specs.Modules.Module.{Module}
+use Rattle.walrus.proofs.Modules.EditedSlots.{set_elsewhere, set_here}
+use Rattle.walrus.specs.Modules.Parts.{local_in}
+use Rattle.walrus.specs.Modules.Transform.{locations_in}
 use Rattle.walrus.specs.Collected.{Collects}
 use Rattle.walrus.specs.Marked.{ReachesUnsound}
 use Rattle.walrus.specs.Used.{FindsUsed}

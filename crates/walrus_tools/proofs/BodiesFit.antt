@@ -5,18 +5,18 @@ use Rattle.std.specs.List.{sum_by}
 use Rattle.std.proofs.lemmas.Bool.{eq-eqb, eqb-true}
 use Rattle.std.proofs.lemmas.List.Filters.{sum_by-filter_both}
 use Rattle.std.proofs.lemmas.List.Sums.{sum_by-cons}
-use Rattle.wasm_frames.specs.Frames.{Frames, header}
-use Rattle.wasm_frames.specs.Record as wire
-use Rattle.walrus_base.specs.Operators.{Functions}
-use Rattle.walrus_base.proofs.Filters.{in_filter}
-use Rattle.walrus_base.proofs.Lists.{Contains-head, Contains-none, Contains-tail, Contains-uncons}
-use Rattle.walrus_code.specs.Transform.{Transform}
-use Rattle.walrus_model.specs.Abstract.{Abstract, Function}
-use Rattle.walrus_model.specs.Config.{Config}
-use Rattle.walrus_model.specs.Names.{body_of_function}
-use Rattle.walrus_model.specs.Transform.{IsBodyOf, IsTransform, no_transform}
-use Rattle.walrus_model.proofs.RisingLists.{Rises, first_below, later_rise}
-use Rattle.walrus_writing.specs.Transform.{CountStandsAt, IsTransformOf, imported_functions}
+use Rattle.walrus.specs.Frames.Frames.{Frames, header}
+use Rattle.walrus.specs.Frames.Record as wire
+use Rattle.walrus.specs.Base.Operators.{Functions}
+use Rattle.walrus.proofs.Base.Filters.{in_filter}
+use Rattle.walrus.proofs.Base.Lists.{Contains-head, Contains-none, Contains-tail, Contains-uncons}
+use Rattle.walrus.specs.Code.Transform.{Transform}
+use Rattle.walrus.specs.Model.Abstract.{Abstract, Function}
+use Rattle.walrus.specs.Model.Config.{Config}
+use Rattle.walrus.specs.Model.Names.{body_of_function}
+use Rattle.walrus.specs.Model.Transform.{IsBodyOf, IsTransform, no_transform}
+use Rattle.walrus.proofs.Model.RisingLists.{Rises, first_below, later_rise}
+use Rattle.walrus.specs.Modules.Transform.{CountStandsAt, IsTransformOf, imported_functions}
 use Rattle.walrus_tools.specs.Alone.{bytes_of, size_of}
 use Rattle.walrus_tools.proofs.BodiesRise.{Within, framed_within}
 

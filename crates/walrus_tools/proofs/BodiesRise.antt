@@ -1,12 +1,12 @@
 -- The bodies that bytes frame stand one behind another.
 use Rattle.std.proofs.Common.{◌≡◌, ℕ, zero, suc, ◌+◌, ◌<◌, ◌≤◌, List, [], ◌∷◌, ◌++◌, length, sym, ap, ◌∙◌, subst, arith, inl, inr, length-append}
 use Rattle.std.specs.Prelude.{Some, slice_get}
-use Rattle.wasm_frames.specs.Record as wire
-use Rattle.wasm_frames.specs.Frames.{Section, CustomSection, Types, Imports, Functions, Tables, Memories, Globals, Exports, Start, Elements, Code, DataSegments, DataCount, Tags, AreBodies, IsSection, AreSections, with_section, gathered_onto, Frames}
-use Rattle.walrus_base.specs.Operators.{Op}
-use Rattle.walrus_base.proofs.Standing.{some_inj}
-use Rattle.walrus_base.proofs.Agree.{Compared, compared}
-use Rattle.walrus_tools.specs.Moves.{StandsIn}
+use Rattle.walrus.specs.Frames.Record as wire
+use Rattle.walrus.specs.Frames.Frames.{Section, CustomSection, Types, Imports, Functions, Tables, Memories, Globals, Exports, Start, Elements, Code, DataSegments, DataCount, Tags, AreBodies, IsSection, AreSections, with_section, gathered_onto, Frames}
+use Rattle.walrus.specs.Base.Operators.{Op}
+use Rattle.walrus.proofs.Base.Standing.{some_inj}
+use Rattle.walrus.proofs.Base.Agree.{Compared, compared}
+use Rattle.walrus_tools.specs.Stands.{StandsIn}
 use Rattle.walrus_tools.proofs.PlacedOps.{begins_within}
 
 -- the bodies stand one behind another from p on, and end by q

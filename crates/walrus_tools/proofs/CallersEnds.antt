@@ -1,17 +1,17 @@
 -- All that gc leaves is sound, so that its items are looked through with no refusal but want of memory.
 use Rattle.std.proofs.Common.{◌≡◌, ℕ, List, Option, sym, ap, ◌∙◌, subst, inl, inr}
 use Rattle.std.specs.Prelude.{IsSome}
-use Rattle.walrus_base.specs.Operators.{Space, Types, Functions, Tables, Memories, Tags, Globals, Elements, DataSegments, Item}
-use Rattle.walrus_contents.specs.There.{IsSound}
-use Rattle.walrus_items.specs.declared.custom.CustomSection.{Ghosts}
-use Rattle.walrus_model.specs.Abstract.{Abstract}
-use Rattle.walrus_model.specs.Kept.{Kept}
-use Rattle.walrus_model.specs.Live.{Has, IsLive}
-use Rattle.walrus_model.specs.Pipeline.{Collected}
-use Rattle.walrus_model.proofs.PipelineCollected.{left_is_kept}
-use Rattle.walrus_module.specs.View.{held_view, view}
-use Rattle.walrus_module.specs.declared.entry.SectionEntry.{SectionEntry}
-use Rattle.walrus_module.specs.declared.module.Module.{Module}
+use Rattle.walrus.specs.Base.Operators.{Space, Types, Functions, Tables, Memories, Tags, Globals, Elements, DataSegments, Item}
+use Rattle.walrus.specs.Contents.There.{IsSound}
+use Rattle.walrus.specs.Items.CustomSection.{Ghosts}
+use Rattle.walrus.specs.Model.Abstract.{Abstract}
+use Rattle.walrus.specs.Model.Kept.{Kept}
+use Rattle.walrus.specs.Model.Live.{Has, IsLive}
+use Rattle.walrus.specs.Model.Pipeline.{Collected}
+use Rattle.walrus.proofs.Model.PipelineCollected.{left_is_kept}
+use Rattle.walrus.specs.Modules.View.{held_view, view}
+use Rattle.walrus.specs.Modules.SectionEntry.{SectionEntry}
+use Rattle.walrus.specs.Modules.Module.{Module}
 use Rattle.walrus.specs.Collected.{Collects}
 use Rattle.walrus.specs.Marked.{ReachesSound}
 use Rattle.walrus_tools.specs.Callers.{AreCallers, HasUnsound}

@@ -5,29 +5,29 @@ use Rattle.std.specs.List.{list_any}
 use Rattle.std.proofs.lemmas.Bool.{cases_lt, eq-eqb, eqb-true}
 use Rattle.std.proofs.lemmas.List.Elements.{Contains-get_or, Contains-push, Contains-push_cases}
 use Rattle.std.proofs.lemmas.List.Quantifiers.{all_pairs_push}
-use Rattle.walrus_base.specs.Arena.{IsLive as IsLiveAt, item_at}
-use Rattle.walrus_base.specs.Operators.{Space, Types, Functions, Tables, Memories, Tags, Globals, Elements, DataSegments, Item, type_item}
-use Rattle.walrus_base.specs.PlaceList.{has}
-use Rattle.walrus_base.specs.TypeDef.{TypeDef}
-use Rattle.walrus_base.specs.TypeSlots.{group_at, group_of, last_of}
-use Rattle.walrus_base.specs.Whole.{AreWhole}
-use Rattle.walrus_base.proofs.Lists.{Contains-append_1, Contains-head, Contains-none, Contains-tail, Contains-uncons}
-use Rattle.walrus_base.proofs.ShapesEnd.{has_contained}
-use Rattle.walrus_base.proofs.Standing.{some_inj, some_of}
-use Rattle.walrus_code.specs.Code.{item_of}
-use Rattle.walrus_code.specs.declared.items.ItemId.{ItemId}
-use Rattle.walrus_code.specs.declared.items.ItemId.TheVariants as ids
-use Rattle.walrus_contents.specs.Named.{NamesItself, group_names}
-use Rattle.walrus_contents.specs.There.{IsRefusal, IsSound}
-use Rattle.walrus_contents.proofs.ExportedRefs.{contained_has}
-use Rattle.walrus_contents.proofs.Groups.{own_refers, refers_split}
-use Rattle.walrus_items.specs.Items.{is_item, space_number}
-use Rattle.walrus_items.specs.declared.error.Error.{Error}
-use Rattle.walrus_items.specs.declared.error.Error.TheVariants as error
-use Rattle.walrus_items.proofs.ItemLemmas.{is_item-same, same-is_item}
-use Rattle.walrus_model.specs.Abstract.{Abstract}
-use Rattle.walrus_model.specs.Live.{IsLive}
-use Rattle.walrus_model.specs.Refers.{Refers, named_by}
+use Rattle.walrus.specs.Base.Arena.{IsLive as IsLiveAt, item_at}
+use Rattle.walrus.specs.Base.Operators.{Space, Types, Functions, Tables, Memories, Tags, Globals, Elements, DataSegments, Item, type_item}
+use Rattle.walrus.specs.Base.PlaceList.{has}
+use Rattle.walrus.specs.Base.TypeDef.{TypeDef}
+use Rattle.walrus.specs.Base.TypeSlots.{group_at, group_of, last_of}
+use Rattle.walrus.specs.Base.Whole.{AreWhole}
+use Rattle.walrus.proofs.Base.Lists.{Contains-append_1, Contains-head, Contains-none, Contains-tail, Contains-uncons}
+use Rattle.walrus.proofs.Base.ShapesEnd.{has_contained}
+use Rattle.walrus.proofs.Base.Standing.{some_inj, some_of}
+use Rattle.walrus.specs.Code.Code.{item_of}
+use Rattle.walrus.specs.Code.ItemId.{ItemId}
+use Rattle.walrus.specs.Code.ItemId.TheVariants as ids
+use Rattle.walrus.specs.Contents.Named.{NamesItself, group_names}
+use Rattle.walrus.specs.Contents.There.{IsRefusal, IsSound}
+use Rattle.walrus.proofs.Contents.ExportedRefs.{contained_has}
+use Rattle.walrus.proofs.Contents.Groups.{own_refers, refers_split}
+use Rattle.walrus.specs.Items.Items.{is_item, space_number}
+use Rattle.walrus.specs.Items.Error.{Error}
+use Rattle.walrus.specs.Items.Error.TheVariants as error
+use Rattle.walrus.proofs.Items.ItemLemmas.{is_item-same, same-is_item}
+use Rattle.walrus.specs.Model.Abstract.{Abstract}
+use Rattle.walrus.specs.Model.Live.{IsLive}
+use Rattle.walrus.specs.Model.Refers.{Refers, named_by}
 use Rattle.walrus_tools.specs.Callers.{AddsIfCaller, AreCallers, CallersBefore, CallersThrough, HasUnsound, IsBefore, IsPastSpace}
 
 pub untrue : false ≡ true → ⊥

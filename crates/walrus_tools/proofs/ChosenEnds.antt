@@ -1,28 +1,28 @@
 -- Chosen exports, of a module in memory and from bytes to bytes.
 use Rattle.std.proofs.Common.{◌≡◌, ℕ, true, false, List, Option, Some, None, refl, sym, ap, subst}
 use Rattle.std.specs.Prelude.{is_some, Ok, Err}
-use Rattle.walrus_model.specs.Abstract.{Abstract}
-use Rattle.walrus_model.specs.Config.{Config}
-use Rattle.walrus_model.proofs.Looked.{got_contains}
-use Rattle.walrus_items.specs.Exports.{ExportValue, exports}
-use Rattle.walrus_items.specs.declared.custom.CustomSection.{Ghosts}
-use Rattle.walrus_items.specs.declared.error.Error.{Error}
-use Rattle.walrus_items.specs.declared.error.Error.TheVariants as error
-use Rattle.walrus_module.specs.Parsed.{IsParsed, RefusesBytes}
-use Rattle.walrus_module.specs.View.{contents_of, held_view, view}
-use Rattle.walrus_module.specs.declared.entry.SectionEntry.{SectionEntry}
-use Rattle.walrus_module.specs.declared.module.Module.{Module}
-use Rattle.walrus_tools.specs.Choice.{Choice}
-use Rattle.walrus_tools.specs.ExportChoice.{EachFits, IsChosen, OneFitsNone, TellsUnfit}
+use Rattle.walrus.specs.Model.Abstract.{Abstract}
+use Rattle.walrus.specs.Model.Config.{Config}
+use Rattle.walrus.proofs.Model.Looked.{got_contains}
+use Rattle.walrus.specs.Items.Exports.{ExportValue, exports}
+use Rattle.walrus.specs.Items.CustomSection.{Ghosts}
+use Rattle.walrus.specs.Items.Error.{Error}
+use Rattle.walrus.specs.Items.Error.TheVariants as error
+use Rattle.walrus.specs.Modules.Parsed.{IsParsed, RefusesBytes}
+use Rattle.walrus.specs.Modules.View.{contents_of, held_view, view}
+use Rattle.walrus.specs.Modules.SectionEntry.{SectionEntry}
+use Rattle.walrus.specs.Modules.Module.{Module}
+use Rattle.walrus_sections.specs.Choice.{Choice}
+use Rattle.walrus_sections.specs.ExportChoice.{EachFits, IsChosen, OneFitsNone, TellsUnfit}
 use Rattle.walrus_tools.specs.ChosenModule.{AnswersChosen, AnswersUnfit, KeepsChosen, KeepsExports, KeepsIn, RefusesChosen}
 use Rattle.walrus.specs.Edits.{IsWhole}
 use Rattle.walrus_tools.specs.KeptExports.{KeepsNamed, export_names}
-use Rattle.walrus_tools.specs.NameLists.{IsChooser, IsPicked}
-use Rattle.walrus_tools.specs.declared.chooser.Chooser.{Chooser}
-use Rattle.walrus_tools.proofs.Choosers.{picked}
+use Rattle.walrus_sections.specs.NameLists.{IsChooser, IsPicked}
+use Rattle.walrus_sections.specs.declared.chooser.Chooser.{Chooser}
+use Rattle.walrus_sections.proofs.Choosers.{picked}
 use Rattle.walrus.proofs.EditEnds.{plain_read}
 use Rattle.walrus_tools.proofs.KeptWhole.{kept_whole}
-use Rattle.walrus_tools.proofs.LookUps.{untrue}
+use Rattle.std.proofs.lemmas.Bool.{false≢true as untrue}
 use Rattle.walrus_tools.proofs.NamedExports.{keeps_alike}
 
 -- ---- whether each choice fits

@@ -1,12 +1,12 @@
 -- Imports that are chosen: which are marked, and what each brings.
 use Rattle.std.proofs.Common.{◌≡◌, ℕ, ◌<◌, Bool, true, false, List, length, Option, Some, None, Ok, Err, refl, sym, ◌∙◌, subst, ⊎_elim}
-use Rattle.walrus_base.specs.Arena.{item_at}
-use Rattle.walrus_base.specs.Marks.{is_marked}
-use Rattle.walrus_base.specs.declared.keys.ImportKey.{ImportKey}
-use Rattle.walrus_base.proofs.Standing.{some_of}
-use Rattle.walrus_items.specs.Imports.{ImportValue, imported_function}
-use Rattle.walrus_items.specs.declared.error.Error.TheVariants as error
-use Rattle.walrus_tools.specs.Choice.{Choice}
+use Rattle.walrus.specs.Base.Arena.{item_at}
+use Rattle.walrus.specs.Base.Marks.{is_marked}
+use Rattle.walrus.specs.Base.ImportKey.{ImportKey}
+use Rattle.walrus.proofs.Base.Standing.{some_of}
+use Rattle.walrus.specs.Items.Imports.{ImportValue, imported_function}
+use Rattle.walrus.specs.Items.Error.TheVariants as error
+use Rattle.walrus_sections.specs.Choice.{Choice}
 use Rattle.walrus_tools.specs.MarkSteps.{Meets}
 use Rattle.walrus_tools.specs.Stub.{BringsFunction}
 use Rattle.walrus_tools.specs.StubMatching.{AreChosen, ChosenAt, HitFunctions, IsChosen, MarksChosen}

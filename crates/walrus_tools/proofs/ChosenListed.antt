@@ -2,36 +2,36 @@
 use Rattle.std.proofs.Common.{◌≡◌, ℕ, false, List, Option, Some, ap, ◌∙◌, flat_map, sym, subst}
 use Rattle.std.specs.Prelude.{Err, Ok, map, option_map}
 use Rattle.std.specs.Global.{Vec}
-use Rattle.walrus_base.specs.Arena.{item_at, items}
-use Rattle.walrus_base.specs.IdSet.{has_id}
-use Rattle.walrus_base.specs.Operators.{Functions}
-use Rattle.walrus_base.proofs.Standing.{some_inj}
-use Rattle.walrus_model.specs.Abstract.{Abstract, Import}
-use Rattle.walrus_model.specs.Config.{Config}
-use Rattle.walrus_model.specs.Kept.{IsImportOf, Kept}
-use Rattle.walrus_items.specs.Exports.{exports}
-use Rattle.walrus_items.specs.Functions.{functions}
-use Rattle.walrus_items.specs.Imports.{ImportValue, imports}
-use Rattle.walrus_items.specs.Kinds.{imported}
-use Rattle.walrus_items.specs.declared.custom.CustomSection.{Ghosts}
-use Rattle.walrus_items.specs.declared.error.Error.{Error}
-use Rattle.walrus_items.specs.declared.error.Error.TheVariants as error
-use Rattle.walrus_items.specs.declared.raw_section.RawCustomSection.{RawCustomSection}
-use Rattle.walrus_contents.specs.View.{import_of}
-use Rattle.walrus_module.specs.Asked.{OneMayRefuse}
-use Rattle.walrus_module.specs.Customs.{sections}
-use Rattle.walrus_module.specs.Flags.{Flags, config_of}
-use Rattle.walrus_module.specs.Parsed.{IsParsed, RefusesBytes}
-use Rattle.walrus_module.specs.Raws.{raw_sections}
-use Rattle.walrus_module.specs.Settings.{settings}
-use Rattle.walrus_module.specs.View.{contents_of, meanings, view}
-use Rattle.walrus_module.specs.declared.entry.SectionEntry.{SectionEntry}
-use Rattle.walrus_module.specs.declared.module.Module.{Module}
+use Rattle.walrus.specs.Base.Arena.{item_at, items}
+use Rattle.walrus.specs.Base.IdSet.{has_id}
+use Rattle.walrus.specs.Base.Operators.{Functions}
+use Rattle.walrus.proofs.Base.Standing.{some_inj}
+use Rattle.walrus.specs.Model.Abstract.{Abstract, Import}
+use Rattle.walrus.specs.Model.Config.{Config}
+use Rattle.walrus.specs.Model.Kept.{IsImportOf, Kept}
+use Rattle.walrus.specs.Items.Exports.{exports}
+use Rattle.walrus.specs.Items.Functions.{functions}
+use Rattle.walrus.specs.Items.Imports.{ImportValue, imports}
+use Rattle.walrus.specs.Items.Kinds.{imported}
+use Rattle.walrus.specs.Items.CustomSection.{Ghosts}
+use Rattle.walrus.specs.Items.Error.{Error}
+use Rattle.walrus.specs.Items.Error.TheVariants as error
+use Rattle.walrus.specs.Items.RawCustomSection.{RawCustomSection}
+use Rattle.walrus.specs.Contents.View.{import_of}
+use Rattle.walrus.specs.Modules.Asked.{OneMayRefuse}
+use Rattle.walrus.specs.Modules.Customs.{sections}
+use Rattle.walrus.specs.Modules.Flags.{Flags, config_of}
+use Rattle.walrus.specs.Modules.Parsed.{IsParsed, RefusesBytes}
+use Rattle.walrus.specs.Modules.Raws.{raw_sections}
+use Rattle.walrus.specs.Modules.Settings.{settings}
+use Rattle.walrus.specs.Modules.View.{contents_of, meanings, view}
+use Rattle.walrus.specs.Modules.SectionEntry.{SectionEntry}
+use Rattle.walrus.specs.Modules.Module.{Module}
 use Rattle.walrus.specs.Collected.{Collects}
 use Rattle.walrus.specs.Marked.{MarksKept, ReachesUnsound}
 use Rattle.walrus.specs.Used.{RefusesSearch}
 use Rattle.walrus.specs.declared.passes.used.Used.{Used}
-use Rattle.walrus_tools.specs.Choice.{Choice}
+use Rattle.walrus_sections.specs.Choice.{Choice}
 use Rattle.walrus_tools.specs.ChosenModule.{KeepsChosen, KeepsIn, RefusesChosen, RefusesExports}
 use Rattle.walrus_tools.specs.DroppedList.{AnswersDropped, dropped_of, functions_among}
 use Rattle.walrus.specs.Edited.{Edited, edited_view}
@@ -40,12 +40,12 @@ use Rattle.walrus.specs.Ends.{Answers}
 use Rattle.walrus_tools.specs.ExportList.{AnswersExports, export_told, exported_seen}
 use Rattle.walrus_tools.specs.FunctionList.{listed_seen, names_in}
 use Rattle.walrus_tools.specs.ImportList.{AnswersImports, import_told, imported_seen}
+use Rattle.walrus_sections.specs.PartList.{AnswersParts}
+use Rattle.walrus_sections.specs.Parts.{HasParts, part_record}
 use Rattle.walrus.specs.Ready.{IsReady}
-use Rattle.walrus_tools.specs.PartList.{AnswersParts}
-use Rattle.walrus_tools.specs.Parts.{HasParts, part_record}
 use Rattle.walrus_tools.specs.Those.{AreThose}
-use Rattle.walrus_tools.specs.declared.parts.Item.{Item}
-use Rattle.walrus_tools.specs.declared.parts.Part.{Part as RawPart}
+use Rattle.walrus_sections.specs.declared.parts.Item.{Item}
+use Rattle.walrus_sections.specs.declared.parts.Part.{Part as RawPart}
 use Rattle.walrus_tools.specs.declared.tool.exports.Exported.{Exported}
 use Rattle.walrus_tools.specs.declared.tool.imports.Imported.{Imported}
 use Rattle.walrus_tools.specs.declared.tool.list.Listed.{Listed}

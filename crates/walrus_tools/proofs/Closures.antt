@@ -2,28 +2,28 @@
 use Rattle.std.proofs.Common.{ℕ, List, Option, Some, None, Result, Ok, Err, inl, inr}
 use Rattle.std.specs.Borrow.{Bor, MutBor}
 use Rattle.std.specs.Global.{Vec}
-use Rattle.walrus_base.specs.Arena.{item_at}
-use Rattle.walrus_base.specs.Id.{place}
-use Rattle.walrus_base.specs.declared.id.Id.{Id}
-use Rattle.walrus_base.specs.declared.keys.FunctionKey.{FunctionKey}
-use Rattle.walrus_base.specs.declared.keys.ImportKey.{ImportKey}
-use Rattle.walrus_base.specs.declared.keys.LocalKey.{LocalKey}
-use Rattle.walrus_base.specs.declared.keys.TypeKey.{TypeKey}
-use Rattle.walrus_base.specs.ModuleTypes.{type_slots}
-use Rattle.walrus_base.specs.Operators.{function_item}
-use Rattle.walrus_base.specs.TypeDef.{TypeDef}
-use Rattle.walrus_items.specs.Function.{function_type}
-use Rattle.walrus_items.specs.LocalFunction.{LocalFunction}
-use Rattle.walrus_ir.specs.declared.sequence.InstrSeqBuilder.{InstrSeqBuilder}
-use Rattle.walrus_items.specs.declared.error.Error.{Error}
-use Rattle.walrus_items.specs.declared.function_kind.FunctionKind.{FunctionKind}
-use Rattle.walrus_items.specs.declared.function_kind.FunctionKind.TheVariants.{Import, Local, Uninitialized}
-use Rattle.walrus_items.specs.Exports.{ExportValue, exports, exports_item}
-use Rattle.walrus_items.specs.Functions.{FunctionValue, functions}
-use Rattle.walrus_items.specs.Imports.{ImportValue, imported_function, imports}
-use Rattle.walrus_items.specs.Searches.{first}
-use Rattle.walrus_module.specs.Replaced.{Builds, IsBuilt, IsNew, MakesBroughtLocal, MakesImportedLocal, MakesKindLocal, MakesLocal, MakesSlotLocal, ReplacesExported, ReplacesFound, ReplacesImport, ReplacesKind}
-use Rattle.walrus_module.specs.declared.module.Module.{Module}
+use Rattle.walrus.specs.Base.Arena.{item_at}
+use Rattle.walrus.specs.Base.Id.{place}
+use Rattle.walrus.specs.Base.IdValue.{Id}
+use Rattle.walrus.specs.Base.FunctionKey.{FunctionKey}
+use Rattle.walrus.specs.Base.ImportKey.{ImportKey}
+use Rattle.walrus.specs.Base.LocalKey.{LocalKey}
+use Rattle.walrus.specs.Base.TypeKey.{TypeKey}
+use Rattle.walrus.specs.Base.ModuleTypes.{type_slots}
+use Rattle.walrus.specs.Base.Operators.{function_item}
+use Rattle.walrus.specs.Base.TypeDef.{TypeDef}
+use Rattle.walrus.specs.Items.Function.{function_type}
+use Rattle.walrus.specs.Items.LocalFunction.{LocalFunction}
+use Rattle.walrus.specs.Ir.InstrSeqBuilder.{InstrSeqBuilder}
+use Rattle.walrus.specs.Items.Error.{Error}
+use Rattle.walrus.specs.Items.FunctionKind.{FunctionKind}
+use Rattle.walrus.specs.Items.FunctionKind.TheVariants.{Import, Local, Uninitialized}
+use Rattle.walrus.specs.Items.Exports.{ExportValue, exports, exports_item}
+use Rattle.walrus.specs.Items.Functions.{FunctionValue, functions}
+use Rattle.walrus.specs.Items.Imports.{ImportValue, imported_function, imports}
+use Rattle.walrus.specs.Items.Searches.{first}
+use Rattle.walrus.specs.Modules.Replaced.{Builds, IsBuilt, IsNew, MakesBroughtLocal, MakesImportedLocal, MakesKindLocal, MakesLocal, MakesSlotLocal, ReplacesExported, ReplacesFound, ReplacesImport, ReplacesKind}
+use Rattle.walrus.specs.Modules.Module.{Module}
 
 module _ (P Q : Builds) (weaker : (shown : MutBor InstrSeqBuilder) (given : Bor (Vec (Id LocalKey))) (answer : Result (Unit {0}) Error) (left : MutBor InstrSeqBuilder) → P shown given answer left → Q shown given answer left) where
   built_by : (args : List (Id LocalKey)) (answer : Result (Unit {0}) Error) (builder : InstrSeqBuilder) → IsBuilt P args answer builder → IsBuilt Q args answer builder

@@ -1,11 +1,11 @@
 -- What is wrong with bytes, by what reading them found.
 use Rattle.std.proofs.Common.{ℕ, List}
 use Rattle.std.specs.Prelude.{Option, Some, None}
-use Rattle.walrus_model.specs.Config.{Config}
-use Rattle.walrus_theorem.specs.Features.{features_of}
-use Rattle.walrus_theorem.proofs.ReadAccepted.{accepts_read_lem}
-use Rattle.walrus_reading.specs.Faults.{FindsFault}
-use Rattle.walrus_reading.specs.declared.faults.Fault.{Fault}
+use Rattle.walrus.specs.Model.Config.{Config}
+use Rattle.walrus.specs.Theorem.Features.{features_of}
+use Rattle.walrus.proofs.Theorem.ReadAccepted.{accepts_read_lem}
+use Rattle.walrus.specs.Modules.Faults.{FindsFault}
+use Rattle.walrus.specs.Modules.Fault.{Fault}
 use Rattle.walrus_tools.specs.Faults.{Finds}
 
 pub found_so : (c : Config) (bytes : List ℕ) (found : Option Fault) → FindsFault (features_of c) bytes found → Finds c bytes found

@@ -5,10 +5,10 @@ use Rattle.std.specs.List.{sum_by}
 use Rattle.std.proofs.lemmas.Bool.{cases_lt}
 use Rattle.std.proofs.lemmas.List.{get_or_past}
 use Rattle.std.proofs.lemmas.List.Sums.{sum_by-cons, sum_by_more_le}
-use Rattle.walrus_base.specs.Marks.{is_marked, mark_places}
-use Rattle.walrus_base.specs.declared.keys.FunctionKey.{FunctionKey}
-use Rattle.walrus_base.specs.declared.marks.Marks.{Marks}
-use Rattle.walrus_items.specs.Functions.{FunctionValue}
+use Rattle.walrus.specs.Base.Marks.{is_marked, mark_places}
+use Rattle.walrus.specs.Base.FunctionKey.{FunctionKey}
+use Rattle.walrus.specs.Base.MarksValue.{Marks}
+use Rattle.walrus.specs.Items.Functions.{FunctionValue}
 use Rattle.walrus_tools.specs.Alone.{bytes_of, size_of}
 use Rattle.walrus_tools.specs.AloneSteps.{MarksGoers, MarksIf, goes_at, size_if, size_where}
 

@@ -1,30 +1,30 @@
 -- In a well-made module an import of a function and that function name each other.
 use Rattle.std.proofs.Common.{◌≡◌, ℕ, Bool, true, false, cond, List, [], ◌∷◌, Option, Some, None, find, option_map, refl, sym, ap, ◌∙◌, subst, inl, inr}
 use Rattle.std.specs.Prelude.{Contains, ◌⊎◌}
-use Rattle.walrus_base.specs.Arena.{item_at}
-use Rattle.walrus_base.specs.Id.{place}
-use Rattle.walrus_base.specs.ModuleTypes.{type_slots}
-use Rattle.walrus_base.specs.Operators.{Functions, Item, function_item}
-use Rattle.walrus_base.specs.TypeDef.{TypeDef}
-use Rattle.walrus_base.specs.declared.locals.ModuleLocals.{ModuleLocals}
-use Rattle.walrus_model.specs.Abstract as abstract
-use Rattle.walrus_model.specs.Config.{Config}
-use Rattle.walrus_model.specs.WellMade.{import_in, kind_import, import_of as import_of_item}
-use Rattle.walrus_items.specs.FunctionKinds.{kind_type}
-use Rattle.walrus_items.specs.Kinds.{imported}
-use Rattle.walrus_items.specs.declared.function_kind.FunctionKind.{FunctionKind}
-use Rattle.walrus_items.specs.declared.function_kind.FunctionKind.TheVariants.{Import, Local, Uninitialized}
-use Rattle.walrus_items.specs.declared.function_kind.ImportedFunction.{ImportedFunction}
-use Rattle.walrus_items.specs.Functions.{FunctionValue, functions}
-use Rattle.walrus_items.specs.Imports.{ImportValue, imports}
-use Rattle.walrus_contents.specs.View.{contents_view, function, import_of, kind_of}
-use Rattle.walrus_contents.specs.declared.parts.Contents.{Contents}
-use Rattle.walrus_theorem.specs.WellMade.{IsWellMade}
-use Rattle.walrus_base.proofs.Lists.{Contains-none, Contains-uncons}
+use Rattle.walrus.specs.Base.Arena.{item_at}
+use Rattle.walrus.specs.Base.Id.{place}
+use Rattle.walrus.specs.Base.ModuleTypes.{type_slots}
+use Rattle.walrus.specs.Base.Operators.{Functions, Item, function_item}
+use Rattle.walrus.specs.Base.TypeDef.{TypeDef}
+use Rattle.walrus.specs.Base.ModuleLocals.{ModuleLocals}
+use Rattle.walrus.specs.Model.Abstract as abstract
+use Rattle.walrus.specs.Model.Config.{Config}
+use Rattle.walrus.specs.Model.WellMade.{import_in, kind_import, import_of as import_of_item}
+use Rattle.walrus.specs.Items.FunctionKinds.{kind_type}
+use Rattle.walrus.specs.Items.Kinds.{imported}
+use Rattle.walrus.specs.Items.FunctionKind.{FunctionKind}
+use Rattle.walrus.specs.Items.FunctionKind.TheVariants.{Import, Local, Uninitialized}
+use Rattle.walrus.specs.Items.ImportedFunction.{ImportedFunction}
+use Rattle.walrus.specs.Items.Functions.{FunctionValue, functions}
+use Rattle.walrus.specs.Items.Imports.{ImportValue, imports}
+use Rattle.walrus.specs.Contents.View.{contents_view, function, import_of, kind_of}
+use Rattle.walrus.specs.Contents.Contents.{Contents}
+use Rattle.walrus.specs.Theorem.WellMade.{IsWellMade}
+use Rattle.walrus.proofs.Base.Lists.{Contains-none, Contains-uncons}
 use Rattle.walrus_tools.proofs.StubTurn.{Theirs}
-use Rattle.walrus_theorem.proofs.EditKept.{none_isnt, some_is}
+use Rattle.walrus.proofs.Theorem.EditKept.{none_isnt, some_is}
 use Rattle.walrus_tools.specs.Stub.{import_place}
-use Rattle.walrus_base.proofs.ShapesKept.{made_of}
+use Rattle.walrus.proofs.Base.ShapesKept.{made_of}
 
 -- a search that finds nothing passes over nothing
 pub finds : {X : Type 0} (p : X → Bool) (xs : List X) (x : X) → Contains xs x → p x ≡ true → find p xs ≡ None → ⊥

@@ -3,19 +3,19 @@ use Rattle.std.proofs.Common.{◌≡◌, ◌≢◌, ◌+◌, ℕ, zero, suc, Lis
 use Rattle.std.specs.Prelude.{AllPairs, Contains, ⊤}
 use Rattle.std.proofs.lemmas.List.Elements.{All-contains, All-contains_itself}
 use Rattle.std.proofs.lemmas.List.Kept.{AllPairs-cons}
-use Rattle.walrus_base.specs.Arena.{entries_from, item_at, items}
-use Rattle.walrus_base.proofs.Lists.{Contains-head, Contains-tail, Contains-uncons}
-use Rattle.walrus_base.proofs.Standing.{some_inj}
-use Rattle.walrus_model.specs.Abstract.{Abstract, Export}
-use Rattle.walrus_model.specs.Config.{Config}
-use Rattle.walrus_model.specs.Roots.{exported}
-use Rattle.walrus_model.proofs.OrderOfPlaces.{pairs_head, pairs_tail}
-use Rattle.walrus_items.specs.Exports.{ExportValue}
-use Rattle.walrus_contents.specs.View.{export_of}
-use Rattle.walrus_theorem.specs.EditLaws.{StaysWhole}
-use Rattle.walrus_theorem.specs.WellMade.{IsWellMade}
-use Rattle.walrus_theorem.proofs.EditKept.{none_isnt}
-use Rattle.walrus_theorem.proofs.EditTops.{imports_still, tops_stay}
+use Rattle.walrus.specs.Base.Arena.{entries_from, item_at, items}
+use Rattle.walrus.proofs.Base.Lists.{Contains-head, Contains-tail, Contains-uncons}
+use Rattle.walrus.proofs.Base.Standing.{some_inj}
+use Rattle.walrus.specs.Model.Abstract.{Abstract, Export}
+use Rattle.walrus.specs.Model.Config.{Config}
+use Rattle.walrus.specs.Model.Roots.{exported}
+use Rattle.walrus.proofs.Model.OrderOfPlaces.{pairs_head, pairs_tail}
+use Rattle.walrus.specs.Items.Exports.{ExportValue}
+use Rattle.walrus.specs.Contents.View.{export_of}
+use Rattle.walrus.specs.Theorem.EditLaws.{StaysWhole}
+use Rattle.walrus.specs.Theorem.WellMade.{IsWellMade}
+use Rattle.walrus.proofs.Theorem.EditKept.{none_isnt}
+use Rattle.walrus.proofs.Theorem.EditTops.{imports_still, tops_stay}
 use Rattle.walrus_tools.specs.KeptExports.{KeepsNamed, StaysIf}
 
 -- ---- of what is left

@@ -1,26 +1,26 @@
 -- What is counted in memory: the items of a module, and those that gc leaves of them.
 use Rattle.std.proofs.Common.{◌≡◌, ℕ, List, Option, Some, None, length, inl, inr, refl, sym, subst}
 use Rattle.std.specs.Prelude.{IsSome, is_some}
-use Rattle.walrus_base.specs.Arena.{item_at}
-use Rattle.walrus_base.specs.Operators.{Item, Functions, Tables, Memories, Tags, Globals, Elements, DataSegments}
-use Rattle.walrus_base.proofs.Lookups.{still_some}
-use Rattle.walrus_base.proofs.Standing.{was_some}
-use Rattle.walrus_contents.specs.View.{data_of, element_of, function, global_of, memory_of, table_of, tag_of}
-use Rattle.walrus_items.specs.Data.{data_segments}
-use Rattle.walrus_items.specs.Elements.{elements}
-use Rattle.walrus_items.specs.Functions.{functions}
-use Rattle.walrus_items.specs.Globals.{globals}
-use Rattle.walrus_items.specs.Memories.{memories}
-use Rattle.walrus_items.specs.Tables.{tables}
-use Rattle.walrus_items.specs.Tags.{tags}
-use Rattle.walrus_items.specs.declared.custom.CustomSection.{Ghosts}
-use Rattle.walrus_model.specs.Abstract.{Abstract}
-use Rattle.walrus_model.specs.Kept.{Kept}
-use Rattle.walrus_model.specs.Live.{IsLive}
-use Rattle.walrus_module.specs.View.{contents_of, view}
-use Rattle.walrus_module.specs.declared.entry.SectionEntry.{SectionEntry}
-use Rattle.walrus_module.specs.declared.module.Module.{Module}
-use Rattle.walrus_theorem.specs.Report.{Counts}
+use Rattle.walrus.specs.Base.Arena.{item_at}
+use Rattle.walrus.specs.Base.Operators.{Item, Functions, Tables, Memories, Tags, Globals, Elements, DataSegments}
+use Rattle.walrus.proofs.Base.Lookups.{still_some}
+use Rattle.walrus.proofs.Base.Standing.{was_some}
+use Rattle.walrus.specs.Contents.View.{data_of, element_of, function, global_of, memory_of, table_of, tag_of}
+use Rattle.walrus.specs.Items.Data.{data_segments}
+use Rattle.walrus.specs.Items.Elements.{elements}
+use Rattle.walrus.specs.Items.Functions.{functions}
+use Rattle.walrus.specs.Items.Globals.{globals}
+use Rattle.walrus.specs.Items.Memories.{memories}
+use Rattle.walrus.specs.Items.Tables.{tables}
+use Rattle.walrus.specs.Items.Tags.{tags}
+use Rattle.walrus.specs.Items.CustomSection.{Ghosts}
+use Rattle.walrus.specs.Model.Abstract.{Abstract}
+use Rattle.walrus.specs.Model.Kept.{Kept}
+use Rattle.walrus.specs.Model.Live.{IsLive}
+use Rattle.walrus.specs.Modules.View.{contents_of, view}
+use Rattle.walrus.specs.Modules.SectionEntry.{SectionEntry}
+use Rattle.walrus.specs.Modules.Module.{Module}
+use Rattle.walrus.specs.Theorem.Report.{Counts}
 use Rattle.walrus.specs.Collected.{Collects, KeepsOnly}
 use Rattle.walrus.proofs.Marking.{below}
 use Rattle.walrus.proofs.ReportLemmas.{counted_below}

@@ -1,90 +1,47 @@
 mod AloneEnds
-mod Among
 mod BodiesFit
-mod BodiesRise
+pub mod BodiesRise
 mod BodySearch
-mod CallBody
-mod CallSound
 mod CallersEnds
 mod CallersTurn
-mod ChoiceLemmas
-mod ChoiceLists
-mod Choosers
 mod ChosenEnds
 mod ChosenImports
 mod ChosenListed
-mod Closures
-mod CountEnds
-mod CountRead
-mod CountStep
-mod CountTurn
-mod EachMoves
+pub mod Closures
+pub mod ExportedNames
 mod FaultEnds
-mod Fronts
-mod FunctionsThere
-mod GoingLists
 mod GoersTurn
-mod HookEnds
-mod HookSteps
-mod ImportMatches
+pub mod ImportMatches
 mod KeptWhole
 mod KindLemmas
 mod LineLemmas
 mod LinkLemmas
-mod ListedBytes
-mod ListedEnds
-mod ListedReached
-mod ListedWritten
-mod LookUps
 mod MarkLemmas
 mod MatchingEnds
 mod MeantLemmas
 mod MeantTexts
 mod MeantThere
-mod MeasuredEnds
-mod MetadataEnds
-mod MovesEnds
-mod MovesOnce
-mod MovesRuns
-mod MovesTrue
+pub mod MeasuredEnds
 mod NamedExports
 mod NoneChosen
-mod OneBeginning
-mod OneNumber
-mod PartItems
-mod PartListLemmas
-mod PartRows
 mod PartSizes
-mod PartText
-mod PlacedEnds
-mod PlacedOps
-mod PlacedSlots
-mod Places
+pub mod PlacedOps
+pub mod Places
 pub use Rattle.walrus.proofs.DeviceLemmas
-mod ReadBodies
-mod ReasonEnds
 mod ReasonSpelled
-pub mod Records
-mod RenameSteps
 mod RootLemmas
-mod SectionLemmas
-mod SectionsWritten
 mod SizeEnds
 mod SizeLemmas
-mod SnipCall
-mod SnipStep
 mod SpelledEnds
 mod Spellings
-mod Stars
-mod StripLemmas
-mod StubCall
+pub mod StubCall
 mod StubStep
 mod StubTurn
 mod ThoseLemmas
 mod TradeLemmas
 mod TrapBody
 mod TrapReached
-mod TrapSound
+pub mod TrapSound
 mod TrapTurn
 mod TrapWhole
 mod WeighEnds

@@ -1,18 +1,18 @@
 -- What is told of items: exports by what they export, and lists of links.
-use Rattle.std.proofs.Common.{◌≡◌, ℕ, ◌+◌, ◌<◌, Bool, true, false, cond, List, [], ◌∷◌, ◌++◌, length, map, filter, get_or, take, Option, Some, refl, sym, ap, ap₂, ◌∙◌, eqb-true}
+use Rattle.std.proofs.Common.{◌≡◌, ℕ, ◌+◌, Bool, true, false, cond, List, [], ◌∷◌, ◌++◌, map, filter, Option, Some, refl, sym, ap, ap₂, ◌∙◌, eqb-true}
 use Rattle.std.specs.Prelude.{if◌then◌else◌, nat_eq}
 use Rattle.std.specs.Borrow.{Bor}
 use Rattle.std.specs.Global.{Vec}
 use Rattle.std.specs.HashMap.{HashMap, get}
 use Rattle.std.proofs.lemmas.Bool.{and_parts as both}
-use Rattle.std.proofs.lemmas.List.{append-nil, map-append, map_more}
+use Rattle.std.proofs.lemmas.List.{append-nil, map-append}
 use Rattle.std.proofs.lemmas.List.Elements.{filter-append}
-use Rattle.walrus_base.specs.Operators.{Item}
-use Rattle.walrus_model.specs.Abstract.{Export, Name}
-use Rattle.walrus_contents.specs.View.{export_of}
-use Rattle.walrus_items.specs.Exports.{ExportValue}
-use Rattle.walrus_items.specs.Items.{is_item}
-use Rattle.walrus_items.specs.Kinds.{exported}
+use Rattle.walrus.specs.Base.Operators.{Item}
+use Rattle.walrus.specs.Model.Abstract.{Export, Name}
+use Rattle.walrus.specs.Contents.View.{export_of}
+use Rattle.walrus.specs.Items.Exports.{ExportValue}
+use Rattle.walrus.specs.Items.Items.{is_item}
+use Rattle.walrus.specs.Items.Kinds.{exported}
 use Rattle.walrus_tools.specs.LinkSteps.{GroupsExports, key_of, names_at, names_of, same_key, texts, texts_of}
 use Rattle.walrus_tools.specs.Links.{LinkTold}
 use Rattle.walrus_tools.specs.declared.export_groups.ExportGroups.{ExportGroups}

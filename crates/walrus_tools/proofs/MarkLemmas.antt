@@ -2,8 +2,8 @@
 use Rattle.std.proofs.Common.{◌≡◌, ℕ, ◌+◌, ◌<◌, ◌≤◌, true, refl, ◌∙◌, subst, inl, inr, ⊎_elim, arith}
 use Rattle.std.specs.Prelude.{◌⊎◌}
 use Rattle.std.proofs.lemmas.Bool.{cases_lt}
-use Rattle.walrus_base.specs.Marks.{is_marked}
-use Rattle.walrus_base.specs.declared.marks.Marks.{Marks}
+use Rattle.walrus.specs.Base.Marks.{is_marked}
+use Rattle.walrus.specs.Base.MarksValue.{Marks}
 use Rattle.walrus_tools.specs.MarkSteps.{Adds, Meets}
 use Rattle.walrus_tools.specs.declared.marks.Marking.{Marking}
 

@@ -1,22 +1,22 @@
 -- Chosen imports of which the functions trap, in a whole module.
 use Rattle.std.proofs.Common.{◌≡◌, ℕ, ◌+◌, ◌≤◌, Bool, true, false, List, length, Option, None, Result, Ok, Err, MatchResult, refl, sym, ap, ◌∙◌, subst, arith}
 use Rattle.std.proofs.lemmas.List.{get_or_past}
-use Rattle.walrus_base.specs.Arena.{item_at}
-use Rattle.walrus_base.specs.Id.{place}
-use Rattle.walrus_base.specs.Marks.{is_marked}
-use Rattle.walrus_base.specs.declared.id.Id.{Id}
-use Rattle.walrus_base.specs.declared.keys.FunctionKey.{FunctionKey}
-use Rattle.walrus_base.specs.declared.keys.ImportKey.{ImportKey}
-use Rattle.walrus_base.specs.declared.marks.Marks.{Marks}
-use Rattle.walrus_model.specs.Config.{Config}
-use Rattle.walrus_items.specs.Errors.{out_of_memory}
-use Rattle.walrus_items.specs.Imports.{ImportValue, imports}
-use Rattle.walrus_items.specs.declared.error.Error.{Error}
-use Rattle.walrus_theorem.proofs.EditKept.{none_isnt}
-use Rattle.walrus_module.specs.Replaced.{ReplacesImport}
-use Rattle.walrus_module.specs.View.{contents_of}
-use Rattle.walrus_module.specs.declared.module.Module.{Module}
-use Rattle.walrus_tools.specs.Choice.{Choice}
+use Rattle.walrus.specs.Base.Arena.{item_at}
+use Rattle.walrus.specs.Base.Id.{place}
+use Rattle.walrus.specs.Base.Marks.{is_marked}
+use Rattle.walrus.specs.Base.IdValue.{Id}
+use Rattle.walrus.specs.Base.FunctionKey.{FunctionKey}
+use Rattle.walrus.specs.Base.ImportKey.{ImportKey}
+use Rattle.walrus.specs.Base.MarksValue.{Marks}
+use Rattle.walrus.specs.Model.Config.{Config}
+use Rattle.walrus.specs.Items.Errors.{out_of_memory}
+use Rattle.walrus.specs.Items.Imports.{ImportValue, imports}
+use Rattle.walrus.specs.Items.Error.{Error}
+use Rattle.walrus.proofs.Theorem.EditKept.{none_isnt}
+use Rattle.walrus.specs.Modules.Replaced.{ReplacesImport}
+use Rattle.walrus.specs.Modules.View.{contents_of}
+use Rattle.walrus.specs.Modules.Module.{Module}
+use Rattle.walrus_sections.specs.Choice.{Choice}
 use Rattle.walrus.specs.Edits.{IsWhole}
 use Rattle.walrus_tools.specs.Stub.{BringsFunction}
 use Rattle.walrus_tools.specs.StubMatching.{AreChosen, HitFunctions, RefusesChosen, StubsChosen, StubsHits, StubsMatching, StubsThose}

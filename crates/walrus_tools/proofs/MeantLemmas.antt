@@ -2,15 +2,15 @@
 use Rattle.std.proofs.Common.{◌≡◌, ℕ, ◌<◌, ◌≤◌, true, false, List, length, Option, Some, None, IsSome, Result, Ok, Err, refl, sym, ap, ◌∙◌, subst, inl, inr, ⊎_elim}
 use Rattle.std.proofs.lemmas.Bool.{cases_lt}
 use Rattle.std.proofs.lemmas.List.{get_or_past}
-use Rattle.walrus_base.specs.Arena.{IsLive, item_at}
-use Rattle.walrus_base.specs.Id.{place}
-use Rattle.walrus_base.specs.declared.id.Id.{Id}
-use Rattle.walrus_base.specs.declared.keys.FunctionKey.{FunctionKey}
-use Rattle.walrus_base.specs.declared.marks.Marks.{Marks}
-use Rattle.walrus_items.specs.Exports.{ExportValue}
-use Rattle.walrus_items.specs.Functions.{FunctionValue}
-use Rattle.walrus_items.specs.declared.error.Error.{Error}
-use Rattle.walrus_items.specs.declared.error.Error.TheVariants as error
+use Rattle.walrus.specs.Base.Arena.{IsLive, item_at}
+use Rattle.walrus.specs.Base.Id.{place}
+use Rattle.walrus.specs.Base.IdValue.{Id}
+use Rattle.walrus.specs.Base.FunctionKey.{FunctionKey}
+use Rattle.walrus.specs.Base.MarksValue.{Marks}
+use Rattle.walrus.specs.Items.Exports.{ExportValue}
+use Rattle.walrus.specs.Items.Functions.{FunctionValue}
+use Rattle.walrus.specs.Items.Error.{Error}
+use Rattle.walrus.specs.Items.Error.TheVariants as error
 use Rattle.walrus_tools.specs.FunctionNames.{FindsCalled, function_called}
 use Rattle.walrus_tools.specs.MarkSteps.{Adds, IsExported, IsFitting, IsNamed, MarksFitting, MarksOne, MarksText, Meets, RefusesText}
 use Rattle.walrus_tools.specs.FunctionMeaning.{FitsExport, FitsFunction, Means, MeansBodies, by_index, by_name, by_star, has_body, has_star, SaysIndex, SaysNone}

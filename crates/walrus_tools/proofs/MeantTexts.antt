@@ -3,13 +3,13 @@ use Rattle.std.proofs.Common.{◌≡◌, ℕ, zero, suc, ◌+◌, ◌<◌, ◌�
 use Rattle.std.proofs.lemmas.Bool.{cases_lt}
 use Rattle.std.proofs.lemmas.List.{get_or_default, get_or-map, length-map}
 use Rattle.std.proofs.lemmas.List.Elements.{All-more, All-nil, Contains-get_or}
-use Rattle.walrus_base.specs.Marks.{is_marked}
-use Rattle.walrus_base.specs.declared.keys.FunctionKey.{FunctionKey}
-use Rattle.walrus_base.specs.declared.marks.Marks.{Marks}
-use Rattle.walrus_items.specs.Exports.{ExportValue}
-use Rattle.walrus_items.specs.Functions.{FunctionValue}
-use Rattle.walrus_items.specs.declared.error.Error.{Error}
-use Rattle.walrus_items.specs.declared.error.Error.TheVariants as error
+use Rattle.walrus.specs.Base.Marks.{is_marked}
+use Rattle.walrus.specs.Base.FunctionKey.{FunctionKey}
+use Rattle.walrus.specs.Base.MarksValue.{Marks}
+use Rattle.walrus.specs.Items.Exports.{ExportValue}
+use Rattle.walrus.specs.Items.Functions.{FunctionValue}
+use Rattle.walrus.specs.Items.Error.{Error}
+use Rattle.walrus.specs.Items.Error.TheVariants as error
 use Rattle.walrus_tools.specs.MarkSteps.{Adds, AreMarks, HasPlaces, RefusesMarks, RefusesText}
 use Rattle.walrus_tools.specs.FunctionMeaning.{AreMeant, Means, MeansBodies, texts}
 use Rattle.walrus_tools.specs.declared.function_meaning.Meant.{Meant}

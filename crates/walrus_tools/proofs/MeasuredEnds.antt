@@ -2,37 +2,37 @@
 use Rattle.std.proofs.Common.{◌≡◌, ℕ, Bool, false, List, refl, sym, ap, map, subst}
 use Rattle.std.specs.Prelude.{Contains, Err}
 use Rattle.std.specs.Global.{Vec}
-use Rattle.walrus_base.specs.Arena.{items}
-use Rattle.walrus_model.specs.Abstract.{Custom}
-use Rattle.walrus_model.specs.Config.{Config}
-use Rattle.walrus_model.specs.Pipeline.{Collected}
-use Rattle.walrus_theorem.specs.Chain.{Leaves}
-use Rattle.walrus_theorem.specs.Refused.{IsSayable, PassesLimits}
-use Rattle.walrus_theorem.specs.WellMade.{IsWellMade}
-use Rattle.walrus_theorem.proofs.WellStays.{collected_well}
-use Rattle.walrus_items.specs.declared.custom.CustomSection.{Ghosts}
-use Rattle.walrus_items.specs.declared.error.Error.{Error}
-use Rattle.walrus_items.specs.declared.raw_section.RawCustomSection.{RawCustomSection}
-use Rattle.walrus_items.specs.Transform.{transform_of}
-use Rattle.walrus_items.specs.declared.transform.CodeTransform.{CodeTransform}
-use Rattle.walrus_contents.specs.declared.parts.Contents.{Contents}
-use Rattle.walrus_module.specs.Answered.{IsWellWritten, WritesUnless}
-use Rattle.walrus_module.specs.Asked.{OneMayRefuse}
-use Rattle.walrus_module.specs.Customs.{sections}
-use Rattle.walrus_module.specs.Emitted.{refusal_of, told}
-use Rattle.walrus_module.specs.Flags.{Flags, config_of}
-use Rattle.walrus_module.specs.Following.{OneMayRefuseThen}
-use Rattle.walrus_module.specs.Left.{LeavesBy, but_customs}
-use Rattle.walrus_module.specs.Meaning.{meaning}
-use Rattle.walrus_module.specs.Parsed.{IsParsed}
-use Rattle.walrus_module.specs.Raws.{raw_sections}
-use Rattle.walrus_module.specs.Settings.{settings}
-use Rattle.walrus_module.specs.View.{contents_of, custom_of, locations_of, meanings, view}
-use Rattle.walrus_module.specs.declared.customs.ModuleCustomSections.{ModuleCustomSections}
-use Rattle.walrus_module.specs.declared.entry.SectionEntry.{SectionEntry}
-use Rattle.walrus_module.specs.declared.module.Module.{Module}
-use Rattle.walrus_module.proofs.Emission.{left_refused, well_refused_too}
-use Rattle.walrus_writing.specs.Transform.{IsTransformOf}
+use Rattle.walrus.specs.Base.Arena.{items}
+use Rattle.walrus.specs.Model.Abstract.{Custom}
+use Rattle.walrus.specs.Model.Config.{Config}
+use Rattle.walrus.specs.Model.Pipeline.{Collected}
+use Rattle.walrus.specs.Theorem.Chain.{Leaves}
+use Rattle.walrus.specs.Theorem.Refused.{IsSayable, PassesLimits}
+use Rattle.walrus.specs.Theorem.WellMade.{IsWellMade}
+use Rattle.walrus.proofs.Theorem.WellStays.{collected_well}
+use Rattle.walrus.specs.Items.CustomSection.{Ghosts}
+use Rattle.walrus.specs.Items.Error.{Error}
+use Rattle.walrus.specs.Items.RawCustomSection.{RawCustomSection}
+use Rattle.walrus.specs.Items.Transform.{transform_of}
+use Rattle.walrus.specs.Items.CodeTransform.{CodeTransform}
+use Rattle.walrus.specs.Contents.Contents.{Contents}
+use Rattle.walrus.specs.Modules.Answered.{IsWellWritten, WritesUnless}
+use Rattle.walrus.specs.Modules.Asked.{OneMayRefuse}
+use Rattle.walrus.specs.Modules.Customs.{sections}
+use Rattle.walrus.specs.Modules.Emitted.{refusal_of, told}
+use Rattle.walrus.specs.Modules.Flags.{Flags, config_of}
+use Rattle.walrus.specs.Modules.Following.{OneMayRefuseThen}
+use Rattle.walrus.specs.Modules.Left.{LeavesBy, but_customs}
+use Rattle.walrus.specs.Modules.Meaning.{meaning}
+use Rattle.walrus.specs.Modules.Parsed.{IsParsed}
+use Rattle.walrus.specs.Modules.Raws.{raw_sections}
+use Rattle.walrus.specs.Modules.Settings.{settings}
+use Rattle.walrus.specs.Modules.View.{contents_of, custom_of, locations_of, meanings, view}
+use Rattle.walrus.specs.Modules.ModuleCustomSections.{ModuleCustomSections}
+use Rattle.walrus.specs.Modules.SectionEntry.{SectionEntry}
+use Rattle.walrus.specs.Modules.Module.{Module}
+use Rattle.walrus.proofs.Modules.Emission.{left_refused, well_refused_too}
+use Rattle.walrus.specs.Modules.Transform.{IsTransformOf}
 use Rattle.walrus.specs.Marked.{ReachesUnsound}
 use Rattle.walrus.specs.Used.{RefusesSearch}
 use Rattle.walrus.proofs.EditEnds.{edit_finishes, edited_live, edited_to, edited_well}

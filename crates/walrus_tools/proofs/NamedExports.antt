@@ -5,13 +5,13 @@ use Rattle.std.specs.Borrow.{Bor}
 use Rattle.std.proofs.lemmas.Bool.{cases_lt}
 use Rattle.std.proofs.lemmas.List.{get_or_past, get_or-set_other, get_or-set_same, length-set}
 use Rattle.std.proofs.lemmas.List.Sorted.{Contains-permutation, IsPermutation-map, IsPermutation-sym}
-use Rattle.walrus_base.specs.Arena.{item_at}
-use Rattle.walrus_base.proofs.Indexed.{beyond}
-use Rattle.walrus_items.specs.Exports.{ExportValue}
-use Rattle.walrus_tools.specs.Choice.{Choice}
-use Rattle.walrus_tools.specs.ExportChoice.{EachFits, FitsText, TellsUnfit}
+use Rattle.walrus.specs.Base.Arena.{item_at}
+use Rattle.walrus.proofs.Base.Indexed.{beyond}
+use Rattle.walrus.specs.Items.Exports.{ExportValue}
+use Rattle.walrus_sections.specs.Choice.{Choice}
+use Rattle.walrus_sections.specs.ExportChoice.{EachFits, FitsText, TellsUnfit}
 use Rattle.walrus_tools.specs.KeptExports.{KeepsAt, KeepsNamed, KeepsUntil, StaysIf}
-use Rattle.walrus_tools.specs.NameLists.{texts}
+use Rattle.walrus_sections.specs.NameLists.{texts}
 
 -- ---- texts in another order
 
@@ -33,6 +33,11 @@ module _ (some others : List (List ℕ)) (moved : IsPermutation some others) whe
 
 abbrev Text : Type 0
 Text = Bor (List ℕ)
+
+-- what is told of the texts as they stand
+pub tells_standing : (names lent : List Text) (all : List (List ℕ)) → texts names ≡ all → lent ≡ names → (choices : List Choice) (found : Option ℕ) → TellsUnfit (texts lent) choices found → TellsUnfit all choices found
+tells_standing names lent all are same choices found tells =
+    subst (λ (ts : List (List ℕ)). TellsUnfit ts choices found) (ap texts same ∙ are) tells
 
 -- what is told of texts that were put in order
 pub tells_sorted : (names sorted lent : List Text) (all : List (List ℕ)) → texts names ≡ all → IsPermutation names sorted → lent ≡ sorted → (choices : List Choice) (found : Option ℕ) → TellsUnfit (texts lent) choices found → TellsUnfit all choices found

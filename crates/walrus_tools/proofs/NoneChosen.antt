@@ -2,25 +2,25 @@
 use Rattle.std.proofs.Common.{◌≡◌, ℕ, zero, suc, List, [], ◌∷◌, length, map, Option, Some, None, refl, ap, ap₂, ◌∙◌, subst, inl, ⊎_elim, arith}
 use mathlib.Core.Path.{fun_ext}
 use Rattle.std.specs.Prelude.{Ok, Err}
-use Rattle.walrus_base.specs.Arena.{item_at, items}
-use Rattle.walrus_base.specs.Operators.{Types, Functions, Tables, Memories, Tags, Globals, Elements, DataSegments}
-use Rattle.walrus_base.proofs.Lists.{Contains-none}
-use Rattle.walrus_model.specs.Abstract.{Abstract, Custom, Name, Subject, TheModule, AnItem, ALocal}
-use Rattle.walrus_model.specs.Config.{Config}
-use Rattle.walrus_items.specs.Exports.{ExportValue, exports}
-use Rattle.walrus_items.specs.declared.error.Error.TheVariants as error
-use Rattle.walrus_contents.specs.View.{export_of, named_of}
-use Rattle.walrus_contents.specs.declared.parts.Contents.{Contents}
-use Rattle.walrus_theorem.specs.Chain.{BringsTo}
-use Rattle.walrus_theorem.specs.Headline.{ComesTo}
-use Rattle.walrus_theorem.proofs.AgainAll.{writes_again}
-use Rattle.walrus_theorem.proofs.EnginesRun.{run_looks_same}
-use Rattle.walrus_theorem.proofs.Runs.{comes_out_too_large}
-use Rattle.walrus_theorem.proofs.SettleAll.{runs_settle}
-use Rattle.walrus_theorem.proofs.StepRead.{steps_come_out_lem}
-use Rattle.walrus_module.specs.Answered.{IsWellWritten}
+use Rattle.walrus.specs.Base.Arena.{item_at, items}
+use Rattle.walrus.specs.Base.Operators.{Types, Functions, Tables, Memories, Tags, Globals, Elements, DataSegments}
+use Rattle.walrus.proofs.Base.Lists.{Contains-none}
+use Rattle.walrus.specs.Model.Abstract.{Abstract, Custom, Name, Subject, TheModule, AnItem, ALocal}
+use Rattle.walrus.specs.Model.Config.{Config}
+use Rattle.walrus.specs.Items.Exports.{ExportValue, exports}
+use Rattle.walrus.specs.Items.Error.TheVariants as error
+use Rattle.walrus.specs.Contents.View.{export_of, named_of}
+use Rattle.walrus.specs.Contents.Contents.{Contents}
+use Rattle.walrus.specs.Theorem.Chain.{BringsTo}
+use Rattle.walrus.specs.Theorem.Headline.{ComesTo}
+use Rattle.walrus.proofs.Theorem.AgainAll.{writes_again}
+use Rattle.walrus.proofs.Theorem.EnginesRun.{run_looks_same}
+use Rattle.walrus.proofs.Theorem.Runs.{comes_out_too_large}
+use Rattle.walrus.proofs.Theorem.SettleAll.{runs_settle}
+use Rattle.walrus.proofs.Theorem.StepRead.{steps_come_out_lem}
+use Rattle.walrus.specs.Modules.Answered.{IsWellWritten}
 use Rattle.walrus.specs.Headline.{ComesOut}
-use Rattle.walrus_tools.specs.ExportChoice.{IsChosen}
+use Rattle.walrus_sections.specs.ExportChoice.{IsChosen}
 use Rattle.walrus_tools.specs.ChosenModule.{KeepsChosen, NoneChosen}
 use Rattle.walrus.specs.Edits.{EditsTo, with_customs}
 use Rattle.walrus.specs.Ends.{LeftOf}

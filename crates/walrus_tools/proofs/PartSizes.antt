@@ -4,13 +4,13 @@ use Rattle.std.specs.Prelude.{if◌then◌else◌}
 use Rattle.std.proofs.lemmas.List.Sums.{sum_by-append, sum_by-cons, sum_by_more, sum_by_more_le}
 use Rattle.std.proofs.lemmas.List.{take_all}
 use Rattle.wasm_entries.specs.Record.{Segment}
-use Rattle.wasm_frames.specs.Frames.{AreBodies, Code, DataSegments, IsContent, Section}
-use Rattle.wasm_frames.specs.Record.{Body}
-use Rattle.walrus_tools.specs.Parts.{AreParts, AreSegments, AreWithin, FunctionPart, HasParts, IsParted, Part, Piece, SectionPart, SegmentPart, function_parts, functions_in, item, part_record, segments_in}
+use Rattle.walrus.specs.Frames.Frames.{AreBodies, Code, DataSegments, IsContent, Section}
+use Rattle.walrus.specs.Frames.Record.{Body}
+use Rattle.walrus_sections.specs.Parts.{AreParts, AreSegments, AreWithin, FunctionPart, HasParts, IsParted, Part, Piece, SectionPart, SegmentPart, function_parts, functions_in, item, part_record, segments_in}
 use Rattle.walrus_tools.specs.Weigh.{bytes_of, is_debug, is_dropped, names_debug, part_size}
 use Rattle.walrus_tools.specs.WeighSteps.{size_if, sizes}
-use Rattle.walrus_tools.specs.declared.parts.Item.{Item}
-use Rattle.walrus_tools.specs.declared.parts.Part.{Part as RawPart}
+use Rattle.walrus_sections.specs.declared.parts.Item.{Item}
+use Rattle.walrus_sections.specs.declared.parts.Part.{Part as RawPart}
 
 -- ---- sums
 

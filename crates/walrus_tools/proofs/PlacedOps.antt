@@ -2,26 +2,26 @@
 use Rattle.std.proofs.Common.{◌≡◌, ℕ, zero, suc, ◌+◌, ◌-◌, ◌^◌, ◌<◌, ◌≤◌, Bool, true, false, List, [], ◌∷◌, ◌++◌, length, map, refl, sym, ap, ap₂, ◌∙◌, subst, arith, inl, inr, ltb-true, lt-ltb, length-append, append_assoc}
 use Rattle.std.specs.Prelude.{Some, slice_get, min, nat_lt, if◌then◌else◌}
 use Rattle.std.proofs.Math.Nat.{min-eq_left, min-eq_right}
-use Rattle.wasm_forms.specs.declared.types.RawVal.{RawVal}
-use Rattle.wasm_forms.specs.Grammar.{Is, IsRow}
-use Rattle.wasm_forms.specs.Spelling.{row_bytes}
-use Rattle.wasm_forms.proofs.Exact.{one_reading}
-use Rattle.wasm_frames.specs.Record as wire
-use Rattle.wasm_operators.specs.Operators as operators
-use Rattle.wasm_operators.specs.Forms.{operator}
-use Rattle.wasm_operators.specs.Spelling.{op_bytes}
-use Rattle.walrus_base.specs.Operators.{Op}
-use Rattle.walrus_code.specs.FromRaw.{op_of}
-use Rattle.walrus_code.specs.Location.{location, location_at}
-use Rattle.walrus_code.specs.declared.location.InstrLocId.{InstrLocId}
-use Rattle.walrus_bodies.specs.Body.{Located, declarations}
-use Rattle.walrus_bodies.specs.BodyRead.{BodyLocated}
-use Rattle.walrus_bodies.specs.Emitting.{AllStand, places_from}
-use Rattle.walrus_base.proofs.Standing.{some_inj}
-use Rattle.walrus_module.specs.Located.{IsPlace}
-use Rattle.walrus_base.proofs.Agree.{Compared, compared}
-use Rattle.walrus_writing.specs.Transform.{OperatorsStandAt}
-use Rattle.walrus_tools.specs.Moves.{StandsIn}
+use Rattle.walrus.specs.Forms.RawVal.{RawVal}
+use Rattle.walrus.specs.Forms.Grammar.{Is, IsRow}
+use Rattle.walrus.specs.Forms.Spelling.{row_bytes}
+use Rattle.walrus.proofs.Forms.Exact.{one_reading}
+use Rattle.walrus.specs.Frames.Record as wire
+use Rattle.walrus.specs.Operators.Operators as operators
+use Rattle.walrus.specs.Operators.Forms.{operator}
+use Rattle.walrus.specs.Operators.Spelling.{op_bytes}
+use Rattle.walrus.specs.Base.Operators.{Op}
+use Rattle.walrus.specs.Code.FromRaw.{op_of}
+use Rattle.walrus.specs.Code.Location.{location, location_at}
+use Rattle.walrus.specs.Code.InstrLocId.{InstrLocId}
+use Rattle.walrus.specs.Modules.Body.{Located, declarations}
+use Rattle.walrus.specs.Modules.BodyRead.{BodyLocated}
+use Rattle.walrus.specs.Modules.Emitting.{AllStand, places_from}
+use Rattle.walrus.proofs.Base.Standing.{some_inj}
+use Rattle.walrus.specs.Modules.Located.{IsPlace}
+use Rattle.walrus.proofs.Base.Agree.{Compared, compared}
+use Rattle.walrus.specs.Modules.Transform.{OperatorsStandAt}
+use Rattle.walrus_tools.specs.Stands.{StandsIn}
 
 abbrev pub Text : Type 0
 Text = operators.Op

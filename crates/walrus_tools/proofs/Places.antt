@@ -5,8 +5,8 @@ use Rattle.std.proofs.Math.Path.{fun_ext}
 use Rattle.std.proofs.Math.Bool.{and-false}
 use Rattle.std.proofs.lemmas.Bool.{cases_lt, le-ltb, lt-ltb}
 use Rattle.std.proofs.lemmas.List.{get_or_past}
-use Rattle.walrus_items.specs.Imports.{ImportValue}
-use Rattle.walrus_theorem.proofs.EditSpace.{equal_or}
+use Rattle.walrus.specs.Items.Imports.{ImportValue}
+use Rattle.walrus.proofs.Theorem.EditSpace.{equal_or}
 use Rattle.walrus_tools.specs.Stub.{comes_from, function_from}
 
 -- no place is below 0

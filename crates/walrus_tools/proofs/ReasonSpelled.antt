@@ -3,15 +3,15 @@ use Rattle.std.proofs.Common.{◌≡◌, ℕ, ◌+◌, ◌<◌, List, ◌++◌, 
 use Rattle.std.specs.Global.{Vec}
 use Rattle.std.proofs.lemmas.List.{append_assoc}
 use Rattle.std.specs.Prelude.{◌⊎◌, Err, IfErr, IfOk, Ok, OnOk, Result, flat_map}
-use Rattle.walrus_model.specs.Config.{Config}
-use Rattle.walrus_items.specs.declared.error.Error.{Error}
-use Rattle.walrus_items.specs.declared.error.Error.TheVariants as error
-use Rattle.walrus_tools.specs.Choice.{Choice}
+use Rattle.walrus.specs.Model.Config.{Config}
+use Rattle.walrus.specs.Items.Error.{Error}
+use Rattle.walrus.specs.Items.Error.TheVariants as error
+use Rattle.walrus_sections.specs.Choice.{Choice}
 use Rattle.walrus_tools.specs.ChosenModule.{KeepsChosen}
 use Rattle.walrus.specs.Edits.{EditsTo, RefusesEdit}
 use Rattle.walrus.specs.Ends.{LeavesLarge}
 use Rattle.walrus_tools.specs.Links.{LinkTold, link_seen}
-use Rattle.walrus_tools.specs.Numbers.{RefusesIf}
+use Rattle.walrus_sections.specs.Numbers.{RefusesIf}
 use Rattle.walrus_tools.specs.ReasonAnswers.{AnswersCallerList, AnswersCallers, AnswersReasonList, AnswersWhy, AreAsked, IsReasoned, RefusesText}
 use Rattle.walrus_tools.specs.ReasonBytes.{IsLongLink, IsLongReason, ReasonTold, link_bytes, reason_bytes}
 use Rattle.walrus_tools.specs.Spelled.{AreLong, HasLong, NoneLong}

@@ -1,37 +1,37 @@
 -- What makes an item a root: what each search finds, and that a root is one by something.
 use Rattle.std.proofs.Common.{◌≡◌, ℕ, Bool, true, false, List, ◌∷◌, [], Option, Some, None, map, refl, sym, ap, ◌∙◌, subst, eqb-true}
 use Rattle.std.specs.Prelude.{Contains, slice_get, is_some, nat_eq, option_map, if◌then◌else◌}
-use Rattle.walrus_base.specs.Arena.{entries, item_at, items}
-use Rattle.walrus_base.specs.Id.{place}
-use Rattle.walrus_base.specs.Operators.{Space, Types, Tables, Memories, Tags, Globals, Elements, DataSegments, Item, function_item}
-use Rattle.walrus_base.specs.declared.id.Id.{Id}
-use Rattle.walrus_base.specs.declared.keys.DataKey.{DataKey}
-use Rattle.walrus_base.specs.declared.keys.ElementKey.{ElementKey}
-use Rattle.walrus_base.specs.declared.keys.FunctionKey.{FunctionKey}
-use Rattle.walrus_code.specs.Code.{item_of}
-use Rattle.walrus_code.specs.declared.items.ItemId.{ItemId}
-use Rattle.walrus_code.specs.declared.items.ItemId.TheVariants as items_of_kinds
-use Rattle.walrus_base.proofs.Lists.{Contains-map, Contains-none}
-use Rattle.walrus_base.proofs.SearchFound.{found-item, found-passes}
-use Rattle.walrus_model.specs.Abstract.{Abstract, DataSegment, Element, Export, ActiveElements, DeclaredElements, PassiveElements, ElementKind, DataKind}
-use Rattle.walrus_model.specs.Roots.{IsRoot, IsRootData, IsRootElement, exported, start, data_segment, element_segment, asked_for}
-use Rattle.walrus_model.proofs.Reach.{Contains-unmap}
-use Rattle.walrus_model.proofs.Slots.{entry_in}
-use Rattle.walrus_items.specs.Data.{DataValue, data_segments}
-use Rattle.walrus_items.specs.Elements.{ElementValue, elements}
-use Rattle.walrus_items.specs.Exports.{ExportValue, exports, exports_item}
-use Rattle.walrus_items.specs.Items.{is_item}
-use Rattle.walrus_items.specs.Kinds.{exported as exported_item}
-use Rattle.walrus_items.specs.Searches.{first}
-use Rattle.walrus_items.specs.declared.kinds.ExportItem.{ExportItem}
-use Rattle.walrus_items.specs.declared.segments.DataKind.{DataKind as HeldDataKind}
-use Rattle.walrus_items.specs.declared.segments.DataKind.TheVariants as data_kinds
-use Rattle.walrus_items.specs.declared.segments.ElementKind.{ElementKind as HeldElementKind}
-use Rattle.walrus_items.specs.declared.segments.ElementKind.TheVariants as element_kinds
-use Rattle.walrus_items.proofs.ItemLemmas.{is_item-same, same-is_item}
-use Rattle.walrus_contents.specs.View.{contents_view, data_kind_of, data_of, element_kind_of, element_of, export_of}
-use Rattle.walrus_contents.specs.declared.parts.Contents.{Contents}
-use Rattle.walrus_theorem.proofs.EditKept.{none_isnt, some_is}
+use Rattle.walrus.specs.Base.Arena.{entries, item_at, items}
+use Rattle.walrus.specs.Base.Id.{place}
+use Rattle.walrus.specs.Base.Operators.{Space, Types, Tables, Memories, Tags, Globals, Elements, DataSegments, Item, function_item}
+use Rattle.walrus.specs.Base.IdValue.{Id}
+use Rattle.walrus.specs.Base.DataKey.{DataKey}
+use Rattle.walrus.specs.Base.ElementKey.{ElementKey}
+use Rattle.walrus.specs.Base.FunctionKey.{FunctionKey}
+use Rattle.walrus.specs.Code.Code.{item_of}
+use Rattle.walrus.specs.Code.ItemId.{ItemId}
+use Rattle.walrus.specs.Code.ItemId.TheVariants as items_of_kinds
+use Rattle.walrus.proofs.Base.Lists.{Contains-map, Contains-none}
+use Rattle.walrus.proofs.Base.SearchFound.{found-item, found-passes}
+use Rattle.walrus.specs.Model.Abstract.{Abstract, DataSegment, Element, Export, ActiveElements, DeclaredElements, PassiveElements, ElementKind}
+use Rattle.walrus.specs.Model.Roots.{IsRoot, IsRootData, IsRootElement, exported, start, data_segment, element_segment, asked_for}
+use Rattle.walrus.proofs.Model.Reach.{Contains-unmap}
+use Rattle.walrus.proofs.Model.Slots.{entry_in}
+use Rattle.walrus.specs.Items.Data.{DataValue, data_segments}
+use Rattle.walrus.specs.Items.Elements.{ElementValue, elements}
+use Rattle.walrus.specs.Items.Exports.{ExportValue, exports, exports_item}
+use Rattle.walrus.specs.Items.Items.{is_item}
+use Rattle.walrus.specs.Items.Kinds.{exported as exported_item}
+use Rattle.walrus.specs.Items.Searches.{first}
+use Rattle.walrus.specs.Items.ExportItem.{ExportItem}
+use Rattle.walrus.specs.Items.DataKind.{DataKind as HeldDataKind}
+use Rattle.walrus.specs.Items.DataKind.TheVariants as data_kinds
+use Rattle.walrus.specs.Items.ElementKind.{ElementKind as HeldElementKind}
+use Rattle.walrus.specs.Items.ElementKind.TheVariants as element_kinds
+use Rattle.walrus.proofs.Items.ItemLemmas.{is_item-same, same-is_item}
+use Rattle.walrus.specs.Contents.View.{contents_view, data_kind_of, data_of, element_kind_of, element_of, export_of}
+use Rattle.walrus.specs.Contents.Contents.{Contents}
+use Rattle.walrus.proofs.Theorem.EditKept.{none_isnt, some_is}
 use Rattle.walrus_tools.proofs.ImportMatches.{finds}
 use Rattle.walrus_tools.specs.Links.{IsActive, IsActiveKind, IsDeclared, IsExported, IsStart}
 use Rattle.walrus_tools.specs.RootSteps.{FindsChainRoot, FindsRoot, by_data, by_data_kind, by_element, by_element_kind, by_start}

@@ -2,10 +2,10 @@
 use Rattle.std.proofs.Common.{◌≡◌, ℕ, ◌+◌, ◌<◌, List, [], ◌∷◌, ◌++◌, length, map, get_or, take, sym, ap, ◌∙◌}
 use Rattle.std.proofs.lemmas.List.{map-append, map_more}
 use Rattle.std.specs.declared.ops.Range.{Range}
-use Rattle.walrus_base.specs.declared.id.Id.{Id}
-use Rattle.walrus_base.specs.declared.keys.FunctionKey.{FunctionKey}
-use Rattle.walrus_model.specs.Abstract.{Name}
-use Rattle.walrus_items.specs.Transform.{range_of}
+use Rattle.walrus.specs.Base.IdValue.{Id}
+use Rattle.walrus.specs.Base.FunctionKey.{FunctionKey}
+use Rattle.walrus.specs.Model.Abstract.{Name}
+use Rattle.walrus.specs.Items.Transform.{range_of}
 use Rattle.walrus_tools.specs.FunctionList.{ListedFunction, listed_of, listed_seen}
 use Rattle.walrus_tools.specs.declared.tool.list.Listed.{Listed}
 

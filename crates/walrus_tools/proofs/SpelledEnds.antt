@@ -2,9 +2,9 @@
 use Rattle.std.proofs.Common.{◌≡◌, ℕ, List, flat_map, map, inl, inr, subst, sym}
 use Rattle.std.specs.Prelude.{◌⊎◌, IfErr, IfOk, OnOk, Result, Err}
 use Rattle.std.specs.Global.{Vec}
-use Rattle.walrus_model.specs.Config.{Config}
-use Rattle.walrus_items.specs.declared.error.Error.{Error}
-use Rattle.walrus_tools.specs.Choice.{Choice}
+use Rattle.walrus.specs.Model.Config.{Config}
+use Rattle.walrus.specs.Items.Error.{Error}
+use Rattle.walrus_sections.specs.Choice.{Choice}
 use Rattle.walrus_tools.specs.ChosenModule.{KeepsChosen, RefusesChosen}
 use Rattle.walrus_tools.specs.DroppedList.{AnswersDropped, AnswersDroppedList, IsDropped}
 use Rattle.walrus.specs.Edits.{EditsTo, RefusesEdit}
@@ -12,7 +12,7 @@ use Rattle.walrus.specs.Ends.{LeavesLarge}
 use Rattle.walrus_tools.specs.ExportList.{AnswersExportList, AnswersExports, AreExports, IsLongExport, exported_bytes, exported_seen}
 use Rattle.walrus_tools.specs.FunctionList.{AnswersFunctions, AnswersListed, IsListed, IsLong, listed_bytes, listed_seen}
 use Rattle.walrus_tools.specs.ImportList.{AnswersImportList, AnswersImports, AreImports, IsLongImport, imported_bytes, imported_seen}
-use Rattle.walrus_tools.specs.Numbers.{RefusesIf}
+use Rattle.walrus_sections.specs.Numbers.{RefusesIf}
 use Rattle.walrus_tools.specs.Spelled.{AreLong, AreSpelled, HasLong, NoneLong}
 use Rattle.walrus_tools.specs.declared.tool.exports.Exported.{Exported}
 use Rattle.walrus_tools.specs.declared.tool.imports.Imported.{Imported}

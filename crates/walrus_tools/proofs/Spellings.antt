@@ -2,14 +2,14 @@
 use Rattle.std.proofs.Common.{◌≡◌, ℕ, ◌+◌, ◌<◌, List, ◌++◌, flat_map, length, map, get_or, take, sym, ap, ◌∙◌, subst}
 use Rattle.std.specs.Prelude.{Contains, IfErr, IfOk, OnOk, Result, Ok, Err}
 use Rattle.std.specs.Global.{Vec}
-use Rattle.walrus_model.specs.Config.{Config}
-use Rattle.walrus_items.specs.declared.error.Error.{Error}
-use Rattle.walrus_items.specs.declared.error.Error.TheVariants as error
-use Rattle.walrus_contents.proofs.NamedLemmas.{among, row_more}
+use Rattle.walrus.specs.Model.Config.{Config}
+use Rattle.walrus.specs.Items.Error.{Error}
+use Rattle.walrus.specs.Items.Error.TheVariants as error
+use Rattle.walrus.proofs.Contents.NamedLemmas.{among, row_more}
+use Rattle.walrus_sections.specs.Numbers.{RefusesIf}
 use Rattle.walrus.specs.Ends.{Answers}
-use Rattle.walrus_tools.specs.Numbers.{RefusesIf}
 use Rattle.walrus_tools.specs.Spelled.{AreLong, AreSpelled, HasLong, NoneLong}
-use Rattle.walrus_tools.proofs.Among.{because}
+use Rattle.walrus_sections.proofs.Among.{because}
 use Rattle.walrus_tools.proofs.LineLemmas.{lines_more}
 
 -- ---- one by one

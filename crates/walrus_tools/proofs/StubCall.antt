@@ -1,38 +1,38 @@
 -- One call that makes an imported function trap, in a whole module.
 use Rattle.std.proofs.Common.{◌≡◌, ℕ, ◌+◌, ◌≤◌, Bool, true, false, List, [], ◌∷◌, ◌++◌, Option, Some, None, IsSome, Result, Ok, Err, MatchResult, refl, sym, ap, ◌∙◌, subst, inl, inr, append_assoc, append-nil}
 use Rattle.std.specs.Prelude.{nat_lt, ◌&&◌, is_some, bytes_eq, slice_set, if◌then◌else◌}
-use Rattle.walrus_base.specs.Arena.{item_at}
-use Rattle.walrus_base.specs.Id.{place}
-use Rattle.walrus_base.specs.declared.id.Id.{Id}
-use Rattle.walrus_base.specs.declared.keys.FunctionKey.{FunctionKey}
-use Rattle.walrus_base.specs.declared.keys.ImportKey.{ImportKey}
-use Rattle.walrus_base.specs.declared.keys.LocalKey.{LocalKey}
-use Rattle.walrus_base.specs.declared.keys.TypeKey.{TypeKey}
-use Rattle.walrus_base.specs.Locals.{locals}
-use Rattle.walrus_base.specs.Operators.{Op}
-use Rattle.walrus_base.specs.TypeDef.{TypeDef}
-use Rattle.walrus_items.specs.Function.{body_of}
-use Rattle.walrus_items.specs.LocalFunction.{LocalFunction}
-use Rattle.walrus_ir.specs.Instructions.{end_op, unreachable_op}
-use Rattle.walrus_ir.specs.Sequence.{built}
-use Rattle.walrus_model.specs.BodyRead.{new_locals}
-use Rattle.walrus_model.specs.Config.{Config}
-use Rattle.walrus_model.specs.ReadFunction.{StaysInFront}
-use Rattle.walrus_items.specs.Errors.{out_of_memory}
-use Rattle.walrus_items.specs.declared.error.Error.{Error}
-use Rattle.walrus_items.specs.declared.function_kind.FunctionKind.{FunctionKind}
-use Rattle.walrus_items.specs.Functions.{FunctionValue, functions}
-use Rattle.walrus_items.specs.Imports.{ImportValue, imported_function, imports}
-use Rattle.walrus_base.proofs.Standing.{some_of}
-use Rattle.walrus_module.specs.Replaced.{IsMadeLocal, IsNew, MakesBroughtLocal, MakesImportedLocal, MakesKindLocal, MakesLocal, MakesSlotLocal, OnlyLocals, RefusesLocal, ReplacesImport}
-use Rattle.walrus_module.specs.View.{contents_of}
-use Rattle.walrus_module.specs.declared.module.Module.{Module}
-use Rattle.walrus_module.proofs.EditedReplaced.{of_kind}
+use Rattle.walrus.specs.Base.Arena.{item_at}
+use Rattle.walrus.specs.Base.Id.{place}
+use Rattle.walrus.specs.Base.IdValue.{Id}
+use Rattle.walrus.specs.Base.FunctionKey.{FunctionKey}
+use Rattle.walrus.specs.Base.ImportKey.{ImportKey}
+use Rattle.walrus.specs.Base.LocalKey.{LocalKey}
+use Rattle.walrus.specs.Base.TypeKey.{TypeKey}
+use Rattle.walrus.specs.Base.Locals.{locals}
+use Rattle.walrus.specs.Base.Operators.{Op}
+use Rattle.walrus.specs.Base.TypeDef.{TypeDef}
+use Rattle.walrus.specs.Items.Function.{body_of}
+use Rattle.walrus.specs.Items.LocalFunction.{LocalFunction}
+use Rattle.walrus.specs.Ir.Instructions.{end_op, unreachable_op}
+use Rattle.walrus.specs.Ir.Sequence.{built}
+use Rattle.walrus.specs.Model.BodyRead.{new_locals}
+use Rattle.walrus.specs.Model.Config.{Config}
+use Rattle.walrus.specs.Model.ReadFunction.{StaysInFront}
+use Rattle.walrus.specs.Items.Errors.{out_of_memory}
+use Rattle.walrus.specs.Items.Error.{Error}
+use Rattle.walrus.specs.Items.FunctionKind.{FunctionKind}
+use Rattle.walrus.specs.Items.Functions.{FunctionValue, functions}
+use Rattle.walrus.specs.Items.Imports.{ImportValue, imported_function, imports}
+use Rattle.walrus.proofs.Base.Standing.{some_of}
+use Rattle.walrus.specs.Modules.Replaced.{IsMadeLocal, IsNew, MakesBroughtLocal, MakesImportedLocal, MakesKindLocal, MakesLocal, MakesSlotLocal, OnlyLocals, RefusesLocal, ReplacesImport}
+use Rattle.walrus.specs.Modules.View.{contents_of}
+use Rattle.walrus.specs.Modules.Module.{Module}
+use Rattle.walrus.proofs.Modules.EditedReplaced.{of_kind}
 use Rattle.walrus_tools.proofs.ImportMatches.{IsBroughtBy, brought_by, theirs}
 use Rattle.walrus_tools.proofs.Places.{all_below, none_below, not_yet, now_hit, passes_over, same_below}
 use Rattle.walrus_tools.proofs.StubStep.{stub_whole}
 use Rattle.walrus_tools.proofs.StubTurn.{stubs_more, stubs_none}
-use Rattle.walrus_theorem.proofs.EditKept.{none_isnt, some_there}
+use Rattle.walrus.proofs.Theorem.EditKept.{none_isnt, some_there}
 use Rattle.walrus.specs.Edits.{IsWhole}
 use Rattle.walrus_tools.specs.Stub.{BringsFunction, comes_from, function_from}
 use Rattle.walrus_tools.specs.StubAnswers.{PutsTrap, Stubs, StubsAt, StubsHeld, StubsSome}

@@ -1,37 +1,37 @@
 -- A whole module in which an imported function traps is whole.
 use Rattle.std.proofs.Common.{◌≡◌, ℕ, Option, Some, IsSome, [], map, option_map, refl, sym, ap, ◌∙◌, subst, inl}
 use Rattle.std.specs.Prelude.{Contains}
-use Rattle.walrus_base.specs.Arena.{item_at}
-use Rattle.walrus_base.specs.Id.{place}
-use Rattle.walrus_base.specs.declared.id.Id.{Id}
-use Rattle.walrus_base.specs.declared.keys.FunctionKey.{FunctionKey}
-use Rattle.walrus_base.specs.ModuleTypes.{type_slots}
-use Rattle.walrus_base.specs.Operators.{Functions, Item, type_item}
-use Rattle.walrus_base.specs.TypeDef.{TypeDef}
-use Rattle.walrus_model.specs.Abstract as abstract
-use Rattle.walrus_model.specs.BlockHandlers.{params_of}
-use Rattle.walrus_model.specs.Config.{Config}
-use Rattle.walrus_model.specs.Refers.{function_names, named_by}
-use Rattle.walrus_model.specs.Rules.{IsFunctionType}
-use Rattle.walrus_base.proofs.Lists.{Contains-head}
-use Rattle.walrus_contents.specs.View.{body, function, handlers_at}
-use Rattle.walrus_items.specs.Function.{body_of}
-use Rattle.walrus_items.specs.Functions.{FunctionValue, functions}
-use Rattle.walrus_items.specs.Imports.{imports}
-use Rattle.walrus_items.specs.FunctionKinds.{kind_type}
-use Rattle.walrus_items.specs.declared.function_kind.FunctionKind.{FunctionKind}
-use Rattle.walrus_items.specs.declared.function_kind.FunctionKind.TheVariants.{Import}
-use Rattle.walrus_items.specs.declared.function_kind.ImportedFunction.{ImportedFunction}
-use Rattle.walrus_theorem.specs.EditLaws.{AddsLive, StaysWhole}
-use Rattle.walrus_theorem.specs.Edits.{MakesLocal}
-use Rattle.walrus_theorem.proofs.EditKept.{some_is}
-use Rattle.walrus_theorem.proofs.EditFunctions.{made_local}
-use Rattle.walrus_module.specs.Replaced.{IsMadeLocal, with_body}
-use Rattle.walrus_module.specs.View.{contents_of, held_view}
-use Rattle.walrus_module.specs.declared.module.Module.{Module}
-use Rattle.walrus_module.proofs.CountedBodies.{held_counted}
-use Rattle.walrus_module.proofs.EditedReplaced.{imported_local, imported_takes}
-use Rattle.walrus_reading.proofs.EditedSlots.{set_here}
+use Rattle.walrus.specs.Base.Arena.{item_at}
+use Rattle.walrus.specs.Base.Id.{place}
+use Rattle.walrus.specs.Base.IdValue.{Id}
+use Rattle.walrus.specs.Base.FunctionKey.{FunctionKey}
+use Rattle.walrus.specs.Base.ModuleTypes.{type_slots}
+use Rattle.walrus.specs.Base.Operators.{Functions, Item, type_item}
+use Rattle.walrus.specs.Base.TypeDef.{TypeDef}
+use Rattle.walrus.specs.Model.Abstract as abstract
+use Rattle.walrus.specs.Model.BlockHandlers.{params_of}
+use Rattle.walrus.specs.Model.Config.{Config}
+use Rattle.walrus.specs.Model.Refers.{function_names, named_by}
+use Rattle.walrus.specs.Model.Rules.{IsFunctionType}
+use Rattle.walrus.proofs.Base.Lists.{Contains-head}
+use Rattle.walrus.specs.Contents.View.{body, function, handlers_at}
+use Rattle.walrus.specs.Items.Function.{body_of}
+use Rattle.walrus.specs.Items.Functions.{FunctionValue, functions}
+use Rattle.walrus.specs.Items.Imports.{imports}
+use Rattle.walrus.specs.Items.FunctionKinds.{kind_type}
+use Rattle.walrus.specs.Items.FunctionKind.{FunctionKind}
+use Rattle.walrus.specs.Items.FunctionKind.TheVariants.{Import}
+use Rattle.walrus.specs.Items.ImportedFunction.{ImportedFunction}
+use Rattle.walrus.specs.Theorem.EditLaws.{AddsLive, StaysWhole}
+use Rattle.walrus.specs.Theorem.Edits.{MakesLocal}
+use Rattle.walrus.proofs.Theorem.EditKept.{some_is}
+use Rattle.walrus.proofs.Theorem.EditFunctions.{made_local}
+use Rattle.walrus.specs.Modules.Replaced.{IsMadeLocal, with_body}
+use Rattle.walrus.specs.Modules.View.{contents_of, held_view}
+use Rattle.walrus.specs.Modules.Module.{Module}
+use Rattle.walrus.proofs.Modules.CountedBodies.{held_counted}
+use Rattle.walrus.proofs.Modules.EditedReplaced.{imported_local, imported_takes}
+use Rattle.walrus.proofs.Modules.EditedSlots.{set_here}
 use Rattle.walrus_tools.proofs.TrapSound.{trap_refers, trap_sound}
 use Rattle.walrus.specs.Edits.{IsWhole}
 use Rattle.walrus_tools.specs.StubAnswers.{PutsTrap}

@@ -1,20 +1,20 @@
 -- One function more that traps.
 use Rattle.std.proofs.Common.{◌≡◌, ◌≢◌, ℕ, Bool, true, false, List, [], Option, Some, None, IsSome, slice_set, refl, sym, ap, ◌∙◌, subst, ⊎_elim}
 use Rattle.std.specs.Prelude.{if◌then◌else◌}
-use Rattle.walrus_base.specs.Arena.{item_at}
-use Rattle.walrus_base.specs.Id.{place}
-use Rattle.walrus_base.specs.Operators.{Item, function_item}
-use Rattle.walrus_items.specs.Function.{body_of, function_type, handlers_in}
-use Rattle.walrus_items.specs.LocalFunction.{LocalFunction}
-use Rattle.walrus_items.specs.Kinds.{imported}
-use Rattle.walrus_items.specs.declared.function_kind.FunctionKind.TheVariants.{Import}
-use Rattle.walrus_items.specs.declared.function_kind.ImportedFunction.{ImportedFunction}
-use Rattle.walrus_items.specs.Functions.{FunctionValue}
-use Rattle.walrus_items.specs.Imports.{ImportValue}
-use Rattle.walrus_module.specs.Replaced.{with_body}
-use Rattle.walrus_reading.proofs.EditedSlots.{set_elsewhere, set_here}
-use Rattle.walrus_theorem.proofs.EditKept.{none_isnt, some_is, some_there}
-use Rattle.walrus_theorem.proofs.EditSpace.{equal_or}
+use Rattle.walrus.specs.Base.Arena.{item_at}
+use Rattle.walrus.specs.Base.Id.{place}
+use Rattle.walrus.specs.Base.Operators.{Item, function_item}
+use Rattle.walrus.specs.Items.Function.{body_of, function_type, handlers_in}
+use Rattle.walrus.specs.Items.LocalFunction.{LocalFunction}
+use Rattle.walrus.specs.Items.Kinds.{imported}
+use Rattle.walrus.specs.Items.FunctionKind.TheVariants.{Import}
+use Rattle.walrus.specs.Items.ImportedFunction.{ImportedFunction}
+use Rattle.walrus.specs.Items.Functions.{FunctionValue}
+use Rattle.walrus.specs.Items.Imports.{ImportValue}
+use Rattle.walrus.specs.Modules.Replaced.{with_body}
+use Rattle.walrus.proofs.Modules.EditedSlots.{set_elsewhere, set_here}
+use Rattle.walrus.proofs.Theorem.EditKept.{none_isnt, some_is, some_there}
+use Rattle.walrus.proofs.Theorem.EditSpace.{equal_or}
 use Rattle.walrus_tools.specs.Stub.{StubsWhere, Traps, import_place}
 use Rattle.walrus_tools.specs.Trap.{trap_ops}
 

@@ -1,16 +1,16 @@
 -- Those of a list of which something holds: of parts by a test, and of slots in which only those are left.
 use Rattle.std.proofs.Common.{◌≡◌, ℕ, zero, suc, ◌+◌, Bool, true, false, List, [], ◌∷◌, ◌++◌, flat_map, length, map, Option, Some, None, inl, inr, refl, sym, ap, ◌∙◌, subst, arith}
 use Rattle.std.specs.Prelude.{◌↔◌, if◌then◌else◌}
-use Rattle.walrus_base.specs.Arena.{entries_from, item_at, items}
-use Rattle.walrus_base.proofs.Standing.{some_inj}
-use Rattle.walrus_model.specs.Abstract.{Name}
-use Rattle.walrus_theorem.proofs.EditKept.{none_isnt}
+use Rattle.walrus.specs.Base.Arena.{entries_from, item_at, items}
+use Rattle.walrus.proofs.Base.Standing.{some_inj}
+use Rattle.walrus.specs.Model.Abstract.{Name}
+use Rattle.walrus.proofs.Theorem.EditKept.{none_isnt}
 use Rattle.walrus_tools.specs.DroppedList.{dropped_of, functions_among, listed_part}
 use Rattle.walrus_tools.specs.FunctionList.{ListedFunction}
-use Rattle.walrus_tools.specs.Parts.{Part, SectionPart, FunctionPart, SegmentPart}
+use Rattle.walrus_sections.specs.Parts.{Part, SectionPart, FunctionPart, SegmentPart}
 use Rattle.walrus_tools.specs.Those.{AreThose}
-use Rattle.walrus_tools.specs.declared.parts.Item.{Item}
-use Rattle.walrus_tools.proofs.LookUps.{untrue}
+use Rattle.walrus_sections.specs.declared.parts.Item.{Item}
+use Rattle.std.proofs.lemmas.Bool.{false≢true as untrue}
 
 -- ---- of parts
 

@@ -1,16 +1,16 @@
 -- The function at a place has a trap in place of its body, or a body again.
 use Rattle.std.proofs.Common.{◌≡◌, ℕ, false, Option, None, Some, option_map, slice_set, refl, sym, ap, ◌∙◌, Result, Ok, Err, MatchResult}
 use Rattle.std.proofs.lemmas.List.{map-set, set-get_or}
-use Rattle.walrus_base.specs.Arena.{item_at}
-use Rattle.walrus_items.specs.Errors.{out_of_memory}
-use Rattle.walrus_items.specs.Functions.{FunctionValue, function_value, functions}
-use Rattle.walrus_items.specs.LendsItem.{with_held}
-use Rattle.walrus_items.specs.LocalFunction.{LocalFunction}
-use Rattle.walrus_items.specs.declared.error.Error.{Error}
-use Rattle.walrus_items.specs.declared.function_kind.FunctionKind.{FunctionKind}
-use Rattle.walrus_items.specs.declared.function_kind.FunctionKind.TheVariants.{Import, Local, Uninitialized}
-use Rattle.walrus_items.specs.declared.functions.Function.{Function}
-use Rattle.walrus_module.specs.declared.module.Module.{Module}
+use Rattle.walrus.specs.Base.Arena.{item_at}
+use Rattle.walrus.specs.Items.Errors.{out_of_memory}
+use Rattle.walrus.specs.Items.Functions.{FunctionValue, function_value, functions}
+use Rattle.walrus.specs.Items.LendsItem.{with_held}
+use Rattle.walrus.specs.Items.LocalFunction.{LocalFunction}
+use Rattle.walrus.specs.Items.Error.{Error}
+use Rattle.walrus.specs.Items.FunctionKind.{FunctionKind}
+use Rattle.walrus.specs.Items.FunctionKind.TheVariants.{Import, Local, Uninitialized}
+use Rattle.walrus.specs.Items.FunctionValue.{Function}
+use Rattle.walrus.specs.Modules.Module.{Module}
 use Rattle.walrus_tools.specs.AloneSteps.{HasBodyAgain, HasNone, TradesIfAny, TradesKind}
 use Rattle.walrus_tools.specs.FunctionMeaning.{has_body}
 

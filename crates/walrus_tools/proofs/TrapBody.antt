@@ -1,17 +1,17 @@
 -- Bytes that read as the body that traps.
 use Rattle.std.proofs.Common.{ℕ, Bool, [], ◌∷◌, refl}
 use Rattle.std.specs.Prelude.{Option}
-use Rattle.wasm_forms.specs.Number.{number_at, leb_at}
-use Rattle.wasm_forms.specs.Grammar.{Is, row_at}
-use Rattle.wasm_operators.specs.Operators as wire
-use Rattle.wasm_operators.specs.Forms.{args_form, operator_of, operator_from, operator}
-use Rattle.wasm_operators.specs.Table.{kinds_of}
-use Rattle.walrus_code.specs.Names.{Lookup}
-use Rattle.walrus_bodies.specs.Body.{context, declarations, BodyReads}
-use Rattle.walrus_model.specs.Config.{Config}
-use Rattle.walrus_theorem.specs.Features.{features_of}
+use Rattle.walrus.specs.Forms.Number.{number_at, leb_at}
+use Rattle.walrus.specs.Forms.Grammar.{Is, row_at}
+use Rattle.walrus.specs.Operators.Operators as wire
+use Rattle.walrus.specs.Operators.Forms.{args_form, operator_of, operator_from, operator}
+use Rattle.walrus.specs.Operators.Table.{kinds_of}
+use Rattle.walrus.specs.Code.Names.{Lookup}
+use Rattle.walrus.specs.Modules.Body.{context, declarations, BodyReads}
+use Rattle.walrus.specs.Model.Config.{Config}
+use Rattle.walrus.specs.Theorem.Features.{features_of}
 use Rattle.walrus_tools.specs.Trap.{trap_ops}
-use Rattle.walrus_theorem.proofs.ReadExample.{reads_whole}
+use Rattle.walrus.proofs.Theorem.ReadExample.{reads_whole}
 
 abbrev the_trap : wire.Op
 the_trap = record { op = 0x00; args = [] }

@@ -2,18 +2,18 @@
 use Rattle.std.proofs.Common.{◌≡◌, ◌≢◌, ◌==◌, ℕ, Bool, true, false, List, [], ◌∷◌, Option, Some, None, refl, sym, ap, ◌∙◌, subst, inl, inr, ⊎_elim}
 use Rattle.std.specs.Prelude.{Contains, IsSome}
 use Rattle.std.proofs.lemmas.Bool.{eqb-false, eqb-true}
-use Rattle.walrus_base.specs.Operators.{Types, Functions, Tables, Memories, Tags, Globals, Elements, DataSegments, Item, Op, function_item, type_item}
-use Rattle.walrus_base.proofs.Lists.{Contains-head, Contains-none, Contains-uncons}
-use Rattle.walrus_base.proofs.Standing.{some_inj}
-use Rattle.walrus_contents.specs.There.{IsSound}
-use Rattle.walrus_model.specs.Abstract.{Abstract, Body, Function, FunctionKind, ImportedFunction, LocalFunction, Name, Subject, Uninitialised}
-use Rattle.walrus_model.specs.Kept.{Kept}
-use Rattle.walrus_model.specs.Live.{IsLive}
-use Rattle.walrus_model.specs.Pipeline.{Collected}
-use Rattle.walrus_model.specs.Reached.{Reached, root}
-use Rattle.walrus_model.specs.Refers.{IsUsed, Refers, body_names, data_names, element_names, function_names, global_names, kind_names, memory_names, named_by, table_names, tag_names, type_names, used_locals, written_in}
-use Rattle.walrus_model.specs.Roots.{data_segment, element_segment}
-use Rattle.walrus_model.proofs.PipelineAlike.{AgreesOn, RootsIn, agrees_back, reached_through, refers_follows, root_follows}
+use Rattle.walrus.specs.Base.Operators.{Types, Functions, Tables, Memories, Tags, Globals, Elements, DataSegments, Item, Op, function_item, type_item}
+use Rattle.walrus.proofs.Base.Lists.{Contains-head, Contains-none, Contains-uncons}
+use Rattle.walrus.proofs.Base.Standing.{some_inj}
+use Rattle.walrus.specs.Contents.There.{IsSound}
+use Rattle.walrus.specs.Model.Abstract.{Abstract, Body, Function, FunctionKind, ImportedFunction, LocalFunction, Name, Subject, Uninitialised}
+use Rattle.walrus.specs.Model.Kept.{Kept}
+use Rattle.walrus.specs.Model.Live.{IsLive}
+use Rattle.walrus.specs.Model.Pipeline.{Collected}
+use Rattle.walrus.specs.Model.Reached.{Reached, root}
+use Rattle.walrus.specs.Model.Refers.{IsUsed, Refers, body_names, data_names, element_names, function_names, global_names, kind_names, memory_names, named_by, table_names, tag_names, type_names, used_locals, written_in}
+use Rattle.walrus.specs.Model.Roots.{data_segment, element_segment}
+use Rattle.walrus.proofs.Model.PipelineAlike.{AgreesOn, RootsIn, agrees_back, reached_through, refers_follows, root_follows}
 use Rattle.walrus_tools.specs.Alone.{handlers_if, trapped_at, trapped_if, trapped_kind}
 use Rattle.walrus_tools.specs.Trap.{trap_ops}
 

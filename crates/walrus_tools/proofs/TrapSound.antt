@@ -1,24 +1,24 @@
 -- A function that traps is sound, and leads to its type alone.
 use Rattle.std.proofs.Common.{◌≡◌, ◌≢◌, ℕ, List, [], ◌∷◌, ◌++◌, map, refl, sym, ap, ◌∙◌, subst, inl, inr, ⊎_elim, arith}
 use Rattle.std.specs.Prelude.{Some, None, Contains, AllPairs, slice_get}
-use Rattle.walrus_bodies.specs.Body.{BodyReads, context}
-use Rattle.walrus_bodies.specs.FunctionTypes.{is_function_def}
-use Rattle.walrus_base.specs.Types.{HeapType}
-use Rattle.walrus_base.specs.Operators.{Functions, Item, Op, type_item}
-use Rattle.walrus_model.specs.Abstract.{Abstract, Body, Function, LocalFunction}
-use Rattle.walrus_model.specs.BlockHandlers.{params_of}
-use Rattle.walrus_model.specs.Config.{Config}
-use Rattle.walrus_model.specs.Live.{IsLive}
-use Rattle.walrus_model.specs.Refers.{IsUsed, Refers, body_names, function_names, named_by, used_locals, written_in}
-use Rattle.walrus_model.specs.Rules.{IsFunctionType}
-use Rattle.walrus_model.specs.WellMade.{body_heaps, heaps_by, kind_heaps}
-use Rattle.walrus_base.proofs.Lists.{Contains-head, Contains-none, Contains-uncons}
-use Rattle.walrus_theorem.specs.EditLaws.{LeadsToLive}
-use Rattle.walrus_theorem.specs.Features.{features_of}
-use Rattle.walrus_theorem.specs.Sound.{DeclaresFew, FunctionHolds, IsSound}
-use Rattle.walrus_theorem.proofs.EditKept.{some_is, some_there}
-use Rattle.walrus_theorem.proofs.EditLeads.{leads_to_type}
-use Rattle.walrus_theorem.specs.WellMade.{IsWellMade}
+use Rattle.walrus.specs.Modules.Body.{BodyReads, context}
+use Rattle.walrus.specs.Modules.FunctionTypes.{is_function_def}
+use Rattle.walrus.specs.Base.Types.{HeapType}
+use Rattle.walrus.specs.Base.Operators.{Functions, Item, Op, type_item}
+use Rattle.walrus.specs.Model.Abstract.{Abstract, Body, Function, LocalFunction}
+use Rattle.walrus.specs.Model.BlockHandlers.{params_of}
+use Rattle.walrus.specs.Model.Config.{Config}
+use Rattle.walrus.specs.Model.Live.{IsLive}
+use Rattle.walrus.specs.Model.Refers.{IsUsed, Refers, body_names, function_names, named_by, used_locals, written_in}
+use Rattle.walrus.specs.Model.Rules.{IsFunctionType}
+use Rattle.walrus.specs.Model.WellMade.{body_heaps, heaps_by, kind_heaps}
+use Rattle.walrus.proofs.Base.Lists.{Contains-head, Contains-none, Contains-uncons}
+use Rattle.walrus.specs.Theorem.EditLaws.{LeadsToLive}
+use Rattle.walrus.specs.Theorem.Features.{features_of}
+use Rattle.walrus.specs.Theorem.Sound.{DeclaresFew, FunctionHolds, IsSound}
+use Rattle.walrus.proofs.Theorem.EditKept.{some_is, some_there}
+use Rattle.walrus.proofs.Theorem.EditLeads.{leads_to_type}
+use Rattle.walrus.specs.Theorem.WellMade.{IsWellMade}
 use Rattle.walrus_tools.proofs.TrapBody.{trap_reads}
 use Rattle.walrus_tools.specs.Trap.{trap_ops}
 

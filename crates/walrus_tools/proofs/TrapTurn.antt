@@ -4,17 +4,17 @@ use Rattle.std.specs.Prelude.{◌⊎◌}
 use Rattle.std.proofs.lemmas.Bool.{cases_lt}
 use Rattle.std.proofs.lemmas.List.{get_or-set_other, get_or_past, length-set, map-set}
 use Rattle.std.proofs.lemmas.List.Elements.{All-contains}
-use Rattle.walrus_base.specs.Arena.{item_at}
-use Rattle.walrus_base.specs.Marks.{is_marked}
-use Rattle.walrus_base.specs.declared.keys.FunctionKey.{FunctionKey}
-use Rattle.walrus_base.specs.declared.marks.Marks.{Marks}
-use Rattle.walrus_items.specs.Exports.{ExportValue}
-use Rattle.walrus_items.specs.declared.function_kind.FunctionKind.{FunctionKind}
-use Rattle.walrus_items.specs.declared.function_kind.FunctionKind.TheVariants.{Import, Local, Uninitialized}
-use Rattle.walrus_items.specs.Functions.{FunctionValue, function_value}
-use Rattle.walrus_items.specs.declared.functions.Function.{Function}
-use Rattle.walrus_theorem.proofs.EditKept.{some_there}
-use Rattle.walrus_reading.proofs.EditedSlots.{set_here}
+use Rattle.walrus.specs.Base.Arena.{item_at}
+use Rattle.walrus.specs.Base.Marks.{is_marked}
+use Rattle.walrus.specs.Base.FunctionKey.{FunctionKey}
+use Rattle.walrus.specs.Base.MarksValue.{Marks}
+use Rattle.walrus.specs.Items.Exports.{ExportValue}
+use Rattle.walrus.specs.Items.FunctionKind.{FunctionKind}
+use Rattle.walrus.specs.Items.FunctionKind.TheVariants.{Import, Local, Uninitialized}
+use Rattle.walrus.specs.Items.Functions.{FunctionValue, function_value}
+use Rattle.walrus.specs.Items.FunctionValue.{Function}
+use Rattle.walrus.proofs.Theorem.EditKept.{some_there}
+use Rattle.walrus.proofs.Modules.EditedSlots.{set_here}
 use Rattle.walrus_tools.specs.MarkSteps.{AreMarks}
 use Rattle.walrus_tools.specs.FunctionMeaning.{AreMeant, MeansBodies, has_body}
 use Rattle.walrus_tools.specs.TrapEdit.{HitTrap, KindTraps, MeantTrap, PlaceTraps, SlotTraps, Trapped, TrapsIf}

@@ -1,40 +1,40 @@
 -- A whole module of which functions trap is whole, and one whose text is refused says why.
 use Rattle.std.proofs.Common.{◌≡◌, ◌≢◌, ℕ, Bool, true, false, List, [], map, Option, Some, None, IsSome, option_map, append-nil, refl, sym, ap, ◌∙◌, subst, inl, inr, Result, Ok, Err, MatchResult}
 use Rattle.std.specs.Prelude.{AllPairs, Contains, ◌⊎◌}
-use Rattle.walrus_base.specs.Arena.{item_at}
-use Rattle.walrus_base.specs.Id.{place}
-use Rattle.walrus_base.specs.Locals.{locals}
-use Rattle.walrus_base.specs.Operators.{Functions, Item, type_item}
-use Rattle.walrus_base.specs.Marks.{is_marked}
-use Rattle.walrus_base.specs.declared.id.Id.{Id}
-use Rattle.walrus_base.specs.declared.keys.FunctionKey.{FunctionKey}
-use Rattle.walrus_base.specs.declared.keys.TypeKey.{TypeKey}
-use Rattle.walrus_base.specs.declared.marks.Marks.{Marks}
-use Rattle.walrus_base.proofs.Lists.{Contains-head}
-use Rattle.walrus_base.proofs.Standing.{some_of}
-use Rattle.walrus_model.specs.Abstract as abstract
-use Rattle.walrus_model.specs.Config.{Config}
-use Rattle.walrus_model.specs.Refers.{function_names, named_by}
-use Rattle.walrus_contents.specs.View.{body, contents_view, function, handlers_at, kind_of}
-use Rattle.walrus_contents.specs.declared.parts.Contents.{Contents}
-use Rattle.walrus_items.specs.Errors.{out_of_memory}
-use Rattle.walrus_items.specs.Exports.{ExportValue, exports}
-use Rattle.walrus_items.specs.Function.{function_type}
-use Rattle.walrus_items.specs.Functions.{FunctionValue, functions}
-use Rattle.walrus_items.specs.declared.error.Error.{Error}
-use Rattle.walrus_items.specs.declared.error.Error.TheVariants as error
-use Rattle.walrus_items.specs.declared.function_kind.FunctionKind.{FunctionKind}
-use Rattle.walrus_items.specs.declared.function_kind.FunctionKind.TheVariants.{Import, Local, Uninitialized}
-use Rattle.walrus_theorem.specs.EditLaws.{AddsLive, IsWholeModule}
-use Rattle.walrus_theorem.specs.Edits.{SwapsBodies}
-use Rattle.walrus_theorem.specs.Sound.{IsSound}
-use Rattle.walrus_theorem.specs.WellMade.{IsWellFormed}
-use Rattle.walrus_theorem.proofs.EditFunctions.{bodies_swapped}
-use Rattle.walrus_module.specs.Edits.{BodySet}
-use Rattle.walrus_module.specs.View.{contents_of, held_view}
-use Rattle.walrus_module.specs.declared.module.Module.{Module}
-use Rattle.walrus_module.proofs.CountedBodies.{held_counted}
-use Rattle.walrus_module.proofs.EditedFunctions.{bodies_written}
+use Rattle.walrus.specs.Base.Arena.{item_at}
+use Rattle.walrus.specs.Base.Id.{place}
+use Rattle.walrus.specs.Base.Locals.{locals}
+use Rattle.walrus.specs.Base.Operators.{Functions, Item, type_item}
+use Rattle.walrus.specs.Base.Marks.{is_marked}
+use Rattle.walrus.specs.Base.IdValue.{Id}
+use Rattle.walrus.specs.Base.FunctionKey.{FunctionKey}
+use Rattle.walrus.specs.Base.TypeKey.{TypeKey}
+use Rattle.walrus.specs.Base.MarksValue.{Marks}
+use Rattle.walrus.proofs.Base.Lists.{Contains-head}
+use Rattle.walrus.proofs.Base.Standing.{some_of}
+use Rattle.walrus.specs.Model.Abstract as abstract
+use Rattle.walrus.specs.Model.Config.{Config}
+use Rattle.walrus.specs.Model.Refers.{function_names, named_by}
+use Rattle.walrus.specs.Contents.View.{body, contents_view, function, handlers_at, kind_of}
+use Rattle.walrus.specs.Contents.Contents.{Contents}
+use Rattle.walrus.specs.Items.Errors.{out_of_memory}
+use Rattle.walrus.specs.Items.Exports.{ExportValue, exports}
+use Rattle.walrus.specs.Items.Function.{function_type}
+use Rattle.walrus.specs.Items.Functions.{FunctionValue, functions}
+use Rattle.walrus.specs.Items.Error.{Error}
+use Rattle.walrus.specs.Items.Error.TheVariants as error
+use Rattle.walrus.specs.Items.FunctionKind.{FunctionKind}
+use Rattle.walrus.specs.Items.FunctionKind.TheVariants.{Import, Local, Uninitialized}
+use Rattle.walrus.specs.Theorem.EditLaws.{AddsLive, IsWholeModule}
+use Rattle.walrus.specs.Theorem.Edits.{SwapsBodies}
+use Rattle.walrus.specs.Theorem.Sound.{IsSound}
+use Rattle.walrus.specs.Theorem.WellMade.{IsWellFormed}
+use Rattle.walrus.proofs.Theorem.EditFunctions.{bodies_swapped}
+use Rattle.walrus.specs.Modules.Edits.{BodySet}
+use Rattle.walrus.specs.Modules.View.{contents_of, held_view}
+use Rattle.walrus.specs.Modules.Module.{Module}
+use Rattle.walrus.proofs.Modules.CountedBodies.{held_counted}
+use Rattle.walrus.proofs.Modules.EditedFunctions.{bodies_written}
 use Rattle.walrus.specs.Edits.{IsWhole}
 use Rattle.walrus_tools.specs.MarkSteps.{AreMarks, RefusesMarks}
 use Rattle.walrus_tools.specs.FunctionMeaning.{AreMeant, Means, MeansBodiless, MeansImported, by_index, by_name, by_star, has_body}

@@ -2,29 +2,29 @@
 use Rattle.std.proofs.Common.{◌≡◌, ℕ, true, List, Option, Some, None, length, refl, sym, ap, ◌∙◌, subst}
 use Rattle.std.specs.Prelude.{IsSome, Result, Ok, Err, ◌↔◌}
 use Rattle.std.specs.Global.{Vec}
-use Rattle.walrus_base.specs.Arena.{item_at}
-use Rattle.walrus_base.specs.Operators.{Functions}
-use Rattle.walrus_contents.specs.View.{function}
-use Rattle.walrus_contents.specs.declared.parts.Contents.{Contents}
-use Rattle.walrus_items.specs.Functions.{FunctionValue, functions}
-use Rattle.walrus_items.specs.declared.custom.CustomSection.{Ghosts}
-use Rattle.walrus_items.specs.declared.error.Error.{Error}
-use Rattle.walrus_items.specs.declared.error.Error.TheVariants as error
-use Rattle.walrus_model.specs.Abstract.{Abstract}
-use Rattle.walrus_model.specs.Config.{Config}
-use Rattle.walrus_model.specs.Kept.{Kept}
-use Rattle.walrus_model.specs.Live.{IsLive}
-use Rattle.walrus_theorem.specs.Refused.{PassesLimits}
-use Rattle.walrus_base.proofs.Standing.{was_some}
-use Rattle.walrus_module.specs.Answered.{IsWellWritten}
-use Rattle.walrus_module.specs.Flags.{Flags, config_of}
-use Rattle.walrus_module.specs.Parsed.{IsParsed}
-use Rattle.walrus_module.specs.Settings.{settings}
-use Rattle.walrus_module.specs.View.{contents_of, view}
-use Rattle.walrus_module.specs.declared.entry.SectionEntry.{SectionEntry}
-use Rattle.walrus_module.specs.declared.module.Module.{Module}
+use Rattle.walrus.specs.Base.Arena.{item_at}
+use Rattle.walrus.specs.Base.Operators.{Functions}
+use Rattle.walrus.specs.Contents.View.{function}
+use Rattle.walrus.specs.Contents.Contents.{Contents}
+use Rattle.walrus.specs.Items.Functions.{FunctionValue, functions}
+use Rattle.walrus.specs.Items.CustomSection.{Ghosts}
+use Rattle.walrus.specs.Items.Error.{Error}
+use Rattle.walrus.specs.Items.Error.TheVariants as error
+use Rattle.walrus.specs.Model.Abstract.{Abstract}
+use Rattle.walrus.specs.Model.Config.{Config}
+use Rattle.walrus.specs.Model.Kept.{Kept}
+use Rattle.walrus.specs.Model.Live.{IsLive}
+use Rattle.walrus.specs.Theorem.Refused.{PassesLimits}
+use Rattle.walrus.proofs.Base.Standing.{was_some}
+use Rattle.walrus.specs.Modules.Answered.{IsWellWritten}
+use Rattle.walrus.specs.Modules.Flags.{Flags, config_of}
+use Rattle.walrus.specs.Modules.Parsed.{IsParsed}
+use Rattle.walrus.specs.Modules.Settings.{settings}
+use Rattle.walrus.specs.Modules.View.{contents_of, view}
+use Rattle.walrus.specs.Modules.SectionEntry.{SectionEntry}
+use Rattle.walrus.specs.Modules.Module.{Module}
 use Rattle.walrus.specs.Collected.{Collects}
-use Rattle.walrus_tools.specs.Choice.{Choice}
+use Rattle.walrus_sections.specs.Choice.{Choice}
 use Rattle.walrus_tools.specs.ChosenModule.{KeepsChosen, RefusesChosen}
 use Rattle.walrus.specs.Edits.{AnswersEdited, EditsTo, IsWhole, RefusesEdit, with_customs}
 use Rattle.walrus.specs.Ends.{Finishes, LeavesLarge, LeavesWritten, LeftOf}

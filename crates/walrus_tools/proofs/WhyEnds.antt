@@ -3,48 +3,48 @@
 use Rattle.std.proofs.Common.{◌≡◌, ℕ, ◌<◌, ◌≤◌, ◌^◌, Bool, true, false, length, arith, List, [], ◌∷◌, Option, Some, None, map, refl, sym, ap, ◌∙◌, subst, inl, inr}
 use Rattle.std.specs.Global.{Vec}
 use Rattle.std.specs.Prelude.{IsSome, Result, Ok, Err, option_map}
-use Rattle.walrus_base.specs.Arena.{item_at}
-use Rattle.walrus_base.specs.Operators.{Item}
-use Rattle.walrus_base.specs.declared.keys.FunctionKey.{FunctionKey}
-use Rattle.walrus_base.specs.declared.locals.ModuleLocals.{ModuleLocals}
-use Rattle.walrus_base.specs.declared.marks.Marks.{Marks}
-use Rattle.walrus_code.specs.Transform.{Transform}
-use Rattle.walrus_model.specs.Abstract.{Abstract, Custom}
-use Rattle.walrus_model.specs.Config.{Config}
-use Rattle.walrus_model.specs.Names.{body_of_function, body_of_kind}
-use Rattle.walrus_model.specs.Pipeline.{Collected}
-use Rattle.walrus_model.specs.Reached.{Reached}
-use Rattle.walrus_model.specs.Roots.{IsRoot, exported, start, data_segment, element_segment, asked_for}
-use Rattle.walrus_items.specs.Exports.{exports}
-use Rattle.walrus_items.specs.Functions.{FunctionValue, functions}
-use Rattle.walrus_items.specs.declared.custom.CustomSection.{Ghosts}
-use Rattle.walrus_items.specs.declared.error.Error.{Error}
-use Rattle.walrus_items.specs.declared.error.ErrorKind.{ErrorKind}
-use Rattle.walrus_items.specs.declared.error.Error.TheVariants as error
-use Rattle.walrus_items.specs.declared.function_kind.FunctionKind.{FunctionKind}
-use Rattle.walrus_items.specs.declared.function_kind.FunctionKind.TheVariants.{Import, Local, Uninitialized}
-use Rattle.walrus_items.specs.Transform.{transform_of}
-use Rattle.walrus_items.specs.declared.transform.CodeTransform.{CodeTransform}
-use Rattle.walrus_items.specs.declared.raw_section.RawCustomSection.{RawCustomSection}
-use Rattle.walrus_contents.specs.There.{IsRefusal}
-use Rattle.walrus_contents.specs.View.{contents_view, function, kind_of}
-use Rattle.walrus_contents.specs.declared.parts.Contents.{Contents}
-use Rattle.walrus_module.specs.Asked.{OneMayRefuse}
-use Rattle.walrus_theorem.specs.Chain.{Leaves}
-use Rattle.walrus_module.specs.Customs.{sections}
-use Rattle.walrus_module.specs.Emission.{EmitsTransform}
-use Rattle.walrus_module.specs.Flags.{Flags, config_of}
-use Rattle.walrus_module.specs.Parsed.{IsParsed, RefusesBytes}
-use Rattle.walrus_module.specs.Raws.{raw_sections}
-use Rattle.walrus_module.specs.Settings.{settings}
-use Rattle.walrus_module.specs.View.{contents_of, held_view, meanings, view}
-use Rattle.walrus_module.specs.declared.customs.ModuleCustomSections.{ModuleCustomSections}
-use Rattle.walrus_module.specs.declared.entry.SectionEntry.{SectionEntry}
-use Rattle.walrus_module.specs.declared.module.Module.{Module}
-use Rattle.walrus_module.proofs.KeptRaw.{none_refuses}
-use Rattle.walrus_module.proofs.RawStays.{all_raw}
-use Rattle.walrus_model.specs.Transform.{TrueOf}
-use Rattle.walrus_writing.specs.Transform.{CountStandsAt, IsTransformOf, imported_functions}
+use Rattle.walrus.specs.Base.Arena.{item_at}
+use Rattle.walrus.specs.Base.Operators.{Item}
+use Rattle.walrus.specs.Base.FunctionKey.{FunctionKey}
+use Rattle.walrus.specs.Base.ModuleLocals.{ModuleLocals}
+use Rattle.walrus.specs.Base.MarksValue.{Marks}
+use Rattle.walrus.specs.Code.Transform.{Transform}
+use Rattle.walrus.specs.Model.Abstract.{Abstract, Custom}
+use Rattle.walrus.specs.Model.Config.{Config}
+use Rattle.walrus.specs.Model.Names.{body_of_function, body_of_kind}
+use Rattle.walrus.specs.Model.Pipeline.{Collected}
+use Rattle.walrus.specs.Model.Reached.{Reached}
+use Rattle.walrus.specs.Model.Roots.{IsRoot, exported, start, data_segment, element_segment, asked_for}
+use Rattle.walrus.specs.Items.Exports.{exports}
+use Rattle.walrus.specs.Items.Functions.{FunctionValue, functions}
+use Rattle.walrus.specs.Items.CustomSection.{Ghosts}
+use Rattle.walrus.specs.Items.Error.{Error}
+use Rattle.walrus.specs.Items.ErrorKind.{ErrorKind}
+use Rattle.walrus.specs.Items.Error.TheVariants as error
+use Rattle.walrus.specs.Items.FunctionKind.{FunctionKind}
+use Rattle.walrus.specs.Items.FunctionKind.TheVariants.{Import, Local, Uninitialized}
+use Rattle.walrus.specs.Items.Transform.{transform_of}
+use Rattle.walrus.specs.Items.CodeTransform.{CodeTransform}
+use Rattle.walrus.specs.Items.RawCustomSection.{RawCustomSection}
+use Rattle.walrus.specs.Contents.There.{IsRefusal}
+use Rattle.walrus.specs.Contents.View.{contents_view, function, kind_of}
+use Rattle.walrus.specs.Contents.Contents.{Contents}
+use Rattle.walrus.specs.Modules.Asked.{OneMayRefuse}
+use Rattle.walrus.specs.Theorem.Chain.{Leaves}
+use Rattle.walrus.specs.Modules.Customs.{sections}
+use Rattle.walrus.specs.Modules.Emission.{EmitsTransform}
+use Rattle.walrus.specs.Modules.Flags.{Flags, config_of}
+use Rattle.walrus.specs.Modules.Parsed.{IsParsed, RefusesBytes}
+use Rattle.walrus.specs.Modules.Raws.{raw_sections}
+use Rattle.walrus.specs.Modules.Settings.{settings}
+use Rattle.walrus.specs.Modules.View.{contents_of, held_view, meanings, view}
+use Rattle.walrus.specs.Modules.ModuleCustomSections.{ModuleCustomSections}
+use Rattle.walrus.specs.Modules.SectionEntry.{SectionEntry}
+use Rattle.walrus.specs.Modules.Module.{Module}
+use Rattle.walrus.proofs.Modules.KeptRaw.{none_refuses}
+use Rattle.walrus.proofs.Modules.RawStays.{all_raw}
+use Rattle.walrus.specs.Model.Transform.{TrueOf}
+use Rattle.walrus.specs.Modules.Transform.{CountStandsAt, IsTransformOf, imported_functions}
 use Rattle.walrus.specs.Collected.{Collects}
 use Rattle.walrus.specs.Marked.{ReachesUnsound}
 use Rattle.walrus.specs.Used.{RefusesSearch}
@@ -52,7 +52,7 @@ use Rattle.walrus.specs.Why.{Explains}
 use Rattle.walrus_tools.specs.Alone.{bytes_of}
 use Rattle.walrus_tools.specs.AloneSteps.{HoldsSame, alone_in}
 use Rattle.walrus_tools.specs.Callers.{AreCallers, HasUnsound}
-use Rattle.walrus_tools.specs.Choice.{Choice}
+use Rattle.walrus_sections.specs.Choice.{Choice}
 use Rattle.walrus_tools.specs.ChosenModule.{KeepsChosen, KeepsIn, RefusesChosen}
 use Rattle.walrus.specs.Edits.{AnswersEdited, IsWhole, with_customs}
 use Rattle.walrus.specs.Ends.{LeftOf}

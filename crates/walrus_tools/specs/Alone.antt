@@ -1,10 +1,10 @@
 -- What would go with a function of a module if its body trapped ("Structure > Instructions > Control Instructions").
 use Rattle.std.specs.Prelude.{ℕ, Bool, true, false, ◌-◌, ◌≡◌, ◌↔◌, ◌⊎◌, List, [], Option, IsTrue, filter, ◌==◌, option_map}
 use Rattle.std.specs.List.{sum_by}
-use Rattle.walrus_base.specs.Operators.{function_item}
-use Rattle.walrus_model.specs.Abstract.{Abstract, Function, FunctionKind, ImportedFunction, LocalFunction, Uninitialised}
-use Rattle.walrus_model.specs.Kept.{Kept}
-use Rattle.walrus_theorem.specs.Report.{Counts}
+use Rattle.walrus.specs.Base.Operators.{function_item}
+use Rattle.walrus.specs.Model.Abstract.{Abstract, Function, FunctionKind, ImportedFunction, LocalFunction, Uninitialised}
+use Rattle.walrus.specs.Model.Kept.{Kept}
+use Rattle.walrus.specs.Theorem.Report.{Counts}
 use Rattle.walrus_tools.specs.Trap.{trap_ops}
 use Rattle.walrus_tools.specs.declared.goers.Alone.{Alone}
 

@@ -1,15 +1,15 @@
 -- The steps to what would go with a function: the trap, the body put back, the functions that go, and what they cost.
 use Rattle.std.specs.Prelude.{ℕ, Bool, true, false, not, ◌&&◌, ◌||◌, ◌≡◌, List, Option, Some, None, count_by, filter, is_some, ◌==◌, slice_set}
 use Rattle.std.specs.List.{range_with_len}
-use Rattle.walrus_base.specs.Arena.{item_at}
-use Rattle.walrus_base.specs.Marks.{Sets, is_marked, mark_places}
-use Rattle.walrus_base.specs.declared.keys.FunctionKey.{FunctionKey}
-use Rattle.walrus_base.specs.declared.marks.Marks.{Marks}
-use Rattle.walrus_items.specs.Functions.{FunctionValue, functions}
-use Rattle.walrus_items.specs.LocalFunction.{LocalFunction}
-use Rattle.walrus_items.specs.declared.function_kind.FunctionKind.{FunctionKind}
-use Rattle.walrus_items.specs.declared.function_kind.FunctionKind.TheVariants.{Local}
-use Rattle.walrus_module.specs.declared.module.Module.{Module}
+use Rattle.walrus.specs.Base.Arena.{item_at}
+use Rattle.walrus.specs.Base.Marks.{Sets, is_marked, mark_places}
+use Rattle.walrus.specs.Base.FunctionKey.{FunctionKey}
+use Rattle.walrus.specs.Base.MarksValue.{Marks}
+use Rattle.walrus.specs.Items.Functions.{FunctionValue, functions}
+use Rattle.walrus.specs.Items.LocalFunction.{LocalFunction}
+use Rattle.walrus.specs.Items.FunctionKind.{FunctionKind}
+use Rattle.walrus.specs.Items.FunctionKind.TheVariants.{Local}
+use Rattle.walrus.specs.Modules.Module.{Module}
 use Rattle.walrus_tools.specs.Alone.{bytes_of, size_of}
 use Rattle.walrus_tools.specs.FunctionMeaning.{has_body}
 use Rattle.walrus_tools.specs.TrapEdit.{IsTrapOf}

@@ -1,11 +1,11 @@
 -- Who refers to an item of a module.
 use Rattle.std.specs.Prelude.{ℕ, ◌≡◌, ◌<◌, ◌≤◌, ◌↔◌, ◌⊎◌, List, [], ◌∷◌, ◌++◌, AllPairs, Contains}
-use Rattle.walrus_base.specs.Operators.{Space, Types, Functions, Tables, Memories, Tags, Globals, Elements, DataSegments, Item}
-use Rattle.walrus_contents.specs.There.{IsSound}
-use Rattle.walrus_items.specs.Items.{space_number}
-use Rattle.walrus_model.specs.Abstract.{Abstract}
-use Rattle.walrus_model.specs.Live.{Has, IsLive}
-use Rattle.walrus_model.specs.Refers.{Refers}
+use Rattle.walrus.specs.Base.Operators.{Space, Types, Functions, Tables, Memories, Tags, Globals, Elements, DataSegments, Item}
+use Rattle.walrus.specs.Contents.There.{IsSound}
+use Rattle.walrus.specs.Items.Items.{space_number}
+use Rattle.walrus.specs.Model.Abstract.{Abstract}
+use Rattle.walrus.specs.Model.Live.{Has, IsLive}
+use Rattle.walrus.specs.Model.Refers.{Refers}
 use Rattle.walrus_tools.specs.declared.referrers.Kind.{Kind}
 use Rattle.walrus_tools.specs.declared.referrers.Kind.TheVariants as kinds
 

@@ -1,17 +1,17 @@
 -- A module of which only chosen exports are left ("Structure > Modules > Exports"), and which choice fits none of them.
 use Rattle.std.specs.Prelude.{◌≡◌, ℕ, List, [], Option, Result, MatchResult, ⊤}
 use Rattle.std.specs.Global.{Vec}
-use Rattle.walrus_model.specs.Abstract.{Custom}
-use Rattle.walrus_model.specs.Config.{Config}
-use Rattle.walrus_items.specs.Exports.{ExportValue, exports}
-use Rattle.walrus_items.specs.declared.error.Error.{Error}
-use Rattle.walrus_items.specs.declared.error.Error.TheVariants.{Memory, NotFound}
-use Rattle.walrus_contents.specs.declared.parts.Contents.{Contents}
-use Rattle.walrus_module.specs.Parsed.{IsParsed}
-use Rattle.walrus_module.specs.declared.module.Module.{Module}
+use Rattle.walrus.specs.Model.Abstract.{Custom}
+use Rattle.walrus.specs.Model.Config.{Config}
+use Rattle.walrus.specs.Items.Exports.{ExportValue, exports}
+use Rattle.walrus.specs.Items.Error.{Error}
+use Rattle.walrus.specs.Items.Error.TheVariants.{Memory, NotFound}
+use Rattle.walrus.specs.Contents.Contents.{Contents}
+use Rattle.walrus.specs.Modules.Parsed.{IsParsed}
+use Rattle.walrus.specs.Modules.Module.{Module}
 use Rattle.walrus.specs.Headline.{RunsOn}
-use Rattle.walrus_tools.specs.Choice.{Choice}
-use Rattle.walrus_tools.specs.ExportChoice.{EachFits, IsChosen, OneFitsNone, TellsUnfit}
+use Rattle.walrus_sections.specs.Choice.{Choice}
+use Rattle.walrus_sections.specs.ExportChoice.{EachFits, IsChosen, OneFitsNone, TellsUnfit}
 use Rattle.walrus.specs.Edits.{AnswersEdited, with_customs}
 use Rattle.walrus.specs.Ends.{Answers}
 use Rattle.walrus_tools.specs.KeptExports.{KeepsNamed, export_names}

@@ -2,21 +2,21 @@
 -- Modules > Indices", "Binary Format > Code Section").
 use Rattle.std.specs.Prelude.{ℕ, Bool, List, [], ◌∷◌, Result, map, ◌≡◌, if◌then◌else◌}
 use Rattle.std.specs.Global.{Vec}
-use Rattle.walrus_base.specs.Operators.{function_item}
-use Rattle.walrus_model.specs.Abstract.{Name}
-use Rattle.walrus_model.specs.Config.{Config}
-use Rattle.walrus_model.specs.Kept.{Kept}
-use Rattle.walrus_items.specs.declared.error.Error.{Error}
-use Rattle.walrus_tools.specs.Choice.{Choice}
+use Rattle.walrus.specs.Base.Operators.{function_item}
+use Rattle.walrus.specs.Model.Abstract.{Name}
+use Rattle.walrus.specs.Model.Config.{Config}
+use Rattle.walrus.specs.Model.Kept.{Kept}
+use Rattle.walrus.specs.Items.Error.{Error}
+use Rattle.walrus_sections.specs.Choice.{Choice}
 use Rattle.walrus_tools.specs.ChosenModule.{KeepsChosen, RefusesChosen}
 use Rattle.walrus.specs.Edited.{Edited, edited_view}
 use Rattle.walrus.specs.Edits.{RefusesEdit}
 use Rattle.walrus.specs.Ends.{Answers}
 use Rattle.walrus_tools.specs.FunctionList.{IsLong, ListedFunction, function_names, listed_bytes, listed_seen}
-use Rattle.walrus_tools.specs.Parts.{Part, SectionPart, FunctionPart, SegmentPart, HasParts}
+use Rattle.walrus_sections.specs.Parts.{Part, SectionPart, FunctionPart, SegmentPart, HasParts}
 use Rattle.walrus_tools.specs.Spelled.{AreLong, AreSpelled}
 use Rattle.walrus_tools.specs.Those.{AreThose}
-use Rattle.walrus_tools.specs.declared.parts.Item.{Item}
+use Rattle.walrus_sections.specs.declared.parts.Item.{Item}
 use Rattle.walrus_tools.specs.declared.tool.list.Listed.{Listed}
 
 -- the functions among these parts, in their order

@@ -2,19 +2,19 @@
 use Rattle.std.specs.Prelude.{ℕ, ◌^◌, ◌≤◌, ◌⊎◌, List, ◌∷◌, ◌++◌, Result, length, map, ◌≡◌}
 use Rattle.std.specs.Global.{Vec}
 use Rattle.std.specs.String.{string_bytes}
-use Rattle.walrus_base.specs.Arena.{items}
-use Rattle.walrus_base.specs.Operators.{Item, Space, Types, Functions, Tables, Memories, Tags, Globals, Elements, DataSegments}
-use Rattle.walrus_code.specs.Code.{item_of}
-use Rattle.walrus_model.specs.Config.{Config}
-use Rattle.walrus_items.specs.Exports.{ExportValue, exports}
-use Rattle.walrus_items.specs.Kinds.{exported}
-use Rattle.walrus_items.specs.declared.error.Error.{Error}
-use Rattle.walrus_tools.specs.Choice.{Choice}
+use Rattle.walrus.specs.Base.Arena.{items}
+use Rattle.walrus.specs.Base.Operators.{Item, Space, Types, Functions, Tables, Memories, Tags, Globals, Elements, DataSegments}
+use Rattle.walrus.specs.Code.Code.{item_of}
+use Rattle.walrus.specs.Model.Config.{Config}
+use Rattle.walrus.specs.Items.Exports.{ExportValue, exports}
+use Rattle.walrus.specs.Items.Kinds.{exported}
+use Rattle.walrus.specs.Items.Error.{Error}
+use Rattle.walrus_sections.specs.Choice.{Choice}
 use Rattle.walrus_tools.specs.ChosenModule.{KeepsChosen, RefusesChosen}
+use Rattle.walrus_sections.specs.Numbers.{no_name, number_bytes}
 use Rattle.walrus.specs.Edited.{Edited}
 use Rattle.walrus.specs.Edits.{RefusesEdit}
 use Rattle.walrus.specs.Ends.{Answers}
-use Rattle.walrus_tools.specs.Numbers.{no_name, number_bytes}
 use Rattle.walrus_tools.specs.Spelled.{AreLong, AreSpelled}
 use Rattle.walrus_tools.specs.declared.tool.exports.Exported.{Exported}
 

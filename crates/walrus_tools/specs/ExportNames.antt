@@ -1,12 +1,12 @@
 -- A module of which one export is gone and another has a new name ("Structure > Modules > Exports").
 use Rattle.std.specs.Prelude.{ℕ, List, Option, Some, None, Result, MatchResult, slice_set, ◌≡◌, ◌⊎◌, ⊤}
 use Rattle.std.specs.Global.{Vec}
-use Rattle.walrus_model.specs.Config.{Config}
-use Rattle.walrus_items.specs.declared.error.Error.{Error}
-use Rattle.walrus_items.specs.declared.error.Error.TheVariants.{Caller, Memory, NotFound}
-use Rattle.walrus_items.specs.Exports.{ExportValue, ModuleExports, exports, is_named}
-use Rattle.walrus_items.specs.Searches.{first}
-use Rattle.walrus_contents.specs.declared.parts.Contents.{Contents}
+use Rattle.walrus.specs.Model.Config.{Config}
+use Rattle.walrus.specs.Items.Error.{Error}
+use Rattle.walrus.specs.Items.Error.TheVariants.{Caller, Memory, NotFound}
+use Rattle.walrus.specs.Items.Exports.{ExportValue, ModuleExports, exports, is_named}
+use Rattle.walrus.specs.Items.Searches.{first}
+use Rattle.walrus.specs.Contents.Contents.{Contents}
 use Rattle.walrus.specs.Edits.{AnswersEdited}
 
 -- the first export of this name, with its place

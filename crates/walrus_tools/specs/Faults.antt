@@ -1,17 +1,17 @@
 -- What is wrong with bytes that aren't accepted, and how that is told in eight bytes.
 use Rattle.std.specs.Prelude.{ℕ, ◌<◌, ◌^◌, ◌≤◌, List, ◌++◌, Option, Some, None, Result, Ok, Err, codes, decimal, ◌≡◌, ⊤}
 use Rattle.std.specs.Global.{Vec}
-use Rattle.walrus_items.specs.declared.error.Error.{Error}
-use Rattle.walrus_items.specs.declared.error.Error.TheVariants.{Memory, TooLarge}
-use Rattle.walrus_model.specs.Config.{Config}
-use Rattle.walrus_reading.specs.Faults.{IsFault}
-use Rattle.walrus_reading.specs.declared.faults.Fault.{Fault}
-use Rattle.walrus_reading.specs.declared.faults.Fault.TheVariants.{Body, Header, Rule, Section}
-use Rattle.walrus_theorem.specs.Features.{features_of}
-use Rattle.walrus_theorem.specs.Headline.{Accepts}
-use Rattle.walrus_tools.specs.Beginnings.{BeginsAs, beginning_number, beginning_text}
+use Rattle.walrus.specs.Items.Error.{Error}
+use Rattle.walrus.specs.Items.Error.TheVariants.{Memory, TooLarge}
+use Rattle.walrus.specs.Model.Config.{Config}
+use Rattle.walrus.specs.Modules.Faults.{IsFault}
+use Rattle.walrus.specs.Modules.Fault.{Fault}
+use Rattle.walrus.specs.Modules.Fault.TheVariants.{Body, Header, Rule, Section}
+use Rattle.walrus.specs.Theorem.Features.{features_of}
+use Rattle.walrus.specs.Theorem.Headline.{Accepts}
+use Rattle.walrus_sections.specs.Beginnings.{BeginsAs, beginning_number, beginning_text}
 use Rattle.walrus_tools.specs.FunctionList.{number_bytes}
-use Rattle.walrus_tools.specs.declared.beginnings.Beginning.{Beginning}
+use Rattle.walrus_sections.specs.declared.beginnings.Beginning.{Beginning}
 use Rattle.wasm_wire.specs.declared.rules.broken.BrokenRule.{BrokenRule}
 use Rattle.wasm_wire.specs.declared.rules.broken.BrokenRule.TheVariants as rules
 

@@ -3,20 +3,20 @@
 use Rattle.std.specs.Prelude.{ℕ, ◌-◌, ◌^◌, ◌≤◌, ◌⊎◌, List, ◌++◌, Option, Result, map, ◌≡◌}
 use Rattle.std.specs.Global.{Vec}
 use Rattle.std.specs.Option.{option_to_list}
-use Rattle.walrus_base.specs.Arena.{item_at}
-use Rattle.walrus_base.specs.Operators.{function_item}
-use Rattle.walrus_code.specs.Transform.{Transform}
-use Rattle.walrus_model.specs.Abstract.{Abstract, AnItem, Name}
-use Rattle.walrus_model.specs.Config.{Config}
-use Rattle.walrus_contents.specs.View.{name_at}
-use Rattle.walrus_items.specs.Functions.{FunctionValue}
-use Rattle.walrus_items.specs.Seen.{text_of}
-use Rattle.walrus_items.specs.declared.error.Error.{Error}
-use Rattle.walrus_tools.specs.Choice.{Choice}
+use Rattle.walrus.specs.Base.Arena.{item_at}
+use Rattle.walrus.specs.Base.Operators.{function_item}
+use Rattle.walrus.specs.Code.Transform.{Transform}
+use Rattle.walrus.specs.Model.Abstract.{Abstract, AnItem, Name}
+use Rattle.walrus.specs.Model.Config.{Config}
+use Rattle.walrus.specs.Contents.View.{name_at}
+use Rattle.walrus.specs.Items.Functions.{FunctionValue}
+use Rattle.walrus.specs.Items.Seen.{text_of}
+use Rattle.walrus.specs.Items.Error.{Error}
+use Rattle.walrus_sections.specs.Choice.{Choice}
 use Rattle.walrus_tools.specs.ChosenModule.{KeepsChosen, RefusesChosen}
+pub use Rattle.walrus_sections.specs.Numbers.{IsLongName, RefusesIf, name_bytes, no_name, number_bytes}
 use Rattle.walrus.specs.Edits.{EditsTo, RefusesEdit}
 use Rattle.walrus.specs.Ends.{Answers, LeavesLarge}
-pub use Rattle.walrus_tools.specs.Numbers.{IsLongName, RefusesIf, name_bytes, no_name, number_bytes}
 use Rattle.walrus_tools.specs.Measures.{IsMeasured}
 use Rattle.walrus_tools.specs.Spelled.{AreLong, AreSpelled}
 use Rattle.walrus_tools.specs.declared.tool.list.Listed.{Listed}

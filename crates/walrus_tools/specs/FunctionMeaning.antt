@@ -3,14 +3,14 @@
 use Rattle.std.specs.Prelude.{ℕ, Bool, true, false, List, ◌∷◌, ◌++◌, Option, Some, None, Ok, All, Contains, map, nat_eq, option_map, ◌≡◌, ◌⊎◌}
 use Rattle.std.specs.List.{list_any}
 use Rattle.std.specs.Str.Parse.{ParsesUnsigned}
-use Rattle.walrus_base.specs.Arena.{IsLive, item_at}
-use Rattle.walrus_base.specs.Id.{place}
-use Rattle.walrus_items.specs.Exports.{ExportValue, exported_function}
-use Rattle.walrus_items.specs.Functions.{FunctionValue}
-use Rattle.walrus_items.specs.declared.function_kind.FunctionKind.{FunctionKind}
-use Rattle.walrus_items.specs.declared.function_kind.FunctionKind.TheVariants.{Import, Local, Uninitialized}
-use Rattle.walrus_items.specs.declared.function_kind.ImportedFunction.{ImportedFunction}
-use Rattle.walrus_tools.specs.Fits.{Fits}
+use Rattle.walrus.specs.Base.Arena.{IsLive, item_at}
+use Rattle.walrus.specs.Base.Id.{place}
+use Rattle.walrus.specs.Items.Exports.{ExportValue, exported_function}
+use Rattle.walrus.specs.Items.Functions.{FunctionValue}
+use Rattle.walrus.specs.Items.FunctionKind.{FunctionKind}
+use Rattle.walrus.specs.Items.FunctionKind.TheVariants.{Import, Local, Uninitialized}
+use Rattle.walrus.specs.Items.ImportedFunction.{ImportedFunction}
+use Rattle.walrus_sections.specs.Fits.{Fits}
 use Rattle.walrus_tools.specs.FunctionNames.{function_called}
 use Rattle.walrus_tools.specs.declared.function_meaning.Meant.{Meant}
 

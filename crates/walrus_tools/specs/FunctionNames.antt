@@ -1,14 +1,14 @@
 -- The function that is meant by a name ("Structure > Values > Names", "Structure > Modules > Exports").
 use Rattle.std.specs.Prelude.{ℕ, List, Option, Some, None, Result, Ok, Err, option_map, ◌≡◌}
-use Rattle.walrus_base.specs.Id.{place}
-use Rattle.walrus_base.specs.declared.id.Id.{Id}
-use Rattle.walrus_base.specs.declared.keys.FunctionKey.{FunctionKey}
-use Rattle.walrus_items.specs.declared.error.Error.{Error}
-use Rattle.walrus_items.specs.declared.error.Error.TheVariants.{NotFound}
-use Rattle.walrus_items.specs.Exports.{ExportValue, exports, function_named}
-use Rattle.walrus_items.specs.Functions.{FunctionValue, functions, is_called}
-use Rattle.walrus_items.specs.Searches.{first}
-use Rattle.walrus_contents.specs.declared.parts.Contents.{Contents}
+use Rattle.walrus.specs.Base.Id.{place}
+use Rattle.walrus.specs.Base.IdValue.{Id}
+use Rattle.walrus.specs.Base.FunctionKey.{FunctionKey}
+use Rattle.walrus.specs.Items.Error.{Error}
+use Rattle.walrus.specs.Items.Error.TheVariants.{NotFound}
+use Rattle.walrus.specs.Items.Exports.{ExportValue, exports, function_named}
+use Rattle.walrus.specs.Items.Functions.{FunctionValue, functions, is_called}
+use Rattle.walrus.specs.Items.Searches.{first}
+use Rattle.walrus.specs.Contents.Contents.{Contents}
 
 -- ---- of what a module holds
 

@@ -2,21 +2,21 @@
 use Rattle.std.specs.Prelude.{ℕ, ◌^◌, ◌≤◌, ◌⊎◌, List, ◌++◌, Result, length, map, ◌≡◌}
 use Rattle.std.specs.Global.{Vec}
 use Rattle.std.specs.String.{string_bytes}
-use Rattle.walrus_base.specs.Arena.{items}
-use Rattle.walrus_base.specs.Operators.{Item}
-use Rattle.walrus_code.specs.Code.{item_of}
-use Rattle.walrus_model.specs.Config.{Config}
-use Rattle.walrus_model.specs.Kept.{Kept}
-use Rattle.walrus_items.specs.Imports.{ImportValue, imports}
-use Rattle.walrus_items.specs.Kinds.{imported}
-use Rattle.walrus_items.specs.declared.error.Error.{Error}
-use Rattle.walrus_tools.specs.Choice.{Choice}
+use Rattle.walrus.specs.Base.Arena.{items}
+use Rattle.walrus.specs.Base.Operators.{Item}
+use Rattle.walrus.specs.Code.Code.{item_of}
+use Rattle.walrus.specs.Model.Config.{Config}
+use Rattle.walrus.specs.Model.Kept.{Kept}
+use Rattle.walrus.specs.Items.Imports.{ImportValue, imports}
+use Rattle.walrus.specs.Items.Kinds.{imported}
+use Rattle.walrus.specs.Items.Error.{Error}
+use Rattle.walrus_sections.specs.Choice.{Choice}
 use Rattle.walrus_tools.specs.ChosenModule.{KeepsChosen, RefusesChosen}
 use Rattle.walrus.specs.Edited.{Edited, edited_view}
 use Rattle.walrus.specs.Edits.{RefusesEdit}
 use Rattle.walrus.specs.Ends.{Answers}
 use Rattle.walrus_tools.specs.ExportList.{item_bytes, text_bytes}
-use Rattle.walrus_tools.specs.Numbers.{no_name}
+use Rattle.walrus_sections.specs.Numbers.{no_name}
 use Rattle.walrus_tools.specs.Spelled.{AreLong, AreSpelled}
 use Rattle.walrus_tools.specs.Those.{AreThose}
 use Rattle.walrus_tools.specs.declared.tool.imports.Imported.{Imported}

@@ -1,17 +1,17 @@
 -- Which item of a module a text means: by an index, by its own name, or by the name of an export ("Structure > Modules > Indices", "Structure > Modules
 -- > Exports").
-use Rattle.std.specs.Prelude.{ℕ, List, Option, Some, None, Result, Ok, Err, option_map, ◌≡◌}
-use Rattle.walrus_base.specs.Arena.{IsLive}
-use Rattle.walrus_base.specs.Operators.{Item, function_item}
-use Rattle.walrus_code.specs.Code.{item_of}
-use Rattle.walrus_items.specs.Exports.{ExportValue, exports}
-use Rattle.walrus_items.specs.Functions.{FunctionValue, functions, is_called}
-use Rattle.walrus_items.specs.Kinds.{exported}
-use Rattle.walrus_items.specs.Searches.{first}
-use Rattle.walrus_items.specs.declared.error.Error.{Error}
-use Rattle.walrus_items.specs.declared.error.Error.TheVariants.{NotFound}
-use Rattle.walrus_code.specs.declared.items.ItemId.{ItemId}
-use Rattle.walrus_contents.specs.declared.parts.Contents.{Contents}
+use Rattle.std.specs.Prelude.{ℕ, List, Option, Some, Result, Ok, Err, option_map, ◌≡◌}
+use Rattle.walrus.specs.Base.Arena.{IsLive}
+use Rattle.walrus.specs.Base.Operators.{Item, function_item}
+use Rattle.walrus.specs.Code.Code.{item_of}
+use Rattle.walrus.specs.Items.Exports.{ExportValue, exports}
+use Rattle.walrus.specs.Items.Functions.{FunctionValue, functions, is_called}
+use Rattle.walrus.specs.Items.Kinds.{exported}
+use Rattle.walrus.specs.Items.Searches.{first}
+use Rattle.walrus.specs.Items.Error.{Error}
+use Rattle.walrus.specs.Items.Error.TheVariants.{NotFound}
+use Rattle.walrus.specs.Code.ItemId.{ItemId}
+use Rattle.walrus.specs.Contents.Contents.{Contents}
 use Rattle.walrus_tools.specs.ExportNames.{named}
 use Rattle.walrus_tools.specs.FunctionMeaning.{SaysIndex, SaysNone}
 use Rattle.walrus_tools.specs.FunctionNames.{or_else}

@@ -1,7 +1,7 @@
 -- The exports that stay where they are chosen by their names ("Structure > Modules > Exports").
 use Rattle.std.specs.Prelude.{◌≡◌, ◌≢◌, ◌≤◌, ◌<◌, ◌⊎◌, ℕ, List, map, length, Option, Some, None}
-use Rattle.walrus_base.specs.Arena.{item_at, items}
-use Rattle.walrus_items.specs.Exports.{ExportValue}
+use Rattle.walrus.specs.Base.Arena.{item_at, items}
+use Rattle.walrus.specs.Items.Exports.{ExportValue}
 
 -- the names under which something is exported
 abbrev pub export_names : List (Option ExportValue) → List (List ℕ)

@@ -1,17 +1,17 @@
 -- How many items of each kind there are ("Structure > Modules > Indices").
 use Rattle.std.specs.Prelude.{ℕ, List, Option, count_by, is_some, length}
 use Rattle.std.specs.List.{range_with_len}
-use Rattle.walrus_base.specs.Arena.{item_at}
-use Rattle.walrus_base.specs.Operators.{Item, Functions, Tables, Memories, Tags, Globals, Elements, DataSegments}
-use Rattle.walrus_contents.specs.declared.parts.Contents.{Contents}
-use Rattle.walrus_items.specs.Data.{data_segments}
-use Rattle.walrus_items.specs.Elements.{elements}
-use Rattle.walrus_items.specs.Functions.{functions}
-use Rattle.walrus_items.specs.Globals.{globals}
-use Rattle.walrus_items.specs.Memories.{memories}
-use Rattle.walrus_items.specs.Tables.{tables}
-use Rattle.walrus_items.specs.Tags.{tags}
-use Rattle.walrus_theorem.specs.Report.{Counts}
+use Rattle.walrus.specs.Base.Arena.{item_at}
+use Rattle.walrus.specs.Base.Operators.{Item, Functions, Tables, Memories, Tags, Globals, Elements, DataSegments}
+use Rattle.walrus.specs.Contents.Contents.{Contents}
+use Rattle.walrus.specs.Items.Data.{data_segments}
+use Rattle.walrus.specs.Items.Elements.{elements}
+use Rattle.walrus.specs.Items.Functions.{functions}
+use Rattle.walrus.specs.Items.Globals.{globals}
+use Rattle.walrus.specs.Items.Memories.{memories}
+use Rattle.walrus.specs.Items.Tables.{tables}
+use Rattle.walrus.specs.Items.Tags.{tags}
+use Rattle.walrus.specs.Theorem.Report.{Counts}
 use Rattle.walrus_tools.specs.declared.kinds.Kinds.{Kinds}
 
 -- of each kind so many items are those of which P holds

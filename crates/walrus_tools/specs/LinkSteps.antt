@@ -4,13 +4,13 @@ use Rattle.std.specs.Borrow.{Bor}
 use Rattle.std.specs.Global.{Vec}
 use Rattle.std.specs.HashMap.{get}
 use Rattle.std.specs.declared.ops.Range.{Range}
-use Rattle.walrus_base.specs.Operators.{Item, function_item}
-use Rattle.walrus_base.specs.declared.id.Id.{Id}
-use Rattle.walrus_base.specs.declared.keys.FunctionKey.{FunctionKey}
-use Rattle.walrus_items.specs.Exports.{ExportValue}
-use Rattle.walrus_items.specs.Items.{is_item, space_number}
-use Rattle.walrus_items.specs.Kinds.{exported}
-use Rattle.walrus_items.specs.Transform.{range_of}
+use Rattle.walrus.specs.Base.Operators.{Item, function_item}
+use Rattle.walrus.specs.Base.IdValue.{Id}
+use Rattle.walrus.specs.Base.FunctionKey.{FunctionKey}
+use Rattle.walrus.specs.Items.Exports.{ExportValue}
+use Rattle.walrus.specs.Items.Items.{is_item, space_number}
+use Rattle.walrus.specs.Items.Kinds.{exported}
+use Rattle.walrus.specs.Items.Transform.{range_of}
 use Rattle.walrus_tools.specs.Links.{body_size}
 use Rattle.walrus_tools.specs.declared.export_groups.ExportGroups.{ExportGroups}
 

@@ -2,12 +2,12 @@
 use Rattle.std.specs.Prelude.{ℕ, ◌-◌, List, ◌∷◌, Option, Some, None, Contains, filter, find, map, option_map, string_bytes, ◌≡◌, ⊤}
 use Rattle.std.specs.Global.{Vec}
 use Rattle.std.specs.Option.{option_to_list}
-use Rattle.walrus_base.specs.Operators.{Elements, DataSegments, Item, function_item}
-use Rattle.walrus_code.specs.Code.{item_of}
-use Rattle.walrus_model.specs.Abstract.{Abstract, AnItem, DataSegment, DeclaredElements, ActiveElements, PassiveElements, Element, ElementKind, Export, Name}
-use Rattle.walrus_model.specs.Roots.{IsRootData}
-use Rattle.walrus_items.specs.Items.{is_item}
-use Rattle.walrus_items.specs.Seen.{text_of}
+use Rattle.walrus.specs.Base.Operators.{Elements, DataSegments, Item, function_item}
+use Rattle.walrus.specs.Code.Code.{item_of}
+use Rattle.walrus.specs.Model.Abstract.{Abstract, AnItem, DataSegment, DeclaredElements, ActiveElements, PassiveElements, Element, ElementKind, Export, Name}
+use Rattle.walrus.specs.Model.Roots.{IsRootData}
+use Rattle.walrus.specs.Items.Items.{is_item}
+use Rattle.walrus.specs.Items.Seen.{text_of}
 use Rattle.walrus_tools.specs.declared.links.Link.{Link}
 use Rattle.walrus_tools.specs.declared.roots.Root.{Root}
 use Rattle.walrus_tools.specs.declared.roots.Root.TheVariants.{Active, Declared, Exported, Start}

@@ -1,13 +1,13 @@
 -- Marks that are set one after another, and those of the functions that texts mean.
 use Rattle.std.specs.Prelude.{ℕ, true, false, List, Option, Result, All, MatchResult, length, ◌≡◌, ◌⊎◌, ◌↔◌, ⊤}
-use Rattle.walrus_base.specs.Arena.{item_at}
-use Rattle.walrus_base.specs.Marks.{is_marked, mark_places}
-use Rattle.walrus_base.specs.declared.keys.FunctionKey.{FunctionKey}
-use Rattle.walrus_base.specs.declared.marks.Marks.{Marks}
-use Rattle.walrus_items.specs.Exports.{ExportValue}
-use Rattle.walrus_items.specs.Functions.{FunctionValue}
-use Rattle.walrus_items.specs.declared.error.Error.{Error}
-use Rattle.walrus_items.specs.declared.error.Error.TheVariants.{Memory, NotFound, NotReplaceable}
+use Rattle.walrus.specs.Base.Arena.{item_at}
+use Rattle.walrus.specs.Base.Marks.{is_marked, mark_places}
+use Rattle.walrus.specs.Base.FunctionKey.{FunctionKey}
+use Rattle.walrus.specs.Base.MarksValue.{Marks}
+use Rattle.walrus.specs.Items.Exports.{ExportValue}
+use Rattle.walrus.specs.Items.Functions.{FunctionValue}
+use Rattle.walrus.specs.Items.Error.{Error}
+use Rattle.walrus.specs.Items.Error.TheVariants.{Memory, NotFound, NotReplaceable}
 use Rattle.walrus_tools.specs.FunctionMeaning.{AreMeant, FitsExport, FitsFunction, has_body, IsFirst, Means, MeansBodies, MeansBodiless, MeansNone}
 use Rattle.walrus_tools.specs.declared.marks.Marking.{Marking}
 

@@ -1,11 +1,11 @@
 -- What is left of a module that is read, and where its functions stand in the bytes that are written ("Binary Format > Code Section").
 use Rattle.std.specs.Prelude.{ℕ, List, false, ◌≡◌}
-use Rattle.walrus_code.specs.Transform.{Transform}
-use Rattle.walrus_model.specs.Abstract.{Abstract}
-use Rattle.walrus_model.specs.Config.{Config}
-use Rattle.walrus_contents.specs.declared.parts.Contents.{Contents}
-use Rattle.walrus_module.specs.Answered.{IsWellWritten}
-use Rattle.walrus_writing.specs.Transform.{IsTransformOf}
+use Rattle.walrus.specs.Code.Transform.{Transform}
+use Rattle.walrus.specs.Model.Abstract.{Abstract}
+use Rattle.walrus.specs.Model.Config.{Config}
+use Rattle.walrus.specs.Contents.Contents.{Contents}
+use Rattle.walrus.specs.Modules.Answered.{IsWellWritten}
+use Rattle.walrus.specs.Modules.Transform.{IsTransformOf}
 use Rattle.walrus.specs.Edits.{EditsTo}
 
 -- nothing is edited

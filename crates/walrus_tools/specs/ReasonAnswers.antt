@@ -1,18 +1,18 @@
 -- Why what a text means stays, and what refers to it: from bytes to values, and from bytes to bytes.
 use Rattle.std.specs.Prelude.{ℕ, List, Option, Some, None, Result, map, option_map, ◌≡◌, ◌⊎◌}
 use Rattle.std.specs.Global.{Vec}
-use Rattle.walrus_base.specs.Operators.{Item, function_item}
-use Rattle.walrus_code.specs.Transform.{Transform}
-use Rattle.walrus_model.specs.Abstract.{Abstract}
-use Rattle.walrus_model.specs.Config.{Config}
-use Rattle.walrus_model.specs.Reached.{Reached}
-use Rattle.walrus_model.specs.Transform.{IsLocalFunction}
-use Rattle.walrus_items.specs.declared.error.Error.{Error}
-use Rattle.walrus_contents.specs.declared.parts.Contents.{Contents}
+use Rattle.walrus.specs.Base.Operators.{Item, function_item}
+use Rattle.walrus.specs.Code.Transform.{Transform}
+use Rattle.walrus.specs.Model.Abstract.{Abstract}
+use Rattle.walrus.specs.Model.Config.{Config}
+use Rattle.walrus.specs.Model.Reached.{Reached}
+use Rattle.walrus.specs.Model.Transform.{IsLocalFunction}
+use Rattle.walrus.specs.Items.Error.{Error}
+use Rattle.walrus.specs.Contents.Contents.{Contents}
 use Rattle.walrus.specs.Why.{Explains}
 use Rattle.walrus_tools.specs.Alone.{IsAlone}
 use Rattle.walrus_tools.specs.Callers.{AreCallers}
-use Rattle.walrus_tools.specs.Choice.{Choice}
+use Rattle.walrus_sections.specs.Choice.{Choice}
 use Rattle.walrus_tools.specs.ChosenModule.{KeepsChosen, RefusesChosen}
 use Rattle.walrus.specs.Edits.{EditsTo, RefusesEdit, with_customs}
 use Rattle.walrus.specs.Ends.{Answers, IfNotFound, LeavesLarge}

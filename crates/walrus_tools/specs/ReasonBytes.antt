@@ -1,12 +1,12 @@
 -- What is told of an item and of why it stays, as bytes.
-use Rattle.std.specs.Prelude.{ℕ, ◌^◌, ◌≤◌, ◌⊎◌, List, [], ◌∷◌, ◌++◌, Contains, Option, Some, None, flat_map, length, option_map, map}
-use Rattle.walrus_base.specs.Operators.{Item}
-use Rattle.walrus_code.specs.Code.{item_of}
-use Rattle.walrus_model.specs.Abstract.{Name}
-use Rattle.walrus_items.specs.Items.{space_number}
+use Rattle.std.specs.Prelude.{ℕ, ◌^◌, ◌≤◌, ◌⊎◌, List, [], ◌∷◌, ◌++◌, Option, Some, None, flat_map, length}
+use Rattle.walrus.specs.Base.Operators.{Item}
+use Rattle.walrus.specs.Code.Code.{item_of}
+use Rattle.walrus.specs.Model.Abstract.{Name}
+use Rattle.walrus.specs.Items.Items.{space_number}
 use Rattle.walrus_tools.specs.ExportList.{text_bytes}
 use Rattle.walrus_tools.specs.Links.{LinkTold, links_in}
-use Rattle.walrus_tools.specs.Numbers.{IsLongName, name_bytes, no_name, number_bytes}
+use Rattle.walrus_sections.specs.Numbers.{IsLongName, name_bytes, no_name, number_bytes}
 use Rattle.walrus_tools.specs.Spelled.{HasLong}
 use Rattle.walrus_tools.specs.declared.goers.Alone.{Alone}
 use Rattle.walrus_tools.specs.declared.reasons.Reason.{Reason}

@@ -1,18 +1,18 @@
 -- What makes an item a root, kind by kind.
-use Rattle.std.specs.Prelude.{◌≡◌, ℕ, List, [], ◌∷◌, Option, Some, None, MatchOption, nat_eq, if◌then◌else◌}
-use Rattle.walrus_base.specs.Id.{place}
-use Rattle.walrus_base.specs.Operators.{Item}
-use Rattle.walrus_base.specs.declared.id.Id.{Id}
-use Rattle.walrus_base.specs.declared.keys.FunctionKey.{FunctionKey}
-use Rattle.walrus_model.specs.Abstract.{Abstract}
-use Rattle.walrus_items.specs.Data.{DataValue}
-use Rattle.walrus_items.specs.Elements.{ElementValue}
-use Rattle.walrus_items.specs.Kinds.{exported}
-use Rattle.walrus_items.specs.declared.kinds.ExportItem.{ExportItem}
-use Rattle.walrus_items.specs.declared.segments.DataKind.{DataKind}
-use Rattle.walrus_items.specs.declared.segments.DataKind.TheVariants as data_kinds
-use Rattle.walrus_items.specs.declared.segments.ElementKind.{ElementKind}
-use Rattle.walrus_items.specs.declared.segments.ElementKind.TheVariants as element_kinds
+use Rattle.std.specs.Prelude.{◌≡◌, ℕ, List, [], ◌∷◌, Option, Some, None, nat_eq, if◌then◌else◌}
+use Rattle.walrus.specs.Base.Id.{place}
+use Rattle.walrus.specs.Base.Operators.{Item}
+use Rattle.walrus.specs.Base.IdValue.{Id}
+use Rattle.walrus.specs.Base.FunctionKey.{FunctionKey}
+use Rattle.walrus.specs.Model.Abstract.{Abstract}
+use Rattle.walrus.specs.Items.Data.{DataValue}
+use Rattle.walrus.specs.Items.Elements.{ElementValue}
+use Rattle.walrus.specs.Items.Kinds.{exported}
+use Rattle.walrus.specs.Items.ExportItem.{ExportItem}
+use Rattle.walrus.specs.Items.DataKind.{DataKind}
+use Rattle.walrus.specs.Items.DataKind.TheVariants as data_kinds
+use Rattle.walrus.specs.Items.ElementKind.{ElementKind}
+use Rattle.walrus.specs.Items.ElementKind.TheVariants as element_kinds
 use Rattle.walrus_tools.specs.Links.{IsRootBy}
 use Rattle.walrus_tools.specs.declared.roots.Root.{Root}
 use Rattle.walrus_tools.specs.declared.roots.Root.TheVariants.{Active, Declared, Start}

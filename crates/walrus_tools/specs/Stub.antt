@@ -1,16 +1,16 @@
 -- A module in which functions that imports brought are local, and trap ("Structure > Modules > Imports").
 use Rattle.std.specs.Prelude.{ℕ, Bool, true, false, List, [], Option, Some, None, option_and_then, is_some, bytes_eq, if◌then◌else◌, ◌≡◌}
-use Rattle.walrus_base.specs.Arena.{item_at}
-use Rattle.walrus_base.specs.Id.{place}
-use Rattle.walrus_base.specs.declared.id.Id.{Id}
-use Rattle.walrus_base.specs.declared.keys.FunctionKey.{FunctionKey}
-use Rattle.walrus_items.specs.Function.{body_of, function_type, handlers_in}
-use Rattle.walrus_items.specs.LocalFunction.{LocalFunction}
-use Rattle.walrus_items.specs.declared.function_kind.FunctionKind.{FunctionKind}
-use Rattle.walrus_items.specs.declared.function_kind.FunctionKind.TheVariants.{Import, Local, Uninitialized}
-use Rattle.walrus_items.specs.declared.function_kind.ImportedFunction.{ImportedFunction}
-use Rattle.walrus_items.specs.Functions.{FunctionValue}
-use Rattle.walrus_items.specs.Imports.{ImportValue, imported_function}
+use Rattle.walrus.specs.Base.Arena.{item_at}
+use Rattle.walrus.specs.Base.Id.{place}
+use Rattle.walrus.specs.Base.IdValue.{Id}
+use Rattle.walrus.specs.Base.FunctionKey.{FunctionKey}
+use Rattle.walrus.specs.Items.Function.{body_of, function_type, handlers_in}
+use Rattle.walrus.specs.Items.LocalFunction.{LocalFunction}
+use Rattle.walrus.specs.Items.FunctionKind.{FunctionKind}
+use Rattle.walrus.specs.Items.FunctionKind.TheVariants.{Import, Local, Uninitialized}
+use Rattle.walrus.specs.Items.ImportedFunction.{ImportedFunction}
+use Rattle.walrus.specs.Items.Functions.{FunctionValue}
+use Rattle.walrus.specs.Items.Imports.{ImportValue, imported_function}
 use Rattle.walrus_tools.specs.Trap.{trap_ops}
 
 -- the function that an import from this module brings, if it is one

@@ -1,18 +1,18 @@
 -- What stubbing comes to: of a module in memory, and from bytes to bytes.
 use Rattle.std.specs.Prelude.{ℕ, Bool, List, ◌++◌, ◌∷◌, [], Result, MatchResult, ◌≡◌, ◌&&◌, nat_lt}
 use Rattle.std.specs.Global.{Vec}
-use Rattle.walrus_ir.specs.Instructions.{unreachable_op}
-use Rattle.walrus_ir.specs.Sequence.{built}
-use Rattle.walrus_base.specs.Locals.{locals}
-use Rattle.walrus_model.specs.Config.{Config}
-use Rattle.walrus_model.specs.ReadFunction.{StaysInFront}
-use Rattle.walrus_items.specs.Errors.{out_of_memory}
-use Rattle.walrus_items.specs.declared.error.Error.{Error}
-use Rattle.walrus_items.specs.Functions.{functions}
-use Rattle.walrus_items.specs.Imports.{imports}
-use Rattle.walrus_contents.specs.declared.parts.Contents.{Contents}
-use Rattle.walrus_module.specs.Replaced.{Builds}
-use Rattle.walrus_module.specs.declared.module.Module.{Module}
+use Rattle.walrus.specs.Ir.Instructions.{unreachable_op}
+use Rattle.walrus.specs.Ir.Sequence.{built}
+use Rattle.walrus.specs.Base.Locals.{locals}
+use Rattle.walrus.specs.Model.Config.{Config}
+use Rattle.walrus.specs.Model.ReadFunction.{StaysInFront}
+use Rattle.walrus.specs.Items.Errors.{out_of_memory}
+use Rattle.walrus.specs.Items.Error.{Error}
+use Rattle.walrus.specs.Items.Functions.{functions}
+use Rattle.walrus.specs.Items.Imports.{imports}
+use Rattle.walrus.specs.Contents.Contents.{Contents}
+use Rattle.walrus.specs.Modules.Replaced.{Builds}
+use Rattle.walrus.specs.Modules.Module.{Module}
 use Rattle.walrus.specs.Edits.{AnswersEdited, ForMemory, IsWhole}
 use Rattle.walrus_tools.specs.Stub.{StubsWhere, comes_from}
 

@@ -1,21 +1,21 @@
 -- A module in which functions trap that chosen imports brought ("Structure > Modules > Imports").
 use Rattle.std.specs.Prelude.{ℕ, Bool, true, List, [], Option, Some, None, IsSome, Result, MatchResult, ◌≡◌, ◌⊎◌, ◌↔◌, ⊤}
 use Rattle.std.specs.Global.{Vec}
-use Rattle.walrus_base.specs.Arena.{item_at}
-use Rattle.walrus_base.specs.Locals.{locals}
-use Rattle.walrus_base.specs.Marks.{is_marked}
-use Rattle.walrus_base.specs.declared.keys.ImportKey.{ImportKey}
-use Rattle.walrus_base.specs.declared.marks.Marks.{Marks}
-use Rattle.walrus_model.specs.Config.{Config}
-use Rattle.walrus_model.specs.ReadFunction.{StaysInFront}
-use Rattle.walrus_items.specs.Errors.{out_of_memory}
-use Rattle.walrus_items.specs.declared.error.Error.{Error}
-use Rattle.walrus_items.specs.declared.error.Error.TheVariants.{Memory, NotFound}
-use Rattle.walrus_items.specs.Functions.{functions}
-use Rattle.walrus_items.specs.Imports.{ImportValue, imported_function, imports}
-use Rattle.walrus_contents.specs.declared.parts.Contents.{Contents}
-use Rattle.walrus_module.specs.declared.module.Module.{Module}
-use Rattle.walrus_tools.specs.Choice.{Choice, Goes}
+use Rattle.walrus.specs.Base.Arena.{item_at}
+use Rattle.walrus.specs.Base.Locals.{locals}
+use Rattle.walrus.specs.Base.Marks.{is_marked}
+use Rattle.walrus.specs.Base.ImportKey.{ImportKey}
+use Rattle.walrus.specs.Base.MarksValue.{Marks}
+use Rattle.walrus.specs.Model.Config.{Config}
+use Rattle.walrus.specs.Model.ReadFunction.{StaysInFront}
+use Rattle.walrus.specs.Items.Errors.{out_of_memory}
+use Rattle.walrus.specs.Items.Error.{Error}
+use Rattle.walrus.specs.Items.Error.TheVariants.{Memory, NotFound}
+use Rattle.walrus.specs.Items.Functions.{functions}
+use Rattle.walrus.specs.Items.Imports.{ImportValue, imported_function, imports}
+use Rattle.walrus.specs.Contents.Contents.{Contents}
+use Rattle.walrus.specs.Modules.Module.{Module}
+use Rattle.walrus_sections.specs.Choice.{Choice, Goes}
 use Rattle.walrus.specs.Edits.{AnswersEdited, IsWhole}
 use Rattle.walrus_tools.specs.Stub.{BringsFunction, StubsWhere}
 use Rattle.walrus_tools.specs.StubAnswers.{StubsAt, StubsSome}

@@ -1,19 +1,19 @@
 -- A module in which functions trap that texts mean ("Structure > Instructions > Control Instructions").
 use Rattle.std.specs.Prelude.{ℕ, Bool, true, false, List, [], Option, Some, None, Result, All, MatchResult, length, ◌≡◌, ◌≢◌, ◌⊎◌, ⊤}
 use Rattle.std.specs.Global.{Vec}
-use Rattle.walrus_base.specs.Arena.{item_at}
-use Rattle.walrus_model.specs.Config.{Config}
-use Rattle.walrus_items.specs.Exports.{exports}
-use Rattle.walrus_items.specs.Function.{args_of, body_of, function_type, handlers_in}
-use Rattle.walrus_items.specs.Functions.{FunctionValue, functions}
-use Rattle.walrus_items.specs.LocalFunction.{LocalFunction}
-use Rattle.walrus_items.specs.declared.error.Error.{Error}
-use Rattle.walrus_items.specs.declared.error.Error.TheVariants.{Memory, NotFound, NotReplaceable}
-use Rattle.walrus_items.specs.declared.function_kind.FunctionKind.{FunctionKind}
-use Rattle.walrus_items.specs.declared.function_kind.FunctionKind.TheVariants.{Import, Local, Uninitialized}
-use Rattle.walrus_contents.specs.declared.parts.Contents.{Contents}
-use Rattle.walrus_module.specs.View.{contents_of}
-use Rattle.walrus_module.specs.declared.module.Module.{Module}
+use Rattle.walrus.specs.Base.Arena.{item_at}
+use Rattle.walrus.specs.Model.Config.{Config}
+use Rattle.walrus.specs.Items.Exports.{exports}
+use Rattle.walrus.specs.Items.Function.{args_of, body_of, function_type, handlers_in}
+use Rattle.walrus.specs.Items.Functions.{FunctionValue, functions}
+use Rattle.walrus.specs.Items.LocalFunction.{LocalFunction}
+use Rattle.walrus.specs.Items.Error.{Error}
+use Rattle.walrus.specs.Items.Error.TheVariants.{Memory, NotFound, NotReplaceable}
+use Rattle.walrus.specs.Items.FunctionKind.{FunctionKind}
+use Rattle.walrus.specs.Items.FunctionKind.TheVariants.{Import, Local, Uninitialized}
+use Rattle.walrus.specs.Contents.Contents.{Contents}
+use Rattle.walrus.specs.Modules.View.{contents_of}
+use Rattle.walrus.specs.Modules.Module.{Module}
 use Rattle.walrus.specs.Edits.{AnswersEdited, IsWhole}
 use Rattle.walrus_tools.specs.FunctionMeaning.{AreMeant, IsFirst, MeansBodies, MeansImported, MeansNone}
 use Rattle.walrus_tools.specs.Trap.{trap_ops}

@@ -1,20 +1,20 @@
 -- What is told of a module that is read, edited, rid of what nothing reaches, and written: how many items, and how many bytes ("Structure > Modules >
 -- Indices", "Binary Format > Modules").
 use Rattle.std.specs.Prelude.{ℕ, Bool, false, not, List, Option, Some, None, Result, filter, length, sum_by, ◌≡◌, ◌↔◌, true}
-use Rattle.walrus_base.specs.Operators.{Functions}
-use Rattle.walrus_model.specs.Abstract.{Abstract}
-use Rattle.walrus_model.specs.Config.{Config}
-use Rattle.walrus_model.specs.Kept.{Kept}
-use Rattle.walrus_model.specs.Live.{IsLive}
-use Rattle.walrus_items.specs.declared.error.Error.{Error}
-use Rattle.walrus_contents.specs.declared.parts.Contents.{Contents}
+use Rattle.walrus.specs.Base.Operators.{Functions}
+use Rattle.walrus.specs.Model.Abstract.{Abstract}
+use Rattle.walrus.specs.Model.Config.{Config}
+use Rattle.walrus.specs.Model.Kept.{Kept}
+use Rattle.walrus.specs.Model.Live.{IsLive}
+use Rattle.walrus.specs.Items.Error.{Error}
+use Rattle.walrus.specs.Contents.Contents.{Contents}
 use Rattle.wasm_wire.specs.ModuleSpelling.{is_debug_name}
-use Rattle.walrus_tools.specs.Choice.{Choice}
+use Rattle.walrus_sections.specs.Choice.{Choice}
 use Rattle.walrus_tools.specs.ChosenModule.{KeepsChosen, RefusesChosen}
 use Rattle.walrus.specs.Edits.{EditsTo, RefusesEdit, with_customs}
 use Rattle.walrus.specs.Ends.{Answers, LeavesLarge, LeavesWritten}
 use Rattle.walrus_tools.specs.Kinds.{CountsKinds}
-use Rattle.walrus_tools.specs.Parts.{FunctionPart, HasParts, Part, SectionPart, SegmentPart}
+use Rattle.walrus_sections.specs.Parts.{FunctionPart, HasParts, Part, SectionPart, SegmentPart}
 use Rattle.walrus_tools.specs.declared.weigh.Smaller.{Smaller}
 use Rattle.walrus_tools.specs.declared.weigh.Weighed.{Weighed}
 

@@ -1,24 +1,24 @@
 -- What the functions promise that write a module and tell of it: of the parts of the input, and of a module in memory.
 use Rattle.std.specs.Prelude.{ℕ, Bool, List, Option, Result, Ok, Err, MatchResult, is_some, sum_by, if◌then◌else◌, ◌≡◌}
-use Rattle.walrus_base.specs.Arena.{item_at}
-use Rattle.walrus_model.specs.Abstract.{Abstract}
-use Rattle.walrus_model.specs.Live.{IsLive}
-use Rattle.walrus_items.specs.Functions.{FunctionValue}
-use Rattle.walrus_items.specs.declared.custom.CustomSection.{Ghosts}
-use Rattle.walrus_items.specs.declared.error.Error.{Error}
-use Rattle.walrus_items.specs.declared.error.Error.TheVariants.{TooLarge}
-use Rattle.walrus_module.specs.Flags.{config_of}
-use Rattle.walrus_module.specs.Settings.{settings}
-use Rattle.walrus_module.specs.View.{view}
-use Rattle.walrus_module.specs.declared.entry.SectionEntry.{SectionEntry}
-use Rattle.walrus_module.specs.declared.module.Module.{Module}
+use Rattle.walrus.specs.Base.Arena.{item_at}
+use Rattle.walrus.specs.Model.Abstract.{Abstract}
+use Rattle.walrus.specs.Model.Live.{IsLive}
+use Rattle.walrus.specs.Items.Functions.{FunctionValue}
+use Rattle.walrus.specs.Items.CustomSection.{Ghosts}
+use Rattle.walrus.specs.Items.Error.{Error}
+use Rattle.walrus.specs.Items.Error.TheVariants.{TooLarge}
+use Rattle.walrus.specs.Modules.Flags.{config_of}
+use Rattle.walrus.specs.Modules.Settings.{settings}
+use Rattle.walrus.specs.Modules.View.{view}
+use Rattle.walrus.specs.Modules.SectionEntry.{SectionEntry}
+use Rattle.walrus.specs.Modules.Module.{Module}
 use Rattle.walrus.specs.Ends.{LeavesLarge, LeavesWritten, LeftOf}
 use Rattle.walrus_tools.specs.Kinds.{CountsKinds}
-use Rattle.walrus_tools.specs.PartList.{AnswersParts}
-use Rattle.walrus_tools.specs.Parts.{HasParts, Part, part_record}
+use Rattle.walrus_sections.specs.PartList.{AnswersParts}
+use Rattle.walrus_sections.specs.Parts.{HasParts, Part, part_record}
 use Rattle.walrus_tools.specs.Weigh.{IsWeighed, bytes_of, is_debug, is_dropped, part_size}
 use Rattle.walrus_tools.specs.declared.kinds.Kinds.{Kinds}
-use Rattle.walrus_tools.specs.declared.parts.Part.{Part as RawPart}
+use Rattle.walrus_sections.specs.declared.parts.Part.{Part as RawPart}
 use Rattle.walrus_tools.specs.declared.weigh.Smaller.{Smaller}
 use Rattle.walrus_tools.specs.declared.weigh.Weighed.{Weighed}
 

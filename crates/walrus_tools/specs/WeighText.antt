@@ -1,6 +1,6 @@
 -- What is told of a module that becomes smaller, as lines.
 use Rattle.std.specs.Prelude.{ℕ, ◌-◌, List, [], ◌++◌, codes, decimal, nat_lt, if◌then◌else◌}
-use Rattle.walrus_theorem.specs.Report.{line}
+use Rattle.walrus.specs.Theorem.Report.{line}
 use Rattle.walrus_tools.specs.declared.kinds.Kinds.{Kinds}
 use Rattle.walrus_tools.specs.declared.weigh.Weighed.{Weighed}
 

@@ -1,10 +1,10 @@
 //! The names of exports, by what is exported.
 
 ghost use Rattle.std.specs.Prelude.{◌≡◌, IfOk, OnOk, map, string_bytes};
-ghost use Rattle.walrus_base.specs.Arena.{items};
-ghost use Rattle.walrus_code.specs.Code.{item_of};
-ghost use Rattle.walrus_items.specs.Exports.{exports};
-ghost use Rattle.walrus_items.specs.Items.{space_number};
+ghost use Rattle.walrus.specs.Base.Arena.{items};
+ghost use Rattle.walrus.specs.Code.Code.{item_of};
+ghost use Rattle.walrus.specs.Items.Exports.{exports};
+ghost use Rattle.walrus.specs.Items.Items.{space_number};
 ghost use Rattle.walrus_tools.specs.LinkSteps.{AddsName, GroupsExports, key_of, names_at, texts};
 
 use crate::lines::item_index;

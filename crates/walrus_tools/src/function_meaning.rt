@@ -1,15 +1,14 @@
 //! The functions that texts mean: by an index, by a name, or by a name with stars.
 
 ghost use Rattle.std.specs.Prelude.{ℕ, ◌≡◌, ◌↔◌, MatchOption, MatchResult, true};
-ghost use Rattle.walrus_base.specs.Arena.{item_at};
-ghost use Rattle.walrus_base.specs.Id.{place};
-ghost use Rattle.walrus_items.specs.Exports.{exports};
-ghost use Rattle.walrus_items.specs.Functions.{functions};
-ghost use Rattle.walrus_items.specs.Seen.{text_of};
+ghost use Rattle.walrus.specs.Base.Arena.{item_at};
+ghost use Rattle.walrus.specs.Base.Id.{place};
+ghost use Rattle.walrus.specs.Items.Exports.{exports};
+ghost use Rattle.walrus.specs.Items.Functions.{functions};
+ghost use Rattle.walrus.specs.Items.Seen.{text_of};
 ghost use Rattle.walrus_tools.specs.MarkSteps.{AreMarks, HasPlaces, IsExported, IsFit, IsNamed, MarksFitting, MarksOne, MarksText, Meets, RefusesMarks};
 ghost use Rattle.walrus_tools.specs.FunctionMeaning.{FitsExport, FitsName, has_body, has_star, is_local, texts};
 
-use crate::fits::fits;
 use crate::functions::{function_at, function_called};
 use crate::marks::{Marking, meet};
 use std::alloc::Global;
@@ -17,6 +16,7 @@ use walrus::{
     Error, ExportId, ExportItem, FunctionId, FunctionKey, FunctionKind, Marks, ModuleExports,
     ModuleFunctions, Result,
 };
+use walrus_sections::fits;
 
 /// A text that means functions of a module.
 #[derive(Clone, Copy, Debug, PartialEq, Eq)]

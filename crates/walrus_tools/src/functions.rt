@@ -1,14 +1,18 @@
 //! A function by its index, or by a name.
 
-ghost use Rattle.walrus_items.specs.Exports.{exports};
-ghost use Rattle.walrus_items.specs.Functions.{functions};
+ghost use Rattle.walrus.specs.Items.Exports.{exports};
+ghost use Rattle.walrus.specs.Items.Functions.{functions};
 ghost use Rattle.walrus_tools.specs.FunctionNames.{FindsCalled};
 ghost use Rattle.walrus_tools.specs.Reasons.{FindsFunction};
 
 use walrus::{Error, FunctionId, ModuleExports, ModuleFunctions, Result};
 
-/// The function of this index. `NotFound` is the only error.
-pub(crate) fn function_at(all: &ModuleFunctions, function: u32) -> Result<FunctionId>
+/// The function of this index.
+///
+/// # Errors
+///
+/// `NotFound` alone, and only where there is none.
+pub fn function_at(all: &ModuleFunctions, function: u32) -> Result<FunctionId>
     ensures { FindsFunction (functions all.now) function result }
 {
     let id = FunctionId::at(function as usize);

@@ -2,13 +2,13 @@
 
 ghost use Rattle.std.specs.Prelude.{◌≡◌, ◌<◌, ◌^◌, IfOk, MatchResult, count_by, map};
 ghost use Rattle.std.specs.List.{range_with_len, sum_by};
-ghost use Rattle.walrus_base.specs.Arena.{IsLive as IsLiveAt};
-ghost use Rattle.walrus_base.specs.Id.{place};
-ghost use Rattle.walrus_base.specs.IdSet.{has_id};
-ghost use Rattle.walrus_base.specs.Marks.{is_marked, mark_places};
-ghost use Rattle.walrus_items.specs.Errors.{out_of_memory};
-ghost use Rattle.walrus_items.specs.Functions.{functions};
-ghost use Rattle.walrus_items.specs.Transform.{range_of};
+ghost use Rattle.walrus.specs.Base.Arena.{IsLive as IsLiveAt};
+ghost use Rattle.walrus.specs.Base.Id.{place};
+ghost use Rattle.walrus.specs.Base.IdSet.{has_id};
+ghost use Rattle.walrus.specs.Base.Marks.{is_marked, mark_places};
+ghost use Rattle.walrus.specs.Items.Errors.{out_of_memory};
+ghost use Rattle.walrus.specs.Items.Functions.{functions};
+ghost use Rattle.walrus.specs.Items.Transform.{range_of};
 ghost use Rattle.walrus_tools.specs.Alone.{bytes_of};
 ghost use Rattle.walrus_tools.specs.AloneSteps.{HasBodyAgain, MarksGoers, MarksIf, TradesIfAny, TradesKind, alone_in, goes_at, size_if};
 

@@ -1,17 +1,17 @@
 //! Imports of functions that are chosen by the names of their modules and their own.
 
 ghost use Rattle.std.specs.Prelude.{ℕ, ◌≡◌, ◌↔◌, true};
-ghost use Rattle.walrus_base.specs.Arena.{item_at};
-ghost use Rattle.walrus_base.specs.Id.{place};
-ghost use Rattle.walrus_items.specs.Imports.{import_value, imports};
-ghost use Rattle.walrus_tools.specs.Choice.{choices_seen};
+ghost use Rattle.walrus.specs.Base.Arena.{item_at};
+ghost use Rattle.walrus.specs.Base.Id.{place};
+ghost use Rattle.walrus.specs.Items.Imports.{import_value, imports};
+ghost use Rattle.walrus_sections.specs.Choice.{choices_seen};
 ghost use Rattle.walrus_tools.specs.MarkSteps.{HasPlaces, Meets};
 ghost use Rattle.walrus_tools.specs.StubMatching.{ChosenAt, IsChosen, IsWanted, MarksChosen, NameGoes};
 
-use crate::choice::{Choice, goes};
 use crate::marks::{Marking, meet};
 use std::alloc::Global;
 use walrus::{Error, Import, ImportId, ImportKey, ImportKind, Marks, ModuleImports, Result};
+use walrus_sections::{Choice, goes};
 
 // Whether the choices say that the name goes, or there are none.
 fn name_goes(names: &[Choice<'_>], name: &[u8]) -> bool

@@ -1,10 +1,9 @@
 //! The item that a text means: by an index, by its own name, or by the name of an export.
 
 ghost use Rattle.std.specs.Prelude.{◌≡◌, option_map};
-ghost use Rattle.walrus_code.specs.Code.{item_of};
-ghost use Rattle.walrus_items.specs.Exports.{exports};
-ghost use Rattle.walrus_items.specs.Functions.{functions};
-ghost use Rattle.walrus_items.specs.Kinds.{exported};
+ghost use Rattle.walrus.specs.Items.Exports.{exports};
+ghost use Rattle.walrus.specs.Items.Functions.{functions};
+ghost use Rattle.walrus.specs.Items.Kinds.{exported};
 ghost use Rattle.walrus_tools.specs.ExportNames.{named};
 ghost use Rattle.walrus_tools.specs.ItemMeaning.{FindsItem};
 

@@ -2,28 +2,28 @@
 
 ghost use Rattle.std.specs.Option.{option_to_list};
 ghost use Rattle.std.specs.Prelude.{◌≡◌};
-ghost use Rattle.walrus_base.specs.Arena.{item_at};
-ghost use Rattle.walrus_base.specs.Id.{place};
-ghost use Rattle.walrus_base.specs.ModuleTypes.{type_names};
-ghost use Rattle.walrus_code.specs.Code.{item_of};
-ghost use Rattle.walrus_contents.specs.View.{name_at, parts_view};
-ghost use Rattle.walrus_items.specs.Data.{data_segments};
-ghost use Rattle.walrus_items.specs.Elements.{elements};
-ghost use Rattle.walrus_items.specs.Functions.{functions};
-ghost use Rattle.walrus_items.specs.Globals.{globals};
-ghost use Rattle.walrus_items.specs.Memories.{memories};
-ghost use Rattle.walrus_items.specs.Seen.{text_of};
-ghost use Rattle.walrus_items.specs.Tables.{tables};
-ghost use Rattle.walrus_items.specs.Tags.{tags};
-ghost use Rattle.walrus_model.specs.Abstract.{AnItem};
+ghost use Rattle.walrus.specs.Base.Arena.{item_at};
+ghost use Rattle.walrus.specs.Base.Id.{place};
+ghost use Rattle.walrus.specs.Base.ModuleTypes.{type_names};
+ghost use Rattle.walrus.specs.Code.Code.{item_of};
+ghost use Rattle.walrus.specs.Contents.View.{name_at, parts_view};
+ghost use Rattle.walrus.specs.Items.Data.{data_segments};
+ghost use Rattle.walrus.specs.Items.Elements.{elements};
+ghost use Rattle.walrus.specs.Items.Functions.{functions};
+ghost use Rattle.walrus.specs.Items.Globals.{globals};
+ghost use Rattle.walrus.specs.Items.Memories.{memories};
+ghost use Rattle.walrus.specs.Items.Seen.{text_of};
+ghost use Rattle.walrus.specs.Items.Tables.{tables};
+ghost use Rattle.walrus.specs.Items.Tags.{tags};
+ghost use Rattle.walrus.specs.Model.Abstract.{AnItem};
 ghost use Rattle.walrus_tools.specs.LinkSteps.{lent_name};
 
+use walrus::below::Parts;
 use walrus::{
     DataId, ElementId, FunctionId, GlobalId, ItemId, MemoryId, ModuleData, ModuleElements,
     ModuleFunctions, ModuleGlobals, ModuleMemories, ModuleTables, ModuleTags, ModuleTypes, TableId,
     TagId, TypeId,
 };
-use walrus_contents::Parts;
 
 // A text, lent.
 fn lent(text: &Option<String>) -> Option<&str>

@@ -1,13 +1,12 @@
 //! The edit that leaves of a module's exports those that are chosen. It stands in front of what is made of a module of chosen roots.
 
-ghost use Rattle.walrus_tools.specs.Choice.{choices_seen};
+ghost use Rattle.walrus_sections.specs.Choice.{choices_seen};
 ghost use Rattle.walrus_tools.specs.ChosenModule.{KeepsOrRefuses};
 
-use crate::choice::Choice;
-use crate::chooser::chooser_of;
 use crate::named_exports::{drop_others, unfit_number};
 use std::alloc::Global;
 use walrus::{Error, Module, Result};
+use walrus_sections::{Choice, chooser_of};
 
 /// The exports whose names aren't chosen are gone. `NotFound` exactly where a choice fits no export, unless memory runs out.
 pub(crate) fn keep_chosen<S>(

@@ -1,14 +1,13 @@
 //! How many items of each kind a module has.
 
 ghost use Rattle.std.specs.Prelude.{◌≡◌, is_some};
-ghost use Rattle.walrus_base.specs.Arena.{item_at};
-ghost use Rattle.walrus_items.specs.Held.{held};
-ghost use Rattle.walrus_module.specs.View.{contents_of};
+ghost use Rattle.walrus.specs.Base.Arena.{item_at};
+ghost use Rattle.walrus.specs.Items.Held.{held};
+ghost use Rattle.walrus.specs.Modules.View.{contents_of};
 ghost use Rattle.walrus_tools.specs.Kinds.{kinds_in, there};
 
-use walrus::Module;
-use walrus_base::Id;
-use walrus_items::{Item, Items};
+use walrus::below::{Item, Items};
+use walrus::{Id, Module};
 
 /// How many items of each kind there are, imported ones among them.
 #[derive(Clone, Copy, Debug, PartialEq, Eq)]

@@ -1,9 +1,9 @@
 //! The lines of a report on a function: a chain of references, and what functions cost.
 
 ghost use Rattle.std.specs.Prelude.{◌≡◌, ◌++◌, IfOk, OnOk, codes, decimal, flat_map, map, string_bytes};
-ghost use Rattle.walrus_base.specs.Id.{place};
-ghost use Rattle.walrus_code.specs.Code.{item_of};
-ghost use Rattle.walrus_items.specs.Transform.{range_of, transform_of};
+ghost use Rattle.walrus.specs.Base.Id.{place};
+ghost use Rattle.walrus.specs.Code.Code.{item_of};
+ghost use Rattle.walrus.specs.Items.Transform.{range_of, transform_of};
 ghost use Rattle.walrus_tools.specs.Reasons.{chain_seen, chain_text, item_line, item_text, report_text, size_line, size_text, word_of};
 
 use std::alloc::{AllocError, Global};
@@ -22,7 +22,11 @@ pub struct Chain {
 }
 
 /// The lines of the chain, or the one that the item isn't reached, and then those of the functions.
-pub(crate) fn report(
+///
+/// # Errors
+///
+/// Where memory runs out, and never else.
+pub fn chain_report(
     alloc: Global,
     chain: &Chain,
     transform: &CodeTransform,

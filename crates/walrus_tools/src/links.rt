@@ -2,14 +2,14 @@
 
 ghost use Rattle.std.specs.Option.{option_to_list};
 ghost use Rattle.std.specs.Prelude.{◌≡◌, IfOk, map, option_map};
-ghost use Rattle.walrus_base.specs.Id.{place};
-ghost use Rattle.walrus_code.specs.Code.{item_of};
-ghost use Rattle.walrus_base.specs.Arena.{items};
-ghost use Rattle.walrus_contents.specs.Named.{items_in};
-ghost use Rattle.walrus_contents.specs.View.{parts_view};
-ghost use Rattle.walrus_items.specs.Exports.{exports};
-ghost use Rattle.walrus_items.specs.Seen.{text_of};
-ghost use Rattle.walrus_items.specs.Transform.{range_of};
+ghost use Rattle.walrus.specs.Base.Id.{place};
+ghost use Rattle.walrus.specs.Code.Code.{item_of};
+ghost use Rattle.walrus.specs.Base.Arena.{items};
+ghost use Rattle.walrus.specs.Contents.Named.{items_in};
+ghost use Rattle.walrus.specs.Contents.View.{parts_view};
+ghost use Rattle.walrus.specs.Items.Exports.{exports};
+ghost use Rattle.walrus.specs.Items.Seen.{text_of};
+ghost use Rattle.walrus.specs.Items.Transform.{range_of};
 ghost use Rattle.walrus_tools.specs.LinkSteps.{AreRising, FindsBody, GroupsExports, lent_name};
 ghost use Rattle.walrus_tools.specs.Links.{body_size, link_of, link_seen, links_in};
 
@@ -18,8 +18,8 @@ use crate::item_names::name_in;
 use std::alloc::{AllocError, Global};
 use std::ops::Range;
 use std::result;
+use walrus::below::Parts;
 use walrus::{FunctionId, ItemId};
-use walrus_contents::Parts;
 
 /// An item that stays, with what is told of it.
 #[derive(Drop)]

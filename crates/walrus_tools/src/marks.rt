@@ -1,8 +1,8 @@
 //! Marks that are set one after another, and whether one was.
 
 ghost use Rattle.std.specs.Prelude.{◌≡◌, ◌<◌};
-ghost use Rattle.walrus_base.specs.Id.{place};
-ghost use Rattle.walrus_base.specs.Marks.{mark_places};
+ghost use Rattle.walrus.specs.Base.Id.{place};
+ghost use Rattle.walrus.specs.Base.Marks.{mark_places};
 ghost use Rattle.walrus_tools.specs.MarkSteps.{Meets};
 
 use walrus::{Id, Marks};

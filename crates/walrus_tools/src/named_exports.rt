@@ -1,18 +1,18 @@
 //! Exports, by their names.
 
-ghost use Rattle.std.specs.Prelude.{◌≡◌, IfOk, map};
-ghost use Rattle.walrus_items.specs.Exports.{exports};
-ghost use Rattle.walrus_tools.specs.Choice.{choices_seen};
-ghost use Rattle.walrus_tools.specs.ExportChoice.{TellsUnfit};
+ghost use Rattle.std.specs.Prelude.{◌≡◌, IfOk};
+ghost use Rattle.walrus.specs.Items.Exports.{exports};
+ghost use Rattle.walrus_sections.specs.Choice.{choices_seen};
+ghost use Rattle.walrus_sections.specs.ExportChoice.{TellsUnfit};
 ghost use Rattle.walrus_tools.specs.KeptExports.{KeepsAt, KeepsNamed, export_names};
-ghost use Rattle.walrus_tools.specs.NameLists.{IsInOrder, IsPicked, texts};
+ghost use Rattle.walrus_sections.specs.NameLists.{IsInOrder, IsPicked, texts};
 
-use crate::choice::Choice;
-use crate::chooser::{Chooser, is_chosen};
-use crate::name_lists::first_unfit;
 use std::alloc::{AllocError, Global};
-use walrus_base::ExportId;
-use walrus_items::ModuleExports;
+use walrus::{ExportId, ModuleExports};
+use walrus_sections::{Choice, Chooser, first_unfit, is_chosen};
+
+/// So few choices are each held against all names, which takes less time than to put these in order.
+const FEW: usize = 8;
 
 // The names under which something is exported, by rising id.
 fn export_names(alloc: Global, all: &ModuleExports) -> Result<Vec<&[u8]>, AllocError>
@@ -25,8 +25,8 @@ fn export_names(alloc: Global, all: &ModuleExports) -> Result<Vec<&[u8]>, AllocE
     Ok(names)
 }
 
-/// The number of the first choice that fits no export. Takes a look-up for each choice without a star, and for each other one a walk over
-/// all exports.
+/// The number of the first choice that fits no export. Takes a walk over all exports for each choice with a star, and for each of a few; else
+/// a look-up for each choice without a star.
 pub(crate) fn unfit_number(
     alloc: Global,
     all: &ModuleExports,
@@ -35,8 +35,12 @@ pub(crate) fn unfit_number(
     ensures { IfOk result (TellsUnfit (export_names (exports all.now)) (choices_seen choices.now)) }
 {
     let mut names = export_names(alloc, all)?;
+    let are_few = choices.len() <= FEW;
+    if are_few {
+        return Ok(first_unfit(&names, choices, false));
+    }
     names.sort_unstable();
-    Ok(first_unfit(&names, choices))
+    Ok(first_unfit(&names, choices, true))
 }
 
 // The export at this place is gone, unless its name is chosen.

@@ -2,24 +2,24 @@
 
 ghost use Rattle.std.specs.Prelude.{◌≡◌, ◌↔◌, Contains, IsTrue, MatchResult};
 ghost use Rattle.std.specs.List.{list_any};
-ghost use Rattle.walrus_base.specs.Id.{place};
-ghost use Rattle.walrus_base.specs.Operators.{Types};
-ghost use Rattle.walrus_code.specs.Code.{item_of};
-ghost use Rattle.walrus_contents.specs.Named.{group_names, items_in};
-ghost use Rattle.walrus_contents.specs.There.{IsRefusal};
-ghost use Rattle.walrus_contents.specs.View.{parts_view};
-ghost use Rattle.walrus_items.specs.Items.{is_item};
-ghost use Rattle.walrus_model.specs.Live.{IsLive};
-ghost use Rattle.walrus_model.specs.Refers.{Refers};
-ghost use Rattle.walrus_module.specs.View.{held_view};
+ghost use Rattle.walrus.specs.Base.Id.{place};
+ghost use Rattle.walrus.specs.Base.Operators.{Types};
+ghost use Rattle.walrus.specs.Code.Code.{item_of};
+ghost use Rattle.walrus.specs.Contents.Named.{group_names, items_in};
+ghost use Rattle.walrus.specs.Contents.There.{IsRefusal};
+ghost use Rattle.walrus.specs.Contents.View.{parts_view};
+ghost use Rattle.walrus.specs.Items.Items.{is_item};
+ghost use Rattle.walrus.specs.Model.Live.{IsLive};
+ghost use Rattle.walrus.specs.Model.Refers.{Refers};
+ghost use Rattle.walrus.specs.Modules.View.{held_view};
 ghost use Rattle.walrus_tools.specs.Callers.{AddsIfCaller, AreCallers, CallersBefore, CallersThrough, HasUnsound, IsPastSpace, space_of};
 
 use std::alloc::Global;
+use walrus::below::{Parts, is_live, push_item_names};
 use walrus::{
     DataId, ElementId, FunctionId, GlobalId, ItemId, MemoryId, Module, Result, TableId, TagId,
     TypeId,
 };
-use walrus_contents::{Parts, is_live, push_item_names};
 
 // A kind of items.
 #[derive(Clone, Copy)]

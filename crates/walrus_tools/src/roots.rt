@@ -1,22 +1,22 @@
 //! What makes an item a root of a module.
 
 ghost use Rattle.std.specs.Prelude.{◌≡◌, is_some, option_map};
-ghost use Rattle.walrus_base.specs.Arena.{item_at};
-ghost use Rattle.walrus_base.specs.Id.{place};
-ghost use Rattle.walrus_code.specs.Code.{item_of};
-ghost use Rattle.walrus_contents.specs.Named.{items_in};
-ghost use Rattle.walrus_contents.specs.View.{parts_view};
-ghost use Rattle.walrus_items.specs.Data.{data_segments};
-ghost use Rattle.walrus_items.specs.Elements.{elements};
-ghost use Rattle.walrus_items.specs.Exports.{exports, exports_item};
-ghost use Rattle.walrus_items.specs.Searches.{first};
+ghost use Rattle.walrus.specs.Base.Arena.{item_at};
+ghost use Rattle.walrus.specs.Base.Id.{place};
+ghost use Rattle.walrus.specs.Code.Code.{item_of};
+ghost use Rattle.walrus.specs.Contents.Named.{items_in};
+ghost use Rattle.walrus.specs.Contents.View.{parts_view};
+ghost use Rattle.walrus.specs.Items.Data.{data_segments};
+ghost use Rattle.walrus.specs.Items.Elements.{elements};
+ghost use Rattle.walrus.specs.Items.Exports.{exports, exports_item};
+ghost use Rattle.walrus.specs.Items.Searches.{first};
 ghost use Rattle.walrus_tools.specs.RootSteps.{FindsChainRoot, FindsRoot, NamesExport, by_data, by_element, by_start};
 
+use walrus::below::Parts;
 use walrus::{
     DataId, DataKind, ElementId, ElementKind, ExportItem, FunctionId, ItemId, ModuleData,
     ModuleElements, ModuleExports,
 };
-use walrus_contents::Parts;
 
 /// What makes an item a root: the first of these that is so.
 #[derive(Clone, Copy, Debug, PartialEq, Eq)]

@@ -1,16 +1,15 @@
 //! Lists of what is told of a module, as bytes for callers of other languages.
 
 ghost use Rattle.std.specs.Prelude.{◌≡◌, ◌++◌, ◌^◌, ◌≤◌, ◌<◌, ℕ, List, IfErr, IfOk, OnOk, flat_map, map};
-ghost use Rattle.walrus_code.specs.Code.{item_of};
+ghost use Rattle.walrus.specs.Code.Code.{item_of};
 ghost use Rattle.walrus_tools.specs.ExportList.{item_bytes, kind_number};
-ghost use Rattle.walrus_tools.specs.Numbers.{RefusesIf};
+ghost use Rattle.walrus_sections.specs.Numbers.{RefusesIf};
 ghost use Rattle.walrus_tools.specs.Spelled.{HasLong, NoneLong};
 
 use crate::lines::item_index;
-use crate::numbers::{add_number, narrow};
 use std::alloc::Global;
-use walrus::ItemId;
-use walrus_items::Result;
+use walrus::{ItemId, Result};
+use walrus_sections::{add_number, narrow};
 
 /// What is told of one item. Contracts see of it a `Seen`; `spell` is its bytes, and `IsLong` says that it has a number or a name that is too
 /// long for them.

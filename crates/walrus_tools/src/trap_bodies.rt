@@ -1,10 +1,10 @@
 //! Functions that trap from now on, under their own ids: whoever calls them traps.
 
 ghost use Rattle.std.specs.Prelude.{◌≡◌, MatchResult};
-ghost use Rattle.walrus_base.specs.Id.{place};
-ghost use Rattle.walrus_base.specs.Marks.{is_marked};
-ghost use Rattle.walrus_items.specs.Errors.{out_of_memory};
-ghost use Rattle.walrus_items.specs.Functions.{functions};
+ghost use Rattle.walrus.specs.Base.Id.{place};
+ghost use Rattle.walrus.specs.Base.Marks.{is_marked};
+ghost use Rattle.walrus.specs.Items.Errors.{out_of_memory};
+ghost use Rattle.walrus.specs.Items.Functions.{functions};
 ghost use Rattle.walrus_tools.specs.FunctionMeaning.{texts};
 ghost use Rattle.walrus_tools.specs.TrapEdit.{HitTrap, IsTrapOf, KindTraps, PlaceTraps, TrapsAll};
 

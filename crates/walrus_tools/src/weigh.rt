@@ -1,18 +1,17 @@
 //! What becomes of a module that was edited: what nothing reaches goes, the module is written, and what is told of it is counted.
 
 ghost use Rattle.std.specs.Prelude.{◌≡◌, ◌<◌, ◌^◌};
-ghost use Rattle.walrus_items.specs.Functions.{functions};
-ghost use Rattle.walrus_tools.specs.Parts.{part_record};
+ghost use Rattle.walrus.specs.Items.Functions.{functions};
+ghost use Rattle.walrus_sections.specs.Parts.{part_record};
 ghost use Rattle.walrus_tools.specs.Weigh.{is_debug, is_dropped};
 ghost use Rattle.walrus.specs.Ready.{IsReady};
 ghost use Rattle.walrus_tools.specs.WeighSteps.{WeighsInput, WeighsReady, is_left, size_if, sizes};
 
 use crate::kinds::{Kinds, kinds_of};
-use crate::parts::Part;
-use crate::tool::section_parts::section_parts;
 use std::alloc::Global;
 use walrus::passes::gc;
 use walrus::{CustomSection, FunctionId, Module, ModuleFunctions, Result};
+use walrus_sections::{Part, section_parts};
 use wasm_wire::is_debug;
 
 /// What is told of a module that became smaller.

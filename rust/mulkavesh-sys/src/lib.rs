@@ -10,6 +10,8 @@
 //! - [`MULKAVESH_NO_ROOM`]: `output` is as it was, and `*length` is how much room the answer wants;
 //! - [`MULKAVESH_NOT_FOUND`]: `output` is as it was, and of a call with a choice of exports `*length`
 //!   is a number (see below); of others it is 0;
+//! - [`MULKAVESH_BAD_EDIT`]: `output` is as it was, and `*length` is how many edits of a list can be
+//!   made; [`MULKAVESH_BAD_MODULE`]: the same, and it is the number of a cause;
 //! - any other: `output` is as it was, and `*length` is 0.
 //!
 //! A list of NAMEs is a list of records, one behind the other: a byte, the length of a NAME as a
@@ -28,7 +30,7 @@
 //!
 //! What the caller of each call but [`mulkavesh_version`] owes:
 //!
-//! - `input`, `choice`, `function`, `module`, `name` and `output` have as many bytes as is told,
+//! - `input`, `choice`, `function`, `module`, `name`, `edits` and `output` have as many bytes as is told,
 //!   `output` may be written (its bytes need no value before), and nothing else writes them during
 //!   the call;
 //! - none of them is null, not even where the length is 0, and `length` isn't null and is aligned;
@@ -60,6 +62,13 @@ pub const MULKAVESH_UNKNOWN_FLAG: u32 = 5;
 /// There is nothing of this name or index that the call could work on, or a NAME fits nothing.
 pub const MULKAVESH_NOT_FOUND: u32 = 6;
 
+/// An edit isn't of its form, names what isn't there, or has a body that isn't well formed; the first
+/// `*length` edits can be made.
+pub const MULKAVESH_BAD_EDIT: u32 = 7;
+
+/// What all edits left can't be written, for the cause whose number `*length` is.
+pub const MULKAVESH_BAD_MODULE: u32 = 8;
+
 /// A flag: no names are written.
 pub const MULKAVESH_NO_NAMES: u32 = 1;
 
@@ -68,6 +77,9 @@ pub const MULKAVESH_NO_PRODUCERS: u32 = 2;
 
 /// A flag: bodies with legacy exceptions are refused.
 pub const MULKAVESH_NO_LEGACY: u32 = 4;
+
+/// A flag of [`mulkavesh_edit`] alone: what nothing reaches goes.
+pub const MULKAVESH_GC: u32 = 8;
 
 /// What stands in a list for the length of a name, or for a size, that isn't there.
 pub const MULKAVESH_NO_NAME: u32 = u32::MAX;
@@ -214,6 +226,18 @@ pub const MULKAVESH_RULE_OFFSETS: u32 = 9;
 
 /// A body declares more than 50,000 locals.
 pub const MULKAVESH_RULE_LOCALS: u32 = 10;
+
+/// What all edits left names an item that is gone: a cause, as the rules 4, 5 and 7 to 10 are ones.
+pub const MULKAVESH_CAUSE_GONE: u32 = 11;
+
+/// An item stands in it twice.
+pub const MULKAVESH_CAUSE_TWO_INDICES: u32 = 12;
+
+/// It names an item that stands nowhere.
+pub const MULKAVESH_CAUSE_NO_INDEX: u32 = 13;
+
+/// A body or an expression of it can't be spelled.
+pub const MULKAVESH_CAUSE_NO_SPELLING: u32 = 14;
 
 extern "C" {
     /// The version of the library: the major number times 2^16, the minor one times 2^8, and the
@@ -444,6 +468,30 @@ extern "C" {
         module_length: usize,
         name: *const u8,
         name_length: usize,
+        output: *mut u8,
+        room: usize,
+        length: *mut usize,
+    ) -> u32;
+
+    /// The items of the module, each with its id, as records: docs/FORMATS.md, "A list of items". Of
+    /// the flags [`MULKAVESH_NO_LEGACY`] alone has a say.
+    pub fn mulkavesh_read(
+        input: *const u8,
+        input_length: usize,
+        flags: u32,
+        output: *mut u8,
+        room: usize,
+        length: *mut usize,
+    ) -> u32;
+
+    /// The module that a list of edits makes of the input, each in its turn: docs/FORMATS.md, "A list of
+    /// edits". With [`MULKAVESH_GC`] what nothing reaches then goes.
+    pub fn mulkavesh_edit(
+        input: *const u8,
+        input_length: usize,
+        flags: u32,
+        edits: *const u8,
+        edits_length: usize,
         output: *mut u8,
         room: usize,
         length: *mut usize,

@@ -52,6 +52,18 @@ pub(crate) struct Call<'a> {
     flags: Flags,
     /// Those of which the form has the list: the default where it has none.
     roots: Roots<'a>,
+    /// Whether what nothing reaches goes, of a list of edits.
+    collects: bool,
+}
+
+/// Why a list of edits has no answer.
+pub(crate) enum Refused {
+    /// For a cause that other calls have too.
+    Call(Error),
+    /// So many edits can be made, and the next one can't.
+    Edit(usize),
+    /// All can be made, and what they leave can't be written: the number of the cause.
+    Whole(u32),
 }
 
 /// A choice of exports, and the list of it that the library takes.
@@ -70,13 +82,20 @@ impl<'a> Chosen<'a> {
 impl<'a> Call<'a> {
     fn of(form: Form<'a>, flags: Flags) -> Self {
         let roots = Roots::default();
-        Call { form, flags, roots }
+        Call {
+            form,
+            flags,
+            roots,
+            collects: false,
+        }
     }
 
     fn chosen(call: FlaggedList, flags: Flags, chosen: &'a Chosen<'_>) -> Self {
         let form = Form::FlaggedList(call, &chosen.list);
-        let roots = chosen.roots;
-        Call { form, flags, roots }
+        Call {
+            roots: chosen.roots,
+            ..Call::of(form, flags)
+        }
     }
 
     fn explained(
@@ -86,8 +105,10 @@ impl<'a> Call<'a> {
         function: &'a str,
     ) -> Self {
         let form = Form::FlaggedLists(call, &chosen.list, function.as_bytes());
-        let roots = chosen.roots;
-        Call { form, flags, roots }
+        Call {
+            roots: chosen.roots,
+            ..Call::of(form, flags)
+        }
     }
 
     pub(crate) fn gc(flags: Flags, chosen: &'a Chosen<'_>) -> Self {
@@ -152,26 +173,56 @@ impl<'a> Call<'a> {
         Call::of(form, flags)
     }
 
+    pub(crate) fn read() -> Self {
+        let form = Form::Flagged(library::mulkavesh_read);
+        Call::of(form, Flags::default())
+    }
+
+    pub(crate) fn edit(flags: Flags, collects: bool, edits: &'a [u8]) -> Self {
+        let form = Form::FlaggedList(library::mulkavesh_edit, edits);
+        Call {
+            collects,
+            ..Call::of(form, flags)
+        }
+    }
+
     /// The answer for this input. One call serves where this much room, in bytes, is enough; where
     /// it isn't, the library says how much is, and a second one does.
     pub(crate) fn answer(&self, input: &[u8], guess: usize) -> Result<Vec<u8>, Error> {
+        self.edited(input, guess).map_err(|refused| match refused {
+            Refused::Call(error) => error,
+            Refused::Edit(_) | Refused::Whole(_) => unreachable!("the call makes no edits"),
+        })
+    }
+
+    /// The same, of a list of edits.
+    pub(crate) fn edited(&self, input: &[u8], guess: usize) -> Result<Vec<u8>, Refused> {
         let mut room = guess;
         loop {
-            let mut output = with_room(room)?;
+            let mut output = with_room(room).map_err(Refused::Call)?;
             let (status, length) = self.made(input, &mut output);
             match status {
                 library::MULKAVESH_DONE => return Ok(output),
                 library::MULKAVESH_NO_ROOM => room = length,
-                library::MULKAVESH_INVALID => {
+                _ => {
                     drop(output);
-                    return Err(self.refusal(input));
+                    return Err(self.refused(status, length, input));
                 }
-                library::MULKAVESH_TOO_LARGE => return Err(Error::TooLarge),
-                library::MULKAVESH_NO_MEMORY => return Err(Error::NoMemory),
-                library::MULKAVESH_NOT_FOUND => return Err(self.missing(length)),
-                other => unreachable!("the library answers with status {other}"),
             }
         }
+    }
+
+    /// Why there is no answer, by the status and the length that the library tells.
+    fn refused(&self, status: u32, length: usize, input: &[u8]) -> Refused {
+        Refused::Call(match status {
+            library::MULKAVESH_BAD_EDIT => return Refused::Edit(length),
+            library::MULKAVESH_BAD_MODULE => return Refused::Whole(length as u32),
+            library::MULKAVESH_INVALID => self.refusal(input),
+            library::MULKAVESH_TOO_LARGE => Error::TooLarge,
+            library::MULKAVESH_NO_MEMORY => Error::NoMemory,
+            library::MULKAVESH_NOT_FOUND => self.missing(length),
+            other => unreachable!("the library answers with status {other}"),
+        })
     }
 
     /// Why this input is invalid, which a second call finds out, under the same flags.
@@ -201,7 +252,7 @@ impl<'a> Call<'a> {
     fn made(&self, input: &[u8], output: &mut Vec<u8>) -> (u32, usize) {
         let (start, size) = (input.as_ptr(), input.len());
         let (to, room) = (output.as_mut_ptr(), output.capacity());
-        let flags = self.flags.bits();
+        let flags = self.flags.bits() + u32::from(self.collects) * library::MULKAVESH_GC;
         let mut length = 0;
         let told: *mut usize = &mut length;
         // SAFETY: `start` and `size` are of one slice, as pointer and length of the others are, and

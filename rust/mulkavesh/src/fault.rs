@@ -132,7 +132,7 @@ pub enum Rule {
 
 impl Rule {
     /// The rule of a number of the library.
-    fn of(number: u32) -> Rule {
+    pub(crate) fn of(number: u32) -> Rule {
         match number {
             library::MULKAVESH_RULE_ORDER => Rule::Order,
             library::MULKAVESH_RULE_TYPES => Rule::Types,

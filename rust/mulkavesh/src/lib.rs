@@ -43,6 +43,7 @@ mod flags;
 mod interface;
 mod kind;
 mod listed;
+pub mod module;
 mod parts;
 mod reason;
 mod report;

@@ -1,5 +1,5 @@
 use Rattle.std.proofs.Common.{refl, sym, ◌∙◌}
-use Rattle.walrus_tools.specs.Choice.{AllGo}
+use Rattle.walrus_sections.specs.Choice.{AllGo}
 use Rattle.walrus_tools.specs.TrapEdit.{AnswersMeant}
 use Rattle.walrus_tools.specs.Wanted.{config_wanted}
 use Rattle.walrus_tools.specs.WantedValue.{Wanted}

@@ -1,5 +1,5 @@
 use Rattle.std.proofs.Common.{refl}
-use Rattle.walrus_tools.specs.Choice.{IsList}
+use Rattle.walrus_sections.specs.Choice.{IsList}
 use Rattle.mulkavesh_c.proofs.AnswerLemmas.{gives_plain, gives_unknown}
 use Rattle.mulkavesh_c.proofs.ChoiceLemmas.{untrue}
 use Rattle.mulkavesh_c.proofs.mulkavesh_strip.Goals as goal

@@ -1,10 +1,9 @@
 //! What a developer asks of an item that stays: what refers to it.
 
-ghost use Rattle.walrus_tools.specs.Choice.{choices_seen};
+ghost use Rattle.walrus_sections.specs.Choice.{choices_seen};
 ghost use Rattle.walrus_tools.specs.ReasonAnswers.{AnswersCallers};
 ghost use Rattle.walrus.specs.Wanted.{config_wanted};
 
-use crate::choice::Choice;
 use crate::item_meaning::item_meant;
 use crate::keep::keep_chosen;
 use crate::links::{Link, links_of};
@@ -12,6 +11,7 @@ use crate::referrers::callers_of;
 use std::alloc::Global;
 use walrus::passes::gc;
 use walrus::{ModuleConfig, Result, Wanted};
+use walrus_sections::Choice;
 
 /// The items that refer to the one that the text means, of those that are left where of the exports those are left that are chosen, and what
 /// nothing reaches goes: by kind (types, functions, tables, memories, tags, globals, elements, data) and index. The text means what it means to

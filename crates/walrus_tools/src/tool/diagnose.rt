@@ -1,7 +1,6 @@
 //! What a developer asks of bytes that are refused: what is wrong with them.
 
 ghost use Rattle.std.specs.Prelude.{◌≡◌, IfOk, string_bytes};
-ghost use Rattle.walrus_reading.specs.Faults.{FindsFault};
 ghost use Rattle.walrus_tools.specs.Faults.{
   AnswersFault,
   Diagnoses,
@@ -13,13 +12,13 @@ ghost use Rattle.walrus_tools.specs.Faults.{
 };
 ghost use Rattle.walrus.specs.Wanted.{config_wanted};
 
-use crate::beginnings::{Beginning, beginning_number, beginning_words, begins_as};
-use crate::numbers::{add_number, narrow};
 use std::alloc::{AllocError, Global};
 use std::result;
+use walrus::below::{Fault, Features, first_fault};
 use walrus::{Result, Wanted};
-use walrus_bodies::Features;
-use walrus_reading::{Fault, first_fault};
+use walrus_sections::{
+    Beginning, add_number, beginning_number, beginning_words, begins_as, narrow,
+};
 use wasm_wire::BrokenRule;
 
 /// What is wrong with the bytes, or none exactly where they are accepted. Which of several faults is told isn't promised. What is written of

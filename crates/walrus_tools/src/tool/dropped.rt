@@ -1,25 +1,22 @@
 //! What a developer asks of a module that became smaller: which functions went, under which names, and what each had.
 
 ghost use Rattle.std.specs.Prelude.{◌≡◌, ◌++◌, IfOk, OnOk, flat_map, map};
-ghost use Rattle.walrus_base.specs.IdSet.{has_id};
-ghost use Rattle.walrus_items.specs.Functions.{functions};
-ghost use Rattle.walrus_tools.specs.Choice.{choices_seen};
+ghost use Rattle.walrus.specs.Base.IdSet.{has_id};
+ghost use Rattle.walrus.specs.Items.Functions.{functions};
+ghost use Rattle.walrus_sections.specs.Choice.{choices_seen};
 ghost use Rattle.walrus_tools.specs.DroppedList.{AnswersDropped, AnswersDroppedList, dropped_of};
 ghost use Rattle.walrus_tools.specs.FunctionList.{listed_seen, names_in};
-ghost use Rattle.walrus_tools.specs.Parts.{part_record};
+ghost use Rattle.walrus_sections.specs.Parts.{part_record};
 ghost use Rattle.walrus.specs.Wanted.{config_wanted};
 
-use crate::choice::Choice;
 use crate::keep::keep_chosen;
-use crate::parts::Part;
 use crate::spelled::spelled;
 use crate::tool::list::{Listed, name_of};
-use crate::tool::section_parts::section_parts;
 use std::alloc::{AllocError, Global};
 use std::result;
 use walrus::passes::used::Used;
-use walrus::{FunctionId, ModuleConfig, ModuleFunctions, Result, Wanted};
-use walrus_base::{FunctionKey, IdHashSet};
+use walrus::{FunctionId, FunctionKey, IdHashSet, ModuleConfig, ModuleFunctions, Result, Wanted};
+use walrus_sections::{Choice, Part, section_parts};
 
 // Puts the part behind the list, if it is a function that doesn't stay.
 fn add_dropped(

@@ -1,21 +1,18 @@
 //! What a developer asks of a module's interface: what it hands out, of which only what is chosen is left.
 
-ghost use Rattle.std.specs.Prelude.{◌≡◌, ◌++◌, IfErr, IfOk, OnOk, map};
-ghost use Rattle.walrus_base.specs.Arena.{items};
-ghost use Rattle.walrus_code.specs.Code.{item_of};
-ghost use Rattle.walrus_items.specs.Exports.{export_value, exports};
-ghost use Rattle.walrus_tools.specs.Choice.{choices_seen};
+ghost use Rattle.std.specs.Prelude.{◌≡◌, IfOk, map};
+ghost use Rattle.walrus.specs.Base.Arena.{items};
+ghost use Rattle.walrus.specs.Items.Exports.{export_value, exports};
+ghost use Rattle.walrus_sections.specs.Choice.{choices_seen};
 ghost use Rattle.walrus_tools.specs.ExportList.{AnswersExportList, AnswersExports, ExportedItem, IsLongExport, export_told, exported_bytes, exported_seen};
 ghost use Rattle.walrus.specs.Wanted.{config_wanted};
 
-use crate::choice::Choice;
 use crate::keep::keep_chosen;
-use crate::numbers::add_text;
 use crate::spelled::{Told, add_item, spelled};
 use std::alloc::{AllocError, Global};
 use std::result;
-use walrus::{ItemId, ModuleConfig, ModuleExports, Result, Wanted};
-use walrus_items::Export;
+use walrus::{Export, ItemId, ModuleConfig, ModuleExports, Result, Wanted};
+use walrus_sections::{Choice, add_text};
 
 /// An export.
 #[derive(Drop)]

@@ -1,13 +1,13 @@
 //! What the program does where roots are chosen by name: the exports that won't be used go, and then what nothing reaches.
 
-ghost use Rattle.walrus_tools.specs.Choice.{choices_seen};
+ghost use Rattle.walrus_sections.specs.Choice.{choices_seen};
 ghost use Rattle.walrus_tools.specs.ChosenModule.{AnswersChosen, NoneChosen};
 ghost use Rattle.walrus.specs.Wanted.{config_wanted};
 
-use crate::choice::Choice;
 use crate::keep::keep_chosen;
 use std::alloc::Global;
 use walrus::{ModuleConfig, Result, Wanted, finished_ready};
+use walrus_sections::Choice;
 
 /// The bytes of the module where of its exports those are left that are chosen; then without what nothing reaches. An export is chosen if a
 /// choice of what is kept fits its name, or there is no such choice; and if no other choice fits it. The start function and active segments

@@ -1,23 +1,21 @@
 //! What a developer asks of a module's interface: what it still needs where what nothing reaches goes.
 
-ghost use Rattle.std.specs.Prelude.{◌≡◌, ◌++◌, IfErr, IfOk, OnOk, map};
-ghost use Rattle.walrus_base.specs.Arena.{items};
-ghost use Rattle.walrus_code.specs.Code.{item_of};
-ghost use Rattle.walrus_items.specs.Imports.{import_value, imports};
-ghost use Rattle.walrus_items.specs.Kinds.{imported};
-ghost use Rattle.walrus_tools.specs.Choice.{choices_seen};
+ghost use Rattle.std.specs.Prelude.{◌≡◌, IfOk, map};
+ghost use Rattle.walrus.specs.Base.Arena.{items};
+ghost use Rattle.walrus.specs.Code.Code.{item_of};
+ghost use Rattle.walrus.specs.Items.Imports.{import_value, imports};
+ghost use Rattle.walrus.specs.Items.Kinds.{imported};
+ghost use Rattle.walrus_sections.specs.Choice.{choices_seen};
 ghost use Rattle.walrus_tools.specs.ImportList.{AnswersImportList, AnswersImports, ImportedItem, IsLongImport, import_told, imported_bytes, imported_seen};
 ghost use Rattle.walrus.specs.Wanted.{config_wanted};
 
-use crate::choice::Choice;
 use crate::keep::keep_chosen;
-use crate::numbers::add_text;
 use crate::spelled::{Told, add_item, spelled};
 use std::alloc::{AllocError, Global};
 use std::result;
 use walrus::passes::gc;
-use walrus::{ItemId, ModuleConfig, ModuleImports, Result, Wanted};
-use walrus_items::{Import, ImportKind};
+use walrus::{Import, ImportKind, ItemId, ModuleConfig, ModuleImports, Result, Wanted};
+use walrus_sections::{Choice, add_text};
 
 /// An import.
 #[derive(Drop)]

@@ -2,23 +2,22 @@
 
 ghost use Rattle.std.specs.Option.{option_to_list};
 ghost use Rattle.std.specs.Prelude.{◌≡◌, ◌++◌, IfErr, IfOk, OnOk, map};
-ghost use Rattle.walrus_base.specs.Id.{place};
-ghost use Rattle.walrus_items.specs.Functions.{functions};
-ghost use Rattle.walrus_items.specs.Seen.{text_of};
-ghost use Rattle.walrus_items.specs.Transform.{range_of};
-ghost use Rattle.walrus_tools.specs.Choice.{choices_seen};
+ghost use Rattle.walrus.specs.Base.Id.{place};
+ghost use Rattle.walrus.specs.Items.Functions.{functions};
+ghost use Rattle.walrus.specs.Items.Seen.{text_of};
+ghost use Rattle.walrus.specs.Items.Transform.{range_of};
+ghost use Rattle.walrus_sections.specs.Choice.{choices_seen};
 ghost use Rattle.walrus_tools.specs.FunctionList.{AnswersFunctions, AnswersListed, IsLong, IsLongName, ListedFunction, RefusesIf, listed_bytes, listed_of, listed_seen, name_bytes, names_in};
 ghost use Rattle.walrus.specs.Wanted.{config_wanted};
 
-use crate::choice::Choice;
 use crate::keep::keep_chosen;
-use crate::numbers::{NO_NAME, add_number, add_text, narrow};
 use crate::spelled::{Told, spelled};
 use std::alloc::{AllocError, Global};
 use std::ops::Range;
 use std::result;
 use walrus::passes::gc;
 use walrus::{FunctionId, ModuleConfig, ModuleFunctions, Result, Wanted};
+use walrus_sections::{Choice, NO_NAME, add_number, add_text, narrow};
 
 /// A function with a body that stays, or that goes.
 #[derive(Drop)]

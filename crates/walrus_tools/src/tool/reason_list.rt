@@ -1,23 +1,21 @@
 //! Why an item stays, and what refers to it, as bytes for callers of other languages.
 
-ghost use Rattle.std.specs.Prelude.{◌≡◌, ◌++◌, ◌<◌, ◌^◌, ◌≤◌, IfErr, IfOk, OnOk, flat_map, map, string_bytes};
-ghost use Rattle.walrus_code.specs.Code.{item_of};
-ghost use Rattle.walrus_model.specs.Abstract.{Name};
-ghost use Rattle.walrus_tools.specs.Choice.{choices_seen};
+ghost use Rattle.std.specs.Prelude.{◌≡◌, ◌++◌, ◌<◌, ◌^◌, ◌≤◌, IfErr, IfOk, OnOk, flat_map, string_bytes};
+ghost use Rattle.walrus.specs.Code.Code.{item_of};
+ghost use Rattle.walrus.specs.Model.Abstract.{Name};
+ghost use Rattle.walrus_sections.specs.Choice.{choices_seen};
 ghost use Rattle.walrus_tools.specs.ExportList.{text_bytes};
 ghost use Rattle.walrus_tools.specs.Links.{LinkTold, link_seen, links_in};
-ghost use Rattle.walrus_tools.specs.Numbers.{RefusesIf};
+ghost use Rattle.walrus_sections.specs.Numbers.{RefusesIf};
 ghost use Rattle.walrus_tools.specs.ReasonAnswers.{AnswersCallerList, AnswersReasonList};
 ghost use Rattle.walrus_tools.specs.ReasonBytes.{IsLongAlone, IsLongLink, IsLongReason, IsLongSize, IsLongText, alone_bytes, chain_links, item_bytes, link_bytes, reason_bytes, reason_seen, root_number, size_bytes};
 ghost use Rattle.walrus_tools.specs.Spelled.{HasLong};
 ghost use Rattle.walrus.specs.Wanted.{config_wanted};
 
-use crate::choice::Choice;
 use crate::export_groups::kind_number;
 use crate::goers::Alone;
 use crate::lines::item_index;
 use crate::links::Link;
-use crate::numbers::{NO_NAME, add_number, add_text, narrow};
 use crate::reasons::Reason;
 use crate::roots::Root;
 use crate::spelled::{Told, add_all, spelled};
@@ -26,6 +24,7 @@ use crate::tool::list::add_name;
 use crate::tool::why::why;
 use std::alloc::Global;
 use walrus::{Error, ItemId, Result, Wanted};
+use walrus_sections::{Choice, NO_NAME, add_number, add_text, narrow};
 
 // ---- a link
 

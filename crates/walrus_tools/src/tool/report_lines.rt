@@ -1,7 +1,7 @@
 //! What is told of a module that becomes smaller, as lines for people.
 
 ghost use Rattle.std.specs.Prelude.{◌≡◌, ◌++◌, IfOk, OnOk, codes, string_bytes};
-ghost use Rattle.walrus_theorem.specs.Report.{line};
+ghost use Rattle.walrus.specs.Theorem.Report.{line};
 ghost use Rattle.walrus_tools.specs.WeighText.{bytes_text, kind_line, kinds_text, longer_line, number_line, rest_line, rest_of, sizes_line, weighed_text};
 
 use crate::kinds::Kinds;

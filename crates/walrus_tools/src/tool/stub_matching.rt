@@ -1,16 +1,16 @@
 //! What a linker or a tester does with imports that nobody will give, chosen by their names: the functions that they brought trap.
 
 ghost use Rattle.std.specs.Prelude.{◌+◌};
-ghost use Rattle.walrus_base.specs.Marks.{is_marked};
-ghost use Rattle.walrus_tools.specs.Choice.{choices_seen};
+ghost use Rattle.walrus.specs.Base.Marks.{is_marked};
+ghost use Rattle.walrus_sections.specs.Choice.{choices_seen};
 ghost use Rattle.walrus_tools.specs.StubMatching.{AnswersMatching, StubsChosen, StubsHit, StubsHits};
 ghost use Rattle.walrus.specs.Wanted.{config_wanted};
 
-use crate::choice::Choice;
 use crate::import_choice::chosen_imports;
-use crate::trap_import::trap_import;
+use crate::import_traps::trap_import;
 use std::alloc::Global;
 use walrus::{ImportId, ImportKey, Marks, Module, ModuleConfig, Result, Wanted, finished_ready};
+use walrus_sections::Choice;
 
 // The function that the import at this place brings traps, if that is marked.
 fn trap_hit<S>(

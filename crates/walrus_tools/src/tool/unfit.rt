@@ -1,13 +1,13 @@
 //! Which NAME fits no export, for who was told that one does.
 
-ghost use Rattle.walrus_tools.specs.Choice.{choices_seen};
+ghost use Rattle.walrus_sections.specs.Choice.{choices_seen};
 ghost use Rattle.walrus_tools.specs.ChosenModule.{AnswersUnfit};
 ghost use Rattle.walrus.specs.Wanted.{config_wanted};
 
-use crate::choice::Choice;
 use crate::named_exports::unfit_number;
 use std::alloc::Global;
 use walrus::{ModuleConfig, Result, Wanted};
+use walrus_sections::Choice;
 
 /// The number, from 0, of the first choice that fits the name of no export of the module, or `None` where each fits one.
 ///

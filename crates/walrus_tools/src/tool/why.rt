@@ -1,16 +1,15 @@
 //! What a developer asks of an item that wasn't to stay: by which references it does, and what would go with it.
 
 ghost use Rattle.std.specs.Prelude.{◌≡◌, ◌<◌, ◌^◌, map, option_map};
-ghost use Rattle.walrus_code.specs.Code.{item_of};
-ghost use Rattle.walrus_items.specs.Transform.{range_of};
+ghost use Rattle.walrus.specs.Code.Code.{item_of};
+ghost use Rattle.walrus.specs.Items.Transform.{range_of};
 ghost use Rattle.walrus_tools.specs.Alone.{bytes_of};
 ghost use Rattle.walrus_tools.specs.AloneSteps.{alone_in};
-ghost use Rattle.walrus_tools.specs.Choice.{choices_seen};
+ghost use Rattle.walrus_sections.specs.Choice.{choices_seen};
 ghost use Rattle.walrus_tools.specs.ReasonAnswers.{AnswersWhy};
 ghost use Rattle.walrus_tools.specs.ReasonSteps.{TellsGoers};
 ghost use Rattle.walrus.specs.Wanted.{config_wanted};
 
-use crate::choice::Choice;
 use crate::goers::{Alone, alone_of, goers, put_back, trap_one};
 use crate::item_meaning::item_meant;
 use crate::keep::keep_chosen;
@@ -25,6 +24,7 @@ use walrus::passes::why::chain_to;
 use walrus::{
     CustomSection, FunctionId, FunctionKey, ItemId, Marks, Module, ModuleConfig, Result, Wanted,
 };
+use walrus_sections::Choice;
 
 // Marks of the functions that go with an item, if that is a function with a body that is there. The module is as it was, unless this is refused.
 fn goers_with(

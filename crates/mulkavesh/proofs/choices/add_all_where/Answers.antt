@@ -1,6 +1,6 @@
 use Rattle.std.proofs.Common.{◌≡◌, Bool, [], ◌∷◌, ◌++◌, codes, sym, ap, ◌∙◌}
 use Rattle.mulkavesh.specs.Choices.{all_choices, going, staying, where_said}
-use Rattle.walrus_tools.specs.Choice.{choices_seen}
+use Rattle.walrus_sections.specs.Choice.{choices_seen}
 use Rattle.mulkavesh.proofs.ChoiceLemmas.{first_more, then_more}
 use Rattle.mulkavesh.proofs.choices.add_all_where.Goals as goal
 

@@ -1,6 +1,6 @@
 use Rattle.std.proofs.Common.{◌≡◌, ◌++◌, drop}
 use Rattle.mulkavesh.specs.Choices.{choices_about}
-use Rattle.walrus_tools.specs.Choice.{choices_seen}
+use Rattle.walrus_sections.specs.Choice.{choices_seen}
 use Rattle.mulkavesh.proofs.choices.choices_about.Given as goal
 
 -- what is made, and what is said by the values that are left, are all that is said

@@ -1,5 +1,5 @@
 use Rattle.std.proofs.Common.{List, [], ◌∷◌, ◌++◌, codes, ap, ◌∙◌}
-use Rattle.walrus_tools.specs.Choice.{Choice}
+use Rattle.walrus_sections.specs.Choice.{Choice}
 use Rattle.mulkavesh.specs.Choices.{all_choices, choices_about, going, where_said}
 use Rattle.mulkavesh.specs.declared.choices.About.TheVariants.{Sections}
 use Rattle.mulkavesh.proofs.choices.sections_of.Goals as goal

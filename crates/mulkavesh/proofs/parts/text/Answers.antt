@@ -1,5 +1,5 @@
 use Rattle.std.proofs.Common.{refl}
-use Rattle.walrus_tools.specs.PartList.{part_record}
+use Rattle.walrus_sections.specs.PartList.{part_record}
 use Rattle.mulkavesh.specs.Sections.{part_line}
 use Rattle.mulkavesh.proofs.Lines.{all_lines, line_more}
 use Rattle.mulkavesh.proofs.parts.text.Goals as goal

@@ -1,5 +1,5 @@
 use Rattle.std.proofs.Common.{◌≡◌, flat_map, map, take}
-use Rattle.walrus_tools.specs.PartList.{part_record}
+use Rattle.walrus_sections.specs.PartList.{part_record}
 use Rattle.mulkavesh.specs.Sections.{part_line}
 use Rattle.mulkavesh.proofs.parts.text.Given as goal
 

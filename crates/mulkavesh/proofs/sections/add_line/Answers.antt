@@ -1,4 +1,4 @@
-use Rattle.walrus_tools.specs.Sections.{piece_record}
+use Rattle.walrus_sections.specs.Sections.{piece_record}
 use Rattle.mulkavesh.proofs.SectionLines.{line_joined}
 use Rattle.mulkavesh.proofs.sections.add_line.Goals as goal
 

@@ -1,5 +1,5 @@
 use Rattle.std.proofs.Common.{refl}
-use Rattle.walrus_tools.specs.Sections.{piece_record}
+use Rattle.walrus_sections.specs.Sections.{piece_record}
 use Rattle.mulkavesh.specs.Sections.{section_line}
 use Rattle.mulkavesh.proofs.Lines.{all_lines, line_more}
 use Rattle.mulkavesh.proofs.sections.text.Goals as goal

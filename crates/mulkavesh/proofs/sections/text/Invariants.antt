@@ -1,5 +1,5 @@
 use Rattle.std.proofs.Common.{◌≡◌, flat_map, map, take}
-use Rattle.walrus_tools.specs.Sections.{piece_record}
+use Rattle.walrus_sections.specs.Sections.{piece_record}
 use Rattle.mulkavesh.specs.Sections.{section_line}
 use Rattle.mulkavesh.proofs.sections.text.Given as goal
 

@@ -1,7 +1,7 @@
 use Rattle.std.proofs.Common.{List, subst}
-use Rattle.walrus_tools.specs.Choice.{choices_seen}
+use Rattle.walrus_sections.specs.Choice.{choices_seen}
 use Rattle.walrus_tools.specs.Wanted.{config_wanted}
-use Rattle.walrus_tools.specs.declared.choice.Choice.{Choice as HeldChoice}
+use Rattle.walrus_sections.specs.declared.choice.Choice.{Choice as HeldChoice}
 use Rattle.mulkavesh_c.specs.ChosenRoots.{IsNumbered}
 use Rattle.mulkavesh_c.specs.Questions.{AnswersTo}
 use Rattle.mulkavesh_c.proofs.ChoiceLemmas.{made_chosen, made_refused}

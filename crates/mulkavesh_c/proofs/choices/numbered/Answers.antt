@@ -1,6 +1,6 @@
 use Rattle.std.proofs.Common.{◌≡◌, subst, sym, ◌∙◌}
 use Rattle.std.specs.Prelude.{Err, Ok}
-use Rattle.walrus_tools.specs.Choice.{choices_seen}
+use Rattle.walrus_sections.specs.Choice.{choices_seen}
 use Rattle.walrus_tools.specs.Facade.{NotFound}
 use Rattle.walrus_tools.specs.Wanted.{config_wanted}
 use Rattle.mulkavesh_c.specs.Answer.{Answer}

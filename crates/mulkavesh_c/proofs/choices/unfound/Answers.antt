@@ -1,7 +1,7 @@
 use Rattle.std.proofs.Common.{ℕ, ap, inl, refl, subst, sym, ◌∙◌}
 use Rattle.std.specs.Prelude.{unwrap_or}
 use Rattle.std.proofs.lemmas.List.{length-map}
-use Rattle.walrus_tools.specs.Choice.{choice_seen, choices_seen}
+use Rattle.walrus_sections.specs.Choice.{choice_seen, choices_seen}
 use Rattle.walrus_tools.specs.ChosenModule.{AnswersUnfit}
 use Rattle.walrus_tools.specs.Wanted.{config_wanted}
 use Rattle.mulkavesh_c.proofs.ChoiceLemmas.{numbered_refused, unfit_number}

@@ -1,4 +1,4 @@
-use Rattle.walrus_tools.specs.StripAnswers.{AnswersStripped}
+use Rattle.walrus_sections.specs.StripAnswers.{AnswersStripped}
 use Rattle.mulkavesh_c.proofs.ChoiceLemmas.{list_answer}
 use Rattle.mulkavesh_c.proofs.names.stripped.Goals as goal
 

@@ -4,11 +4,11 @@ use Rattle.std.specs.Global.{Vec}
 use Rattle.std.specs.Prelude.{Err, Ok}
 use Rattle.wasm_entries.specs.Record.{group}
 use Rattle.wasm_entries.specs.declared.record.RawSub.{RawSub}
-use Rattle.wasm_frames.specs.Record.{sections}
-use Rattle.walrus_items.specs.Errors.{error_of_wire}
-use Rattle.walrus_contents.specs.declared.parts.Contents.{Contents}
-use Rattle.walrus_module.specs.Flags.{Flags, config_of, flags}
-use Rattle.walrus_module.specs.View.{contents_of}
+use Rattle.walrus.specs.Frames.Record.{sections}
+use Rattle.walrus.specs.Items.Errors.{error_of_wire}
+use Rattle.walrus.specs.Contents.Contents.{Contents}
+use Rattle.walrus.specs.Modules.Flags.{Flags, config_of, flags}
+use Rattle.walrus.specs.Modules.View.{contents_of}
 use Rattle.walrus_edits.specs.ItemSteps.{ListsItems}
 use Rattle.walrus_edits.specs.ItemValues.{AreGroups}
 use Rattle.walrus_edits.specs.Items.{AnswersItems}

@@ -1,9 +1,9 @@
 use Rattle.std.proofs.Common.{List, ap, map, refl, subst, sym}
 use Rattle.std.proofs.lemmas.Result.{err_from_is_err_and}
 use Rattle.wasm_entries.specs.Record.{group}
-use Rattle.wasm_frames.specs.Record.{custom_record, sections}
+use Rattle.walrus.specs.Frames.Record.{custom_record, sections}
 use Rattle.wasm_frames.specs.declared.record.RawCustom.{RawCustom}
-use Rattle.walrus_contents.specs.View.{lent}
+use Rattle.walrus.specs.Contents.View.{lent}
 use Rattle.walrus_edits.specs.ItemRecords.{Told}
 use Rattle.walrus_edits.specs.LocalNames.{AreLocalNames, are_known, local_told}
 use Rattle.walrus_edits.proofs.ListSteps.{are_told, functions_known, lists, lists_not}

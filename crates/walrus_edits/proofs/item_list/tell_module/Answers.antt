@@ -1,5 +1,5 @@
 use Rattle.std.proofs.Common.{[], ap, map, refl}
-use Rattle.wasm_frames.specs.Record.{custom_record, sections}
+use Rattle.walrus.specs.Frames.Record.{custom_record, sections}
 use Rattle.walrus_edits.specs.ItemValues.{customs_from, producers_in, section_parts, with_ids}
 use Rattle.walrus_edits.proofs.ListSteps.{parts_end, parts_join, parts_more, parts_none}
 use Rattle.walrus_edits.proofs.item_list.tell_module.Goals as goal

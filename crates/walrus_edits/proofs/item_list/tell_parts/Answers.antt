@@ -1,7 +1,7 @@
 use Rattle.std.proofs.Common.{[], ap, flat_map, map, refl, ◌∙◌}
 use Rattle.std.specs.Prelude.{zip}
 use Rattle.wasm_entries.specs.Record.{data_entry, element_entry, export_entry, global_entry, import_entry, table_entry}
-use Rattle.wasm_frames.specs.Record.{body_record}
+use Rattle.walrus.specs.Frames.Record.{body_record}
 use Rattle.walrus_edits.specs.ItemRecords.{AGlobal, AMemory, ASegment, ATable, ATag, AnElement, AnExport}
 use Rattle.walrus_edits.specs.ItemValues.{functions_in, with_brought}
 use Rattle.walrus_edits.proofs.ListSteps.{parts_end, parts_more, parts_none}

@@ -1,5 +1,5 @@
 use Rattle.std.proofs.Common.{◌≡◌, ◌++◌, drop, map}
-use Rattle.wasm_frames.specs.Record.{custom_record}
+use Rattle.walrus.specs.Frames.Record.{custom_record}
 use Rattle.walrus_edits.specs.LocalNames.{name_payloads}
 use Rattle.walrus_edits.proofs.local_names.name_sections.Given as goal
 

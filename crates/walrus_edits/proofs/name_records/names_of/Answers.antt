@@ -1,11 +1,11 @@
 use Rattle.std.proofs.Common.{ap, map, refl}
-use Rattle.walrus_items.specs.Data.{DataValue}
-use Rattle.walrus_items.specs.Elements.{ElementValue}
-use Rattle.walrus_items.specs.Functions.{FunctionValue}
-use Rattle.walrus_items.specs.Globals.{GlobalValue}
-use Rattle.walrus_items.specs.Memories.{MemoryValue}
-use Rattle.walrus_items.specs.Tables.{TableValue}
-use Rattle.walrus_items.specs.Tags.{TagValue}
+use Rattle.walrus.specs.Items.Data.{DataValue}
+use Rattle.walrus.specs.Items.Elements.{ElementValue}
+use Rattle.walrus.specs.Items.Functions.{FunctionValue}
+use Rattle.walrus.specs.Items.Globals.{GlobalValue}
+use Rattle.walrus.specs.Items.Memories.{MemoryValue}
+use Rattle.walrus.specs.Items.Tables.{TableValue}
+use Rattle.walrus.specs.Items.Tags.{TagValue}
 use Rattle.walrus_edits.specs.ItemSteps.{name_told}
 use Rattle.walrus_edits.proofs.NameSteps.{all_pushed}
 use Rattle.walrus_edits.proofs.name_records.names_of.Goals as goal

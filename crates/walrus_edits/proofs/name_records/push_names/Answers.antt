@@ -1,5 +1,5 @@
 use Rattle.std.proofs.Common.{ap, ◌∙◌}
-use Rattle.walrus_items.specs.Held.{held_entries_left}
+use Rattle.walrus.specs.Items.Held.{held_entries_left}
 use Rattle.walrus_edits.proofs.NameSteps.{names_begin, names_end, names_turn}
 use Rattle.walrus_edits.proofs.name_records.push_names.Goals as goal
 

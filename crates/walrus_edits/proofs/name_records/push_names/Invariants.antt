@@ -1,7 +1,7 @@
 use Rattle.std.proofs.Common.{◌≡◌, ◌++◌, List, ℕ, map}
 use Rattle.std.specs.Prelude.{Option}
-use Rattle.walrus_base.specs.Arena.{entries}
-use Rattle.walrus_items.specs.Held.{held, held_entries_left}
+use Rattle.walrus.specs.Base.Arena.{entries}
+use Rattle.walrus.specs.Items.Held.{held, held_entries_left}
 use Rattle.walrus_edits.specs.ItemSteps.{IsNameOf, name_told}
 use Rattle.walrus_edits.specs.ItemValues.{names_in}
 use Rattle.walrus_edits.proofs.name_records.push_names.Given as goal

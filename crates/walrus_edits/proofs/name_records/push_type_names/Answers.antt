@@ -1,6 +1,6 @@
 use Rattle.std.proofs.Common.{ap, map, ◌++◌, ◌∙◌, arith}
-use Rattle.walrus_base.specs.Id.{place}
-use Rattle.walrus_base.specs.ModuleTypes.{type_names}
+use Rattle.walrus.specs.Base.Id.{place}
+use Rattle.walrus.specs.Base.ModuleTypes.{type_names}
 use Rattle.walrus_edits.specs.ItemSteps.{name_told}
 use Rattle.walrus_edits.specs.ItemValues.{type_names_in}
 use Rattle.walrus_edits.proofs.NameSteps.{types_end, types_turn}

@@ -1,6 +1,6 @@
 use Rattle.std.proofs.Common.{◌≡◌, ◌++◌, drop, map}
-use Rattle.walrus_base.specs.Id.{place}
-use Rattle.walrus_base.specs.ModuleTypes.{type_names}
+use Rattle.walrus.specs.Base.Id.{place}
+use Rattle.walrus.specs.Base.ModuleTypes.{type_names}
 use Rattle.walrus_edits.specs.ItemSteps.{name_told}
 use Rattle.walrus_edits.specs.ItemValues.{type_names_in}
 use Rattle.walrus_edits.proofs.name_records.push_type_names.Given as goal

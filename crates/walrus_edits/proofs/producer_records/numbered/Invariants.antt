@@ -1,5 +1,5 @@
 use Rattle.std.proofs.Common.{◌≡◌, ◌++◌, drop, length, map}
-use Rattle.wasm_frames.specs.Record.{custom_record}
+use Rattle.walrus.specs.Frames.Record.{custom_record}
 use Rattle.walrus_edits.specs.ItemSteps.{custom_told}
 use Rattle.walrus_edits.specs.ItemValues.{customs_from, with_ids}
 use Rattle.walrus_edits.proofs.producer_records.numbered.Given as goal

@@ -1,6 +1,6 @@
 use Rattle.std.proofs.Common.{◌≡◌, map, take}
 use Rattle.std.specs.Prelude.{zip}
-use Rattle.wasm_frames.specs.Record.{body_record}
+use Rattle.walrus.specs.Frames.Record.{body_record}
 use Rattle.walrus_edits.specs.ItemSteps.{defined_told}
 use Rattle.walrus_edits.specs.ItemValues.{functions_in}
 use Rattle.walrus_edits.proofs.section_records.defined_functions.Given as goal

@@ -1,5 +1,5 @@
 use Rattle.std.proofs.Common.{◌≡◌, ◌++◌, take}
-use Rattle.wasm_forms.specs.Spelling.{row_bytes}
+use Rattle.walrus.specs.Forms.Spelling.{row_bytes}
 use Rattle.wasm_forms.specs.Writing.{EachFits}
 use Rattle.wasm_entries.specs.Record.{expression}
 use Rattle.walrus_edits.specs.ItemRecords.{SizedFits, sized}

@@ -2,10 +2,10 @@ use Rattle.std.proofs.Common.{ap, map, subst, sym, ◌∙◌, List, ℕ, arith}
 use Rattle.std.specs.Prelude.{nat_eq}
 use Rattle.std.specs.List.{IsDistinct}
 use Rattle.std.proofs.lemmas.Result.{err_from_is_err_and}
-use Rattle.walrus_base.specs.Id.{place}
-use Rattle.walrus_base.specs.ModuleTypes.{type_slots}
+use Rattle.walrus.specs.Base.Id.{place}
+use Rattle.walrus.specs.Base.ModuleTypes.{type_slots}
 use Rattle.walrus_base.specs.Shape.{place_in}
-use Rattle.walrus_code.specs.Indices.{index_of}
+use Rattle.walrus.specs.Code.Indices.{index_of}
 use Rattle.walrus_model.proofs.Orders.{ordered_entries}
 use Rattle.walrus_edits.proofs.TypeSteps.{ungrouped}
 use Rattle.walrus_edits.proofs.type_records.type_groups.Goals as goal

@@ -1,7 +1,7 @@
 use Rattle.std.proofs.Common.{◌≡◌, ℕ, List, [], ◌∷◌, ◌++◌, ap, ap₂, sym, ◌∙◌}
 use Rattle.std.proofs.lemmas.List.{append_assoc}
-use Rattle.walrus_items.specs.Exports.{ExportValue, export_value, exports_left}
-use Rattle.walrus_items.specs.Kinds.{exported}
+use Rattle.walrus.specs.Items.Exports.{ExportValue, export_value, exports_left}
+use Rattle.walrus.specs.Items.Kinds.{exported}
 use Rattle.walrus_tools.specs.LinkSteps.{key_of, names_at, same_key}
 use Rattle.walrus_tools.proofs.LinkLemmas.{name_if, next_grouped}
 use Rattle.walrus_tools.proofs.export_groups.groups_of.Goals as goal

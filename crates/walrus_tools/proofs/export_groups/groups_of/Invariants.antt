@@ -1,6 +1,6 @@
 use Rattle.std.proofs.Common.{◌≡◌, ◌++◌, List}
-use Rattle.walrus_base.specs.Arena.{items}
-use Rattle.walrus_items.specs.Exports.{ExportValue, exports, exports_left}
+use Rattle.walrus.specs.Base.Arena.{items}
+use Rattle.walrus.specs.Items.Exports.{ExportValue, exports, exports_left}
 use Rattle.walrus_tools.specs.LinkSteps.{GroupsExports}
 use Rattle.walrus_tools.proofs.export_groups.groups_of.Given as goal
 

@@ -3,7 +3,7 @@ use Rattle.std.specs.Global.{Vec}
 use Rattle.std.specs.Option.{option_copied}
 use Rattle.std.specs.Prelude.{IfOk, String, string_bytes}
 use Rattle.std.specs.declared.alloc.Global.{Global}
-use Rattle.walrus_code.specs.Code.{item_of}
+use Rattle.walrus.specs.Code.Code.{item_of}
 use Rattle.walrus_tools.specs.LinkSteps.{key_of, names_at, texts, texts_of}
 use Rattle.walrus_tools.proofs.export_groups.names_of.Goals as goal
 

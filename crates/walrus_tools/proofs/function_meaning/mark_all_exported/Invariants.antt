@@ -1,6 +1,6 @@
 use Rattle.std.proofs.Common.{◌≡◌, length}
-use Rattle.walrus_items.specs.Exports.{exports}
-use Rattle.walrus_items.specs.Functions.{functions}
+use Rattle.walrus.specs.Items.Exports.{exports}
+use Rattle.walrus.specs.Items.Functions.{functions}
 use Rattle.walrus_tools.specs.MarkSteps.{IsExported, Meets}
 use Rattle.walrus_tools.proofs.MarkLemmas.{Below}
 use Rattle.walrus_tools.proofs.function_meaning.mark_all_exported.Given as goal

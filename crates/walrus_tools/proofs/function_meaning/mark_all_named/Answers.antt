@@ -1,5 +1,5 @@
 use Rattle.std.proofs.Common.{◌≡◌, ◌≤◌, ◌∙◌, ℕ, arith, length, subst}
-use Rattle.walrus_items.specs.Functions.{functions}
+use Rattle.walrus.specs.Items.Functions.{functions}
 use Rattle.walrus_tools.specs.MarkSteps.{IsNamed, Meets}
 use Rattle.walrus_tools.proofs.MarkLemmas.{meets_all, meets_more, meets_none}
 use Rattle.walrus_tools.proofs.MeantLemmas.{named_within}

@@ -1,5 +1,5 @@
 use Rattle.std.proofs.Common.{◌≡◌, length}
-use Rattle.walrus_items.specs.Functions.{functions}
+use Rattle.walrus.specs.Items.Functions.{functions}
 use Rattle.walrus_tools.specs.MarkSteps.{IsNamed, Meets}
 use Rattle.walrus_tools.proofs.MarkLemmas.{Below}
 use Rattle.walrus_tools.proofs.function_meaning.mark_all_named.Given as goal

@@ -1,6 +1,6 @@
 use Rattle.std.proofs.Common.{false, refl}
-use Rattle.walrus_items.specs.Exports.{exports}
-use Rattle.walrus_items.specs.Functions.{functions}
+use Rattle.walrus.specs.Items.Exports.{exports}
+use Rattle.walrus.specs.Items.Functions.{functions}
 use Rattle.walrus_tools.proofs.MeantLemmas.{fitting_met, fitting_none}
 use Rattle.walrus_tools.proofs.function_meaning.mark_fitting.Goals as goal
 

@@ -1,7 +1,7 @@
 use Rattle.std.proofs.Common.{sym, ◌∙◌}
 use Rattle.std.proofs.lemmas.Result.{err_from_is_err_and}
-use Rattle.walrus_items.specs.Exports.{exports}
-use Rattle.walrus_items.specs.Functions.{functions}
+use Rattle.walrus.specs.Items.Exports.{exports}
+use Rattle.walrus.specs.Items.Functions.{functions}
 use Rattle.walrus_tools.proofs.MeantLemmas.{index_marked, index_refused, name_marked, name_refused, star_marked}
 use Rattle.walrus_tools.proofs.function_meaning.mark_text.Goals as goal
 

@@ -1,7 +1,7 @@
 use Rattle.std.proofs.Common.{◌<◌, ◌≤◌, ◌∙◌, ℕ, List, length, subst, sym, arith}
 use Rattle.std.proofs.lemmas.Result.{err_from_is_err_and}
-use Rattle.walrus_items.specs.Exports.{exports}
-use Rattle.walrus_items.specs.Functions.{functions}
+use Rattle.walrus.specs.Items.Exports.{exports}
+use Rattle.walrus.specs.Items.Functions.{functions}
 use Rattle.walrus_tools.specs.MarkSteps.{Adds, RefusesText}
 use Rattle.walrus_tools.specs.FunctionMeaning.{Means, MeansBodies, texts}
 use Rattle.walrus_tools.proofs.MeantTexts.{as_many, text_at, texts_begin, texts_end, texts_more, texts_refused}

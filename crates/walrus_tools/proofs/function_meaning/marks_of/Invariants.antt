@@ -1,5 +1,5 @@
-use Rattle.walrus_items.specs.Exports.{exports}
-use Rattle.walrus_items.specs.Functions.{functions}
+use Rattle.walrus.specs.Items.Exports.{exports}
+use Rattle.walrus.specs.Items.Functions.{functions}
 use Rattle.walrus_tools.specs.FunctionMeaning.{texts}
 use Rattle.walrus_tools.proofs.MeantTexts.{TextsSoFar}
 use Rattle.walrus_tools.proofs.function_meaning.marks_of.Given as goal

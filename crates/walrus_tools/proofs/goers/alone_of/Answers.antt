@@ -1,6 +1,6 @@
 use Rattle.std.proofs.Common.{ap₂, map, ℕ, ◌∙◌}
-use Rattle.walrus_base.specs.Marks.{is_marked}
-use Rattle.walrus_items.specs.Transform.{range_of}
+use Rattle.walrus.specs.Base.Marks.{is_marked}
+use Rattle.walrus.specs.Items.Transform.{range_of}
 use Rattle.walrus_tools.specs.declared.goers.Alone.{Alone}
 use Rattle.walrus_tools.proofs.GoersTurn.{sizes_are}
 use Rattle.walrus_tools.proofs.goers.alone_of.Goals as goal

@@ -1,7 +1,7 @@
 use Rattle.std.proofs.Common.{◌≡◌, length}
-use Rattle.walrus_base.specs.Id.{place}
-use Rattle.walrus_base.specs.IdSet.{has_id}
-use Rattle.walrus_items.specs.Functions.{functions}
+use Rattle.walrus.specs.Base.Id.{place}
+use Rattle.walrus.specs.Base.IdSet.{has_id}
+use Rattle.walrus.specs.Items.Functions.{functions}
 use Rattle.walrus_tools.proofs.GoersTurn.{MarksSome}
 use Rattle.walrus_tools.proofs.goers.goers.Given as goal
 

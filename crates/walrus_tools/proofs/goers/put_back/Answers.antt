@@ -1,4 +1,4 @@
-use Rattle.walrus_base.specs.Id.{place}
+use Rattle.walrus.specs.Base.Id.{place}
 use Rattle.walrus_tools.proofs.TradeLemmas.{body_put}
 use Rattle.walrus_tools.proofs.goers.put_back.Goals as goal
 

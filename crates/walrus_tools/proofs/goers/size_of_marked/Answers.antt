@@ -1,6 +1,6 @@
 use Rattle.std.proofs.Common.{arith}
-use Rattle.walrus_base.specs.Marks.{is_marked}
-use Rattle.walrus_items.specs.Transform.{range_of}
+use Rattle.walrus.specs.Base.Marks.{is_marked}
+use Rattle.walrus.specs.Items.Transform.{range_of}
 use Rattle.walrus_tools.proofs.GoersTurn.{sum_fits}
 use Rattle.walrus_tools.proofs.goers.size_of_marked.Goals as goal
 

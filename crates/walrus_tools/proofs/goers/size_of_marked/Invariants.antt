@@ -1,7 +1,7 @@
 use Rattle.std.proofs.Common.{◌≡◌, map, take}
 use Rattle.std.specs.List.{sum_by}
-use Rattle.walrus_base.specs.Marks.{is_marked}
-use Rattle.walrus_items.specs.Transform.{range_of}
+use Rattle.walrus.specs.Base.Marks.{is_marked}
+use Rattle.walrus.specs.Items.Transform.{range_of}
 use Rattle.walrus_tools.specs.AloneSteps.{size_if}
 use Rattle.walrus_tools.proofs.goers.size_of_marked.Given as goal
 

@@ -1,4 +1,4 @@
-use Rattle.walrus_base.specs.Id.{place}
+use Rattle.walrus.specs.Base.Id.{place}
 use Rattle.walrus_tools.proofs.TradeLemmas.{trade_told}
 use Rattle.walrus_tools.proofs.goers.trap_one.Goals as goal
 

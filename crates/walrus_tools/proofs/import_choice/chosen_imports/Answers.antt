@@ -1,6 +1,6 @@
 use Rattle.std.proofs.Common.{false, refl}
-use Rattle.walrus_items.specs.Imports.{imports}
-use Rattle.walrus_tools.specs.Choice.{choices_seen}
+use Rattle.walrus.specs.Items.Imports.{imports}
+use Rattle.walrus_sections.specs.Choice.{choices_seen}
 use Rattle.walrus_tools.proofs.ChosenImports.{chosen_marked, chosen_none}
 use Rattle.walrus_tools.proofs.import_choice.chosen_imports.Goals as goal
 

@@ -1,7 +1,7 @@
 use Rattle.std.proofs.Common.{IsSome, List, ℕ, refl, subst, sym}
-use Rattle.walrus_items.specs.Imports.{imported_function}
-use Rattle.walrus_items.specs.declared.kinds.ImportKind.{ImportKind}
-use Rattle.walrus_tools.specs.Choice.{Goes, choices_seen}
+use Rattle.walrus.specs.Items.Imports.{imported_function}
+use Rattle.walrus.specs.Items.ImportKind.{ImportKind}
+use Rattle.walrus_sections.specs.Choice.{Goes, choices_seen}
 use Rattle.walrus_tools.specs.StubMatching.{NameGoes}
 use Rattle.walrus_tools.proofs.import_choice.is_wanted.Goals as goal
 

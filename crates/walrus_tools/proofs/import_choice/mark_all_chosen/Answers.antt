@@ -1,6 +1,6 @@
 use Rattle.std.proofs.Common.{◌≡◌, ◌≤◌, ◌∙◌, ℕ, arith, length, subst}
-use Rattle.walrus_items.specs.Imports.{imports}
-use Rattle.walrus_tools.specs.Choice.{choices_seen}
+use Rattle.walrus.specs.Items.Imports.{imports}
+use Rattle.walrus_sections.specs.Choice.{choices_seen}
 use Rattle.walrus_tools.specs.MarkSteps.{Meets}
 use Rattle.walrus_tools.specs.StubMatching.{ChosenAt}
 use Rattle.walrus_tools.proofs.ChosenImports.{chosen_within}

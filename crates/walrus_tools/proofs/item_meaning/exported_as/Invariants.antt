@@ -1,6 +1,6 @@
 use Rattle.std.proofs.Common.{◌≡◌}
 use Rattle.std.specs.Prelude.{find}
-use Rattle.walrus_items.specs.Exports.{export_entries_left, exports, is_named}
+use Rattle.walrus.specs.Items.Exports.{export_entries_left, exports, is_named}
 use Rattle.walrus_tools.specs.ExportNames.{named}
 use Rattle.walrus_tools.proofs.item_meaning.exported_as.Given as goal
 

@@ -1,5 +1,5 @@
 use Rattle.std.proofs.Common.{ap}
-use Rattle.walrus_base.specs.Operators.{function_item}
+use Rattle.walrus.specs.Base.Operators.{function_item}
 use Rattle.walrus_tools.specs.ItemMeaning.{by_index}
 use Rattle.walrus_tools.proofs.item_meaning.item_meant.Goals as goal
 

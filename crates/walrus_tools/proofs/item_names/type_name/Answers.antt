@@ -1,7 +1,7 @@
 use Rattle.std.proofs.Common.{ap, sym}
-use Rattle.walrus_base.specs.Id.{place}
-use Rattle.walrus_contents.specs.View.{name_at}
-use Rattle.walrus_writing.proofs.NamesLemmas.{not_named, untrue}
+use Rattle.walrus.specs.Base.Id.{place}
+use Rattle.walrus.specs.Contents.View.{name_at}
+use Rattle.walrus.proofs.Modules.NamesLemmas.{not_named, untrue}
 use Rattle.walrus_tools.proofs.item_names.type_name.Goals as goal
 
 pub returns-then-not-contains : goal.returns-then-not-contains

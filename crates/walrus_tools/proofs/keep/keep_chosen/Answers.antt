@@ -1,7 +1,7 @@
 use Rattle.std.proofs.Common.{◌≡◌, false, refl, rules}
 use Rattle.std.specs.Prelude.{is_some}
-use Rattle.walrus_items.specs.Exports.{exports}
-use Rattle.walrus_tools.specs.Choice.{choices_seen}
+use Rattle.walrus.specs.Items.Exports.{exports}
+use Rattle.walrus_sections.specs.Choice.{choices_seen}
 use Rattle.walrus_tools.specs.KeptExports.{export_names}
 use Rattle.walrus_tools.proofs.ChosenEnds.{each_fit, keeps_chosen}
 use Rattle.walrus_tools.proofs.keep.keep_chosen.Goals as goal

@@ -1,6 +1,6 @@
 use Rattle.std.proofs.Common.{◌≡◌, ◌++◌, flat_map, map, take}
 use Rattle.std.specs.Prelude.{string_bytes}
-use Rattle.walrus_items.specs.Transform.{range_of}
+use Rattle.walrus.specs.Items.Transform.{range_of}
 use Rattle.walrus_tools.specs.Reasons.{size_line}
 use Rattle.walrus_tools.proofs.lines.add_sizes.Given as goal
 

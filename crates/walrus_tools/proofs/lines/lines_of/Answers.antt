@@ -1,6 +1,6 @@
 use Rattle.std.proofs.Common.{ℕ, List, ◌++◌, ◌∙◌, ap, flat_map, map, take_all}
-use Rattle.walrus_code.specs.Code.{item_of}
-use Rattle.walrus_code.specs.declared.items.ItemId.{ItemId}
+use Rattle.walrus.specs.Code.Code.{item_of}
+use Rattle.walrus.specs.Code.ItemId.{ItemId}
 use Rattle.walrus_tools.specs.Reasons.{item_line}
 use Rattle.walrus_tools.proofs.LineLemmas.{line_more}
 use Rattle.walrus_tools.proofs.lines.lines_of.Goals as goal

@@ -1,6 +1,6 @@
 use Rattle.std.proofs.Common.{◌≡◌, flat_map, map, take}
 use Rattle.std.specs.Prelude.{string_bytes}
-use Rattle.walrus_code.specs.Code.{item_of}
+use Rattle.walrus.specs.Code.Code.{item_of}
 use Rattle.walrus_tools.specs.Reasons.{item_line}
 use Rattle.walrus_tools.proofs.lines.lines_of.Given as goal
 

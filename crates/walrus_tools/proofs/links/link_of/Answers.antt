@@ -1,7 +1,7 @@
 use Rattle.std.proofs.Common.{◌∙◌}
-use Rattle.walrus_base.specs.Arena.{items}
-use Rattle.walrus_code.specs.Code.{item_of}
-use Rattle.walrus_items.specs.Exports.{exports}
+use Rattle.walrus.specs.Base.Arena.{items}
+use Rattle.walrus.specs.Code.Code.{item_of}
+use Rattle.walrus.specs.Items.Exports.{exports}
 use Rattle.walrus_tools.proofs.LinkLemmas.{exported_so, link_same}
 use Rattle.walrus_tools.proofs.links.link_of.Goals as goal
 

@@ -1,7 +1,7 @@
 use Rattle.std.proofs.Common.{◌≡◌, map, take}
-use Rattle.walrus_code.specs.Code.{item_of}
-use Rattle.walrus_contents.specs.View.{parts_view}
-use Rattle.walrus_items.specs.Transform.{range_of}
+use Rattle.walrus.specs.Code.Code.{item_of}
+use Rattle.walrus.specs.Contents.View.{parts_view}
+use Rattle.walrus.specs.Items.Transform.{range_of}
 use Rattle.walrus_tools.specs.Links.{link_of, link_seen}
 use Rattle.walrus_tools.proofs.links.links_of.Given as goal
 

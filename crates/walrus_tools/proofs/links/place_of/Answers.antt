@@ -1,6 +1,6 @@
 use Rattle.std.proofs.Common.{ℕ, Result, rules, subst}
 use Rattle.std.proofs.lemmas.List.Sorted.{answers_always}
-use Rattle.walrus_base.specs.Id.{place}
+use Rattle.walrus.specs.Base.Id.{place}
 use Rattle.walrus_tools.specs.LinkSteps.{FindsBody}
 use Rattle.walrus_tools.proofs.BodySearch.{result_place, searched}
 use Rattle.walrus_tools.proofs.links.place_of.Goals as goal

@@ -1,8 +1,8 @@
 use Rattle.std.proofs.Common.{◌≡◌, ◌∙◌, ℕ, Some, None, slice_set, ap, subst, sym, rules}
-use Rattle.walrus_base.specs.Arena.{item_at}
-use Rattle.walrus_items.specs.Exports.{export_value, exports}
-use Rattle.walrus_tools.specs.NameLists.{IsPicked}
-use Rattle.walrus_tools.proofs.LookUps.{untrue}
+use Rattle.walrus.specs.Base.Arena.{item_at}
+use Rattle.walrus.specs.Items.Exports.{export_value, exports}
+use Rattle.walrus_sections.specs.NameLists.{IsPicked}
+use Rattle.std.proofs.lemmas.Bool.{false≢true as untrue}
 use Rattle.walrus_tools.proofs.NamedExports.{goes_there, stays_there}
 use Rattle.walrus_tools.proofs.named_exports.drop_at.Goals as goal
 

@@ -1,6 +1,6 @@
 use Rattle.std.proofs.Common.{◌≤◌, length, arith}
-use Rattle.walrus_items.specs.Exports.{exports}
-use Rattle.walrus_tools.specs.NameLists.{IsPicked}
+use Rattle.walrus.specs.Items.Exports.{exports}
+use Rattle.walrus_sections.specs.NameLists.{IsPicked}
 use Rattle.walrus_tools.proofs.NamedExports.{ends}
 use Rattle.walrus_tools.proofs.named_exports.drop_others.Goals as goal
 

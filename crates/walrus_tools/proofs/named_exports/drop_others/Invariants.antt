@@ -1,7 +1,7 @@
 use Rattle.std.proofs.Common.{◌≡◌, length}
-use Rattle.walrus_items.specs.Exports.{exports}
+use Rattle.walrus.specs.Items.Exports.{exports}
 use Rattle.walrus_tools.specs.KeptExports.{KeepsUntil}
-use Rattle.walrus_tools.specs.NameLists.{IsPicked}
+use Rattle.walrus_sections.specs.NameLists.{IsPicked}
 use Rattle.walrus_tools.proofs.named_exports.drop_others.Given as goal
 
 -- at the places so far those stay that are chosen

@@ -1,7 +1,7 @@
 use Rattle.std.proofs.Common.{◌≡◌, ◌++◌, map}
-use Rattle.walrus_items.specs.Exports.{exports, exports_left}
+use Rattle.walrus.specs.Items.Exports.{exports, exports_left}
 use Rattle.walrus_tools.specs.KeptExports.{export_names}
-use Rattle.walrus_tools.specs.NameLists.{texts}
+use Rattle.walrus_sections.specs.NameLists.{texts}
 use Rattle.walrus_tools.proofs.named_exports.export_names.Given as goal
 
 -- the names so far, and those that are still to come

@@ -1,8 +1,8 @@
 use Rattle.std.proofs.Common.{arith, subst, ℕ, ◌≡◌, ◌<◌}
-use Rattle.walrus_base.specs.Operators.{Item}
-use Rattle.walrus_code.specs.Code.{item_of}
-use Rattle.walrus_contents.specs.Named.{items_in}
-use Rattle.walrus_contents.specs.View.{parts_view}
+use Rattle.walrus.specs.Base.Operators.{Item}
+use Rattle.walrus.specs.Code.Code.{item_of}
+use Rattle.walrus.specs.Contents.Named.{items_in}
+use Rattle.walrus.specs.Contents.View.{parts_view}
 use Rattle.walrus_tools.specs.Callers.{AddsIfCaller, space_of}
 use Rattle.walrus_tools.proofs.CallersTurn.{callers_next, callers_through}
 use Rattle.walrus_tools.proofs.referrers.add_kind.Goals as goal

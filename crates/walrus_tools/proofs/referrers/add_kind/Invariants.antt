@@ -1,6 +1,6 @@
-use Rattle.walrus_code.specs.Code.{item_of}
-use Rattle.walrus_contents.specs.Named.{items_in}
-use Rattle.walrus_contents.specs.View.{parts_view}
+use Rattle.walrus.specs.Code.Code.{item_of}
+use Rattle.walrus.specs.Contents.Named.{items_in}
+use Rattle.walrus.specs.Contents.View.{parts_view}
 use Rattle.walrus_tools.specs.Callers.{CallersBefore, IsPastSpace, space_of}
 use Rattle.walrus_tools.proofs.referrers.add_kind.Given as goal
 

@@ -1,7 +1,7 @@
 use Rattle.std.proofs.Common.{refl}
-use Rattle.walrus_base.specs.Operators.{Types, Functions, Tables, Memories, Tags, Globals, Elements, DataSegments}
-use Rattle.walrus_code.specs.Code.{item_of}
-use Rattle.walrus_contents.specs.View.{parts_view}
+use Rattle.walrus.specs.Base.Operators.{Types, Functions, Tables, Memories, Tags, Globals, Elements, DataSegments}
+use Rattle.walrus.specs.Code.Code.{item_of}
+use Rattle.walrus.specs.Contents.View.{parts_view}
 use Rattle.walrus_tools.proofs.CallersTurn.{callers_all, callers_turn}
 use Rattle.walrus_tools.proofs.referrers.callers_in.Goals as goal
 

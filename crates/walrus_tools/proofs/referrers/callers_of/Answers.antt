@@ -1,9 +1,9 @@
 use Rattle.std.proofs.Common.{subst}
 use Rattle.std.specs.Prelude.{MatchResult}
-use Rattle.walrus_code.specs.Code.{item_of}
-use Rattle.walrus_contents.specs.Named.{items_in}
-use Rattle.walrus_contents.specs.There.{IsRefusal}
-use Rattle.walrus_model.specs.Abstract.{Abstract}
+use Rattle.walrus.specs.Code.Code.{item_of}
+use Rattle.walrus.specs.Contents.Named.{items_in}
+use Rattle.walrus.specs.Contents.There.{IsRefusal}
+use Rattle.walrus.specs.Model.Abstract.{Abstract}
 use Rattle.walrus_tools.specs.Callers.{AreCallers, HasUnsound}
 use Rattle.walrus_tools.proofs.referrers.callers_of.Goals as goal
 

@@ -1,5 +1,5 @@
-use Rattle.walrus_base.specs.Id.{place}
-use Rattle.walrus_contents.specs.View.{parts_view}
+use Rattle.walrus.specs.Base.Id.{place}
+use Rattle.walrus.specs.Contents.View.{parts_view}
 use Rattle.walrus_tools.proofs.CallersTurn.{no_type_member}
 use Rattle.walrus_tools.proofs.referrers.groups_with.Goals as goal
 

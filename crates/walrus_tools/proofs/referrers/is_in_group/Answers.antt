@@ -1,9 +1,9 @@
 use Rattle.std.proofs.Common.{◌==◌, ap₂, sym, ℕ, ◌∙◌}
-use Rattle.walrus_base.specs.Id.{place}
-use Rattle.walrus_base.specs.ModuleTypes.{type_slots}
-use Rattle.walrus_base.specs.Operators.{Types}
-use Rattle.walrus_contents.specs.View.{lent}
-use Rattle.walrus_contents.proofs.Groups.{groups_whole}
+use Rattle.walrus.specs.Base.Id.{place}
+use Rattle.walrus.specs.Base.ModuleTypes.{type_slots}
+use Rattle.walrus.specs.Base.Operators.{Types}
+use Rattle.walrus.specs.Contents.View.{lent}
+use Rattle.walrus.proofs.Contents.Groups.{groups_whole}
 use Rattle.walrus_tools.proofs.CallersTurn.{members_told, untrue}
 use Rattle.walrus_tools.proofs.referrers.is_in_group.Goals as goal
 

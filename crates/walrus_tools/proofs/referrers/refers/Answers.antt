@@ -1,9 +1,9 @@
 use Rattle.std.proofs.Common.{◌≡◌, List, ◌++◌, inl, map, refl, sym, ap, ◌∙◌}
 use Rattle.std.proofs.lemmas.Result.{err_from_is_err_and}
-use Rattle.walrus_code.specs.Code.{item_of}
-use Rattle.walrus_code.specs.declared.items.ItemId.{ItemId}
-use Rattle.walrus_contents.specs.View.{parts_view}
-use Rattle.walrus_contents.proofs.Groups.{group_is_written}
+use Rattle.walrus.specs.Code.Code.{item_of}
+use Rattle.walrus.specs.Code.ItemId.{ItemId}
+use Rattle.walrus.specs.Contents.View.{parts_view}
+use Rattle.walrus.proofs.Contents.Groups.{group_is_written}
 use Rattle.walrus_tools.proofs.CallersTurn.{refers_told, unsound_refused, untrue}
 use Rattle.walrus_tools.proofs.referrers.refers.Goals as goal
 

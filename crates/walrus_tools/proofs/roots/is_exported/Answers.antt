@@ -1,5 +1,5 @@
-use Rattle.walrus_code.specs.Code.{item_of}
-use Rattle.walrus_items.specs.Exports.{exports}
+use Rattle.walrus.specs.Code.Code.{item_of}
+use Rattle.walrus.specs.Items.Exports.{exports}
 use Rattle.walrus_tools.proofs.RootLemmas.{not_named}
 use Rattle.walrus_tools.proofs.roots.is_exported.Goals as goal
 

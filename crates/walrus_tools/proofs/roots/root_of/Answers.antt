@@ -1,9 +1,9 @@
 use Rattle.std.proofs.Common.{◌≡◌, true, false, Option, ap, rules, subst, sym, ◌∙◌}
-use Rattle.walrus_base.specs.Id.{place}
-use Rattle.walrus_base.specs.Operators.{DataSegments, Elements, Item, function_item}
-use Rattle.walrus_code.specs.Code.{item_of}
-use Rattle.walrus_code.specs.declared.items.ItemId.{ItemId}
-use Rattle.walrus_contents.specs.View.{lent, parts_view}
+use Rattle.walrus.specs.Base.Id.{place}
+use Rattle.walrus.specs.Base.Operators.{DataSegments, Elements, Item, function_item}
+use Rattle.walrus.specs.Code.Code.{item_of}
+use Rattle.walrus.specs.Code.ItemId.{ItemId}
+use Rattle.walrus.specs.Contents.View.{lent, parts_view}
 use Rattle.walrus_tools.specs.Links.{IsExported}
 use Rattle.walrus_tools.specs.RootSteps.{FindsRoot}
 use Rattle.walrus_tools.specs.declared.roots.Root.{Root}

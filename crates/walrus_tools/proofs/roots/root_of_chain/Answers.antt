@@ -1,9 +1,9 @@
-use Rattle.std.proofs.Common.{List, Option, ap, map, subst, sym, ◌∙◌}
+use Rattle.std.proofs.Common.{List, Option, ap, subst, sym, ◌∙◌}
 use Rattle.std.specs.Global.{Vec}
 use Rattle.std.specs.Prelude.{option_map, slice_get}
-use Rattle.walrus_code.specs.declared.items.ItemId.{ItemId}
-use Rattle.walrus_contents.specs.Named.{items_in}
-use Rattle.walrus_contents.specs.View.{parts_view}
+use Rattle.walrus.specs.Code.ItemId.{ItemId}
+use Rattle.walrus.specs.Contents.Named.{items_in}
+use Rattle.walrus.specs.Contents.View.{parts_view}
 use Rattle.walrus_tools.specs.RootSteps.{FindsChainRoot}
 use Rattle.walrus_tools.proofs.RootLemmas.{chain_found}
 use Rattle.walrus_tools.proofs.roots.root_of_chain.Goals as goal

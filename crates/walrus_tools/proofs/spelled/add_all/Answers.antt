@@ -1,7 +1,7 @@
 use Rattle.std.proofs.Common.{◌∙◌, ◌++◌, ap, flat_map, map, subst, sym, take_all}
 use Rattle.std.proofs.lemmas.List.{append-nil}
 use Rattle.std.proofs.lemmas.Result.{err_from_is_err_and}
-use Rattle.walrus_base.proofs.Lists.{Contains-none}
+use Rattle.walrus.proofs.Base.Lists.{Contains-none}
 use Rattle.walrus_tools.specs.Spelled.{NoneLong}
 use Rattle.walrus_tools.proofs.ReasonSpelled.{bytes_behind}
 use Rattle.walrus_tools.proofs.Spellings.{none_more, one_long}

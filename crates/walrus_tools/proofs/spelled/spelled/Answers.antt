@@ -1,6 +1,6 @@
 use Rattle.std.proofs.Common.{◌∙◌, ap, flat_map, map, subst, take_all}
 use Rattle.std.proofs.lemmas.Result.{err_from_is_err_and}
-use Rattle.walrus_base.proofs.Lists.{Contains-none}
+use Rattle.walrus.proofs.Base.Lists.{Contains-none}
 use Rattle.walrus_tools.specs.Spelled.{NoneLong}
 use Rattle.walrus_tools.proofs.Spellings.{bytes_more, none_more, one_long}
 use Rattle.walrus_tools.proofs.spelled.spelled.Goals as goal

@@ -1,6 +1,6 @@
 use Rattle.std.proofs.Common.{sym, ◌∙◌}
-use Rattle.walrus_base.specs.Id.{place}
-use Rattle.walrus_base.specs.Marks.{is_marked}
+use Rattle.walrus.specs.Base.Id.{place}
+use Rattle.walrus.specs.Base.Marks.{is_marked}
 use Rattle.walrus_tools.proofs.TrapTurn.{trap_put}
 use Rattle.walrus_tools.proofs.trap_bodies.trap_at.Goals as goal
 

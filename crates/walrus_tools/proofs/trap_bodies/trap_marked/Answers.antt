@@ -1,6 +1,6 @@
 use Rattle.std.proofs.Common.{◌≡◌, ◌≤◌, ◌∙◌, arith, length, subst, ℕ}
-use Rattle.walrus_base.specs.Marks.{is_marked}
-use Rattle.walrus_items.specs.Functions.{functions}
+use Rattle.walrus.specs.Base.Marks.{is_marked}
+use Rattle.walrus.specs.Items.Functions.{functions}
 use Rattle.walrus_tools.proofs.TrapTurn.{traps_begin, traps_end, traps_next}
 use Rattle.walrus_tools.specs.TrapEdit.{PlaceTraps}
 use Rattle.walrus_tools.proofs.trap_bodies.trap_marked.Goals as goal

@@ -1,8 +1,8 @@
 use Rattle.std.proofs.Common.{ap, refl, ◌∙◌}
 use Rattle.std.proofs.lemmas.Result.{err_from_is_err_and}
 use Rattle.std.specs.Prelude.{Err, Ok}
-use Rattle.walrus_module.specs.Flags.{Flags}
-use Rattle.walrus_module.specs.Settings.{settings}
+use Rattle.walrus.specs.Modules.Flags.{Flags}
+use Rattle.walrus.specs.Modules.Settings.{settings}
 use Rattle.walrus.proofs.FinishLemmas.{finished, none_dead, search_refused, sections_stay}
 use Rattle.walrus_tools.proofs.WeighEnds.{no_input, not_finished, told}
 use Rattle.walrus_tools.proofs.weigh.finished_weighed.Goals as goal

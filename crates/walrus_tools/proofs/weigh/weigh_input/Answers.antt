@@ -1,6 +1,6 @@
 use Rattle.std.proofs.Common.{ap, ◌∙◌, arith}
 use Rattle.std.proofs.lemmas.Result.{err_from_is_err_and}
-use Rattle.walrus_items.specs.Functions.{functions}
+use Rattle.walrus.specs.Items.Functions.{functions}
 use Rattle.walrus_tools.specs.Weigh.{is_debug, is_dropped}
 use Rattle.walrus_tools.specs.WeighSteps.{is_left, sizes}
 use Rattle.walrus_tools.proofs.PartSizes.{bodies_fit, debug_fits, sizes_are}

@@ -1,5 +1,5 @@
 use Rattle.std.proofs.Common.{arith}
-use Rattle.walrus_items.specs.Functions.{functions}
+use Rattle.walrus.specs.Items.Functions.{functions}
 use Rattle.walrus_tools.specs.Weigh.{is_debug, is_dropped}
 use Rattle.walrus_tools.specs.WeighSteps.{is_left}
 use Rattle.walrus_tools.proofs.PartSizes.{sizes_all, sizes_more, sizes_within}

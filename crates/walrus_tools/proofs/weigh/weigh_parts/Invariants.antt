@@ -1,6 +1,6 @@
 -- so many bytes have the parts before
 use Rattle.std.proofs.Common.{◌≡◌, take}
-use Rattle.walrus_items.specs.Functions.{functions}
+use Rattle.walrus.specs.Items.Functions.{functions}
 use Rattle.walrus_tools.specs.Weigh.{is_debug, is_dropped}
 use Rattle.walrus_tools.specs.WeighSteps.{is_left, sizes}
 use Rattle.walrus_tools.proofs.weigh.weigh_parts.Given as goal

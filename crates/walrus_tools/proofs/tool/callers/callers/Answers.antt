@@ -1,14 +1,14 @@
 use Rattle.std.proofs.Common.{◌≡◌, ℕ, List, ap, ap₂, refl, ◌∙◌, subst, sym}
 use Rattle.std.proofs.lemmas.Result.{err_from_is_err_and}
 use Rattle.std.specs.Prelude.{Err, Ok, map}
-use Rattle.walrus_code.specs.Code.{item_of}
-use Rattle.walrus_model.specs.Abstract.{Abstract}
-use Rattle.walrus_contents.specs.Named.{items_in}
-use Rattle.walrus_items.specs.Transform.{range_of, transform_of}
-use Rattle.walrus_module.specs.Flags.{Flags, config_of, flags}
-use Rattle.walrus_tools.specs.Choice.{choices_seen}
+use Rattle.walrus.specs.Code.Code.{item_of}
+use Rattle.walrus.specs.Model.Abstract.{Abstract}
+use Rattle.walrus.specs.Contents.Named.{items_in}
+use Rattle.walrus.specs.Items.Transform.{range_of, transform_of}
+use Rattle.walrus.specs.Modules.Flags.{Flags, config_of, flags}
+use Rattle.walrus_sections.specs.Choice.{choices_seen}
 use Rattle.walrus_tools.specs.ReasonAnswers.{AnswersCallers}
-use Rattle.walrus_module.specs.View.{held_view}
+use Rattle.walrus.specs.Modules.View.{held_view}
 use Rattle.walrus_tools.specs.LinkSteps.{AreRising}
 use Rattle.walrus_tools.specs.Links.{link_of}
 use Rattle.walrus_tools.proofs.WhyEnds.{bytes_lack, callers_lack, callers_left, callers_refused, callers_told, choice_lacks, rising, same_module, search_stops, text_lacks, way_lacks, way_measured}

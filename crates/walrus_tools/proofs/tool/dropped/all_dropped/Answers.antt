@@ -1,10 +1,10 @@
 use Rattle.std.proofs.Common.{◌∙◌, List, ap, flat_map, map, take_all}
-use Rattle.walrus_base.specs.IdSet.{has_id}
-use Rattle.walrus_items.specs.Functions.{functions}
+use Rattle.walrus.specs.Base.IdSet.{has_id}
+use Rattle.walrus.specs.Items.Functions.{functions}
 use Rattle.walrus_tools.specs.DroppedList.{dropped_of}
 use Rattle.walrus_tools.specs.FunctionList.{listed_seen, names_in}
-use Rattle.walrus_tools.specs.Parts.{part_record}
-use Rattle.walrus_tools.specs.declared.parts.Part.{Part as RawPart}
+use Rattle.walrus_sections.specs.Parts.{part_record}
+use Rattle.walrus_sections.specs.declared.parts.Part.{Part as RawPart}
 use Rattle.walrus_tools.proofs.LineLemmas.{lines_more}
 use Rattle.walrus_tools.proofs.tool.dropped.all_dropped.Goals as goal
 

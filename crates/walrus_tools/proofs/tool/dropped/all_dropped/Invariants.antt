@@ -1,9 +1,9 @@
 use Rattle.std.proofs.Common.{◌≡◌, flat_map, map, take}
-use Rattle.walrus_base.specs.IdSet.{has_id}
-use Rattle.walrus_items.specs.Functions.{functions}
+use Rattle.walrus.specs.Base.IdSet.{has_id}
+use Rattle.walrus.specs.Items.Functions.{functions}
 use Rattle.walrus_tools.specs.DroppedList.{dropped_of}
 use Rattle.walrus_tools.specs.FunctionList.{listed_seen, names_in}
-use Rattle.walrus_tools.specs.Parts.{part_record}
+use Rattle.walrus_sections.specs.Parts.{part_record}
 use Rattle.walrus_tools.proofs.tool.dropped.all_dropped.Given as goal
 
 -- what is listed of the parts before

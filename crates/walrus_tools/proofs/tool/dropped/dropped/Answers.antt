@@ -2,15 +2,15 @@ use Rattle.std.proofs.Common.{ap, refl, List, ℕ, map, subst, sym}
 use Rattle.std.proofs.lemmas.Result.{err_from_is_err_and}
 use Rattle.std.specs.Global.{Vec}
 use Rattle.std.specs.Prelude.{Err, Ok}
-use Rattle.walrus_model.specs.Config.{Config}
-use Rattle.walrus_module.specs.Flags.{Flags, config_of, flags}
-use Rattle.walrus_tools.specs.Choice.{Choice, choices_seen}
+use Rattle.walrus.specs.Model.Config.{Config}
+use Rattle.walrus.specs.Modules.Flags.{Flags, config_of, flags}
+use Rattle.walrus_sections.specs.Choice.{Choice, choices_seen}
 use Rattle.walrus_tools.specs.ChosenModule.{RefusesChosen}
 use Rattle.walrus_tools.specs.DroppedList.{AnswersDropped, IsDropped}
 use Rattle.walrus.specs.Edits.{RefusesEdit}
 use Rattle.walrus_tools.specs.FunctionList.{listed_seen}
-use Rattle.walrus_tools.specs.Parts.{HasParts, part_record}
-use Rattle.walrus_tools.specs.declared.parts.Part.{Part as RawPart}
+use Rattle.walrus_sections.specs.Parts.{HasParts, part_record}
+use Rattle.walrus_sections.specs.declared.parts.Part.{Part as RawPart}
 use Rattle.walrus_tools.specs.declared.tool.list.Listed.{Listed}
 use Rattle.walrus_tools.proofs.ChosenListed.{chosen_ready, dropped_told, unchosen, unparted, unread, unsearched}
 use Rattle.walrus_tools.proofs.tool.dropped.dropped.Goals as goal

@@ -1,6 +1,6 @@
 use Rattle.std.proofs.Common.{◌≡◌, ◌++◌, map}
-use Rattle.walrus_base.specs.Arena.{items}
-use Rattle.walrus_items.specs.Exports.{exports, exports_left}
+use Rattle.walrus.specs.Base.Arena.{items}
+use Rattle.walrus.specs.Items.Exports.{exports, exports_left}
 use Rattle.walrus_tools.specs.ExportList.{export_told, exported_seen}
 use Rattle.walrus_tools.proofs.tool.exports.all_exported.Given as goal
 

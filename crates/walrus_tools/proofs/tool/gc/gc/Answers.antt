@@ -1,6 +1,6 @@
 use Rattle.std.proofs.Common.{ℕ, subst}
 use Rattle.std.specs.Global.{Vec}
-use Rattle.walrus_module.specs.Flags.{Flags, config_of}
+use Rattle.walrus.specs.Modules.Flags.{Flags, config_of}
 use Rattle.walrus.specs.Headline.{RunsOn}
 use Rattle.walrus_tools.proofs.tool.gc.gc.Goals as goal
 

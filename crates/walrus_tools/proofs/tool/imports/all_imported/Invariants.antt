@@ -1,6 +1,6 @@
 use Rattle.std.proofs.Common.{◌≡◌, ◌++◌, map}
-use Rattle.walrus_base.specs.Arena.{items}
-use Rattle.walrus_items.specs.Imports.{imports, imports_left}
+use Rattle.walrus.specs.Base.Arena.{items}
+use Rattle.walrus.specs.Items.Imports.{imports, imports_left}
 use Rattle.walrus_tools.specs.ImportList.{import_told, imported_seen}
 use Rattle.walrus_tools.proofs.tool.imports.all_imported.Given as goal
 

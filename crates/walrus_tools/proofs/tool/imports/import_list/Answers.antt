@@ -1,5 +1,5 @@
 use Rattle.std.proofs.lemmas.Result.{err_from_is_err_and}
-use Rattle.walrus_tools.specs.Choice.{choices_seen}
+use Rattle.walrus_sections.specs.Choice.{choices_seen}
 use Rattle.walrus.specs.Wanted.{config_wanted}
 use Rattle.walrus_tools.proofs.SpelledEnds.{imports_refused, imports_spelled}
 use Rattle.walrus_tools.proofs.tool.imports.import_list.Goals as goal

@@ -2,9 +2,9 @@ use Rattle.std.proofs.Common.{ap, refl, List, ℕ, map, subst}
 use Rattle.std.proofs.lemmas.Result.{err_from_is_err_and}
 use Rattle.std.specs.Global.{Vec}
 use Rattle.std.specs.Prelude.{Err, Ok}
-use Rattle.walrus_model.specs.Config.{Config}
-use Rattle.walrus_module.specs.Flags.{Flags, config_of, flags}
-use Rattle.walrus_tools.specs.Choice.{Choice, choices_seen}
+use Rattle.walrus.specs.Model.Config.{Config}
+use Rattle.walrus.specs.Modules.Flags.{Flags, config_of, flags}
+use Rattle.walrus_sections.specs.Choice.{Choice, choices_seen}
 use Rattle.walrus_tools.specs.ChosenModule.{RefusesChosen}
 use Rattle.walrus_tools.specs.ImportList.{AnswersImports, AreImports, imported_seen}
 use Rattle.walrus.specs.Edits.{RefusesEdit}

@@ -1,9 +1,9 @@
 use Rattle.std.proofs.Common.{List, ◌∙◌, ℕ, ap, map, take_all}
 use Rattle.std.specs.declared.ops.Range.{Range}
-use Rattle.walrus_base.specs.declared.id.Id.{Id}
-use Rattle.walrus_base.specs.declared.keys.FunctionKey.{FunctionKey}
-use Rattle.walrus_items.specs.Functions.{functions}
-use Rattle.walrus_items.specs.Transform.{range_of}
+use Rattle.walrus.specs.Base.IdValue.{Id}
+use Rattle.walrus.specs.Base.FunctionKey.{FunctionKey}
+use Rattle.walrus.specs.Items.Functions.{functions}
+use Rattle.walrus.specs.Items.Transform.{range_of}
 use Rattle.walrus_tools.specs.FunctionList.{listed_of, listed_seen, names_in}
 use Rattle.walrus_tools.proofs.SizeLemmas.{listed_more}
 use Rattle.walrus_tools.proofs.tool.list.all_listed.Goals as goal

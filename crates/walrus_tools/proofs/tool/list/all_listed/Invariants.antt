@@ -1,6 +1,6 @@
 use Rattle.std.proofs.Common.{◌≡◌, map, take}
-use Rattle.walrus_items.specs.Functions.{functions}
-use Rattle.walrus_items.specs.Transform.{range_of}
+use Rattle.walrus.specs.Items.Functions.{functions}
+use Rattle.walrus.specs.Items.Transform.{range_of}
 use Rattle.walrus_tools.specs.FunctionList.{listed_of, listed_seen, names_in}
 use Rattle.walrus_tools.proofs.tool.list.all_listed.Given as goal
 

@@ -1,13 +1,13 @@
 use Rattle.std.proofs.Common.{ap, refl, ◌∙◌, subst, inr}
 use Rattle.std.proofs.lemmas.Result.{err_from_is_err_and}
 use Rattle.std.specs.Prelude.{Err, Ok, map}
-use Rattle.walrus_items.specs.Functions.{functions}
-use Rattle.walrus_items.specs.Transform.{range_of}
-use Rattle.walrus_module.specs.Customs.{sections}
-use Rattle.walrus_module.specs.Flags.{Flags, config_of, flags}
-use Rattle.walrus_module.specs.Settings.{settings}
-use Rattle.walrus_module.proofs.RawStays.{all_raw}
-use Rattle.walrus_tools.specs.Choice.{choices_seen}
+use Rattle.walrus.specs.Items.Functions.{functions}
+use Rattle.walrus.specs.Items.Transform.{range_of}
+use Rattle.walrus.specs.Modules.Customs.{sections}
+use Rattle.walrus.specs.Modules.Flags.{Flags, config_of, flags}
+use Rattle.walrus.specs.Modules.Settings.{settings}
+use Rattle.walrus.proofs.Modules.RawStays.{all_raw}
+use Rattle.walrus_sections.specs.Choice.{choices_seen}
 use Rattle.walrus_tools.specs.ChosenModule.{KeepsChosen, RefusesChosen}
 use Rattle.walrus_tools.specs.FunctionList.{AnswersListed, names_in}
 use Rattle.walrus_tools.proofs.ChosenEnds.{bytes_refused, chosen_held, chosen_whole}

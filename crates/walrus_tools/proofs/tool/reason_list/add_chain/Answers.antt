@@ -2,7 +2,7 @@ use Rattle.std.proofs.Common.{Option, subst, sym}
 use Rattle.std.specs.Global.{Vec}
 use Rattle.std.specs.Prelude.{IfErr, OnOk}
 use Rattle.walrus_tools.specs.Links.{links_in}
-use Rattle.walrus_tools.specs.Numbers.{RefusesIf}
+use Rattle.walrus_sections.specs.Numbers.{RefusesIf}
 use Rattle.walrus_tools.specs.ReasonBytes.{IsLongLink, chain_links}
 use Rattle.walrus_tools.specs.Spelled.{HasLong}
 use Rattle.walrus_tools.specs.declared.links.Link.{Link}

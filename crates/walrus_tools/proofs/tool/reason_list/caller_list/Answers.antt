@@ -1,6 +1,6 @@
 use Rattle.std.proofs.Common.{List, map, subst, sym}
 use Rattle.std.proofs.lemmas.Result.{err_from_is_err_and}
-use Rattle.walrus_tools.specs.Choice.{choices_seen}
+use Rattle.walrus_sections.specs.Choice.{choices_seen}
 use Rattle.walrus_tools.specs.Links.{link_seen}
 use Rattle.walrus_tools.specs.ReasonAnswers.{AreAsked}
 use Rattle.walrus.specs.Wanted.{config_wanted}

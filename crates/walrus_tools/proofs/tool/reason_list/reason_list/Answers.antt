@@ -1,5 +1,5 @@
 use Rattle.std.proofs.lemmas.Result.{err_from_is_err_and}
-use Rattle.walrus_tools.specs.Choice.{choices_seen}
+use Rattle.walrus_sections.specs.Choice.{choices_seen}
 use Rattle.walrus_tools.specs.ReasonBytes.{reason_seen}
 use Rattle.walrus.specs.Wanted.{config_wanted}
 use Rattle.walrus_tools.proofs.ReasonSpelled.{reason_refused, reason_spelled}

@@ -1,8 +1,8 @@
 use Rattle.std.proofs.Common.{ap, refl, ◌∙◌, subst}
 use Rattle.std.proofs.lemmas.Result.{err_from_is_err_and}
 use Rattle.std.specs.Prelude.{Err}
-use Rattle.walrus_module.specs.Flags.{Flags, config_of, flags}
-use Rattle.walrus_module.specs.Settings.{settings}
+use Rattle.walrus.specs.Modules.Flags.{Flags, config_of, flags}
+use Rattle.walrus.specs.Modules.Settings.{settings}
 use Rattle.walrus_tools.specs.FunctionMeaning.{texts}
 use Rattle.walrus_tools.specs.TrapEdit.{AnswersMeant, RefusesMeant, SnipsMeant}
 use Rattle.walrus.proofs.EditEnds.{edit_finishes, edit_refused, parsed_whole, ready}

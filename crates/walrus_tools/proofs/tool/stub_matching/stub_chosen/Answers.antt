@@ -1,5 +1,5 @@
 use Rattle.std.proofs.lemmas.Result.{err_from_is_err_and}
-use Rattle.walrus_tools.specs.Choice.{choices_seen}
+use Rattle.walrus_sections.specs.Choice.{choices_seen}
 use Rattle.walrus_tools.proofs.MatchingEnds.{stubs_those}
 use Rattle.walrus_tools.proofs.tool.stub_matching.stub_chosen.Goals as goal
 

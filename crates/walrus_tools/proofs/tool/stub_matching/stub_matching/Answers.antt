@@ -1,9 +1,9 @@
 use Rattle.std.proofs.Common.{ap, refl, ◌∙◌, subst}
 use Rattle.std.proofs.lemmas.Result.{err_from_is_err_and}
 use Rattle.std.specs.Prelude.{Err}
-use Rattle.walrus_module.specs.Flags.{Flags, config_of, flags}
-use Rattle.walrus_module.specs.Settings.{settings}
-use Rattle.walrus_tools.specs.Choice.{choices_seen}
+use Rattle.walrus.specs.Modules.Flags.{Flags, config_of, flags}
+use Rattle.walrus.specs.Modules.Settings.{settings}
+use Rattle.walrus_sections.specs.Choice.{choices_seen}
 use Rattle.walrus_tools.specs.StubMatching.{AnswersMatching, RefusesMatching, StubsMatching}
 use Rattle.walrus.proofs.EditEnds.{edit_finishes, edit_refused, parsed_whole, ready}
 use Rattle.walrus_tools.proofs.MatchingEnds.{matching_held}

@@ -1,6 +1,6 @@
 use Rattle.std.proofs.Common.{ap, sym, ◌∙◌}
 use Rattle.std.proofs.lemmas.Result.{err_from_is_err_and}
-use Rattle.walrus_base.specs.Marks.{is_marked}
+use Rattle.walrus.specs.Base.Marks.{is_marked}
 use Rattle.walrus_tools.proofs.MatchingEnds.{hit_next}
 use Rattle.walrus_tools.proofs.StubCall.{passes}
 use Rattle.walrus_tools.proofs.tool.stub_matching.trap_hit.Goals as goal

@@ -1,7 +1,7 @@
 use Rattle.std.proofs.Common.{◌≡◌, ◌≤◌, ◌∙◌, length, arith}
 use Rattle.std.proofs.lemmas.Result.{err_from_is_err_and}
-use Rattle.walrus_base.specs.Marks.{is_marked}
-use Rattle.walrus_items.specs.Imports.{imports}
+use Rattle.walrus.specs.Base.Marks.{is_marked}
+use Rattle.walrus.specs.Items.Imports.{imports}
 use Rattle.walrus_tools.proofs.MatchingEnds.{none_past}
 use Rattle.walrus_tools.proofs.StubCall.{begins, ends}
 use Rattle.walrus_tools.proofs.tool.stub_matching.trap_hits.Goals as goal

@@ -1,7 +1,7 @@
 use Rattle.std.proofs.Common.{◌≡◌, length}
-use Rattle.walrus_base.specs.Marks.{is_marked}
-use Rattle.walrus_items.specs.Imports.{imports}
-use Rattle.walrus_model.specs.Config.{Config}
+use Rattle.walrus.specs.Base.Marks.{is_marked}
+use Rattle.walrus.specs.Items.Imports.{imports}
+use Rattle.walrus.specs.Model.Config.{Config}
 use Rattle.walrus.specs.Edits.{IsWhole}
 use Rattle.walrus_tools.specs.StubMatching.{HitFunctions}
 use Rattle.walrus_tools.specs.StubAnswers.{StubsSome}

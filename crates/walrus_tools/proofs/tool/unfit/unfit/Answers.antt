@@ -1,7 +1,7 @@
 use Rattle.std.proofs.Common.{subst}
 use Rattle.std.specs.Prelude.{Ok}
-use Rattle.walrus_module.specs.Flags.{Flags, config_of, flags}
-use Rattle.walrus_tools.specs.Choice.{choices_seen}
+use Rattle.walrus.specs.Modules.Flags.{Flags, config_of, flags}
+use Rattle.walrus_sections.specs.Choice.{choices_seen}
 use Rattle.walrus_tools.specs.ChosenModule.{AnswersUnfit}
 use Rattle.walrus_tools.proofs.ChosenEnds.{unfit_told}
 use Rattle.walrus_tools.proofs.tool.unfit.unfit.Goals as goal

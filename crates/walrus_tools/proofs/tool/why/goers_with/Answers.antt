@@ -1,8 +1,8 @@
 use Rattle.std.proofs.Common.{Option, ap, inr, subst}
 use Rattle.std.proofs.lemmas.Result.{err_from_is_err_and}
-use Rattle.walrus_base.specs.Id.{place}
-use Rattle.walrus_code.specs.Code.{item_of}
-use Rattle.walrus_items.specs.LocalFunction.{LocalFunction}
+use Rattle.walrus.specs.Base.Id.{place}
+use Rattle.walrus.specs.Code.Code.{item_of}
+use Rattle.walrus.specs.Items.LocalFunction.{LocalFunction}
 use Rattle.walrus_tools.specs.AloneSteps.{TradesIfAny}
 use Rattle.walrus_tools.proofs.tool.why.goers_with.Goals as goal
 

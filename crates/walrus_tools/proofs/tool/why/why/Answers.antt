@@ -1,15 +1,15 @@
 use Rattle.std.proofs.Common.{◌≡◌, ℕ, ◌<◌, ◌^◌, List, Option, ap, ap₂, refl, ◌∙◌, subst, sym}
 use Rattle.std.proofs.lemmas.Result.{err_from_is_err_and}
 use Rattle.std.specs.Prelude.{Err, Ok, map, option_map}
-use Rattle.walrus_base.specs.declared.keys.FunctionKey.{FunctionKey}
-use Rattle.walrus_base.specs.declared.marks.Marks.{Marks}
-use Rattle.walrus_code.specs.Code.{item_of}
-use Rattle.walrus_model.specs.Abstract.{Abstract}
-use Rattle.walrus_contents.specs.Named.{items_in}
-use Rattle.walrus_items.specs.Transform.{range_of, transform_of}
-use Rattle.walrus_module.specs.Flags.{Flags, config_of, flags}
-use Rattle.walrus_module.specs.View.{view}
-use Rattle.walrus_tools.specs.Choice.{choices_seen}
+use Rattle.walrus.specs.Base.FunctionKey.{FunctionKey}
+use Rattle.walrus.specs.Base.MarksValue.{Marks}
+use Rattle.walrus.specs.Code.Code.{item_of}
+use Rattle.walrus.specs.Model.Abstract.{Abstract}
+use Rattle.walrus.specs.Contents.Named.{items_in}
+use Rattle.walrus.specs.Items.Transform.{range_of, transform_of}
+use Rattle.walrus.specs.Modules.Flags.{Flags, config_of, flags}
+use Rattle.walrus.specs.Modules.View.{view}
+use Rattle.walrus_sections.specs.Choice.{choices_seen}
 use Rattle.walrus_tools.specs.ReasonAnswers.{AnswersWhy, TellsAlone}
 use Rattle.walrus_tools.specs.AloneSteps.{alone_in}
 use Rattle.walrus_tools.specs.Alone.{bytes_of}

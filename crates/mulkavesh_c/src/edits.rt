@@ -1,0 +1,62 @@
+//! What a list of edits comes to that is refused: its status, and the number that is told as the length.
+
+ghost use Rattle.std.specs.Prelude.{◌≡◌};
+ghost use Rattle.mulkavesh_c.specs.Edits.{status_of_edit, status_of_flaw, status_of_refusal, told_of_edit, told_of_refusal};
+
+use crate::answer::{refused, status_of};
+use walrus_edits::{Flaw, Refusal};
+use walrus_tools::Error;
+
+/// An edit isn't of its form, or can't be made of what the ones before it left; how many these are is told.
+const BAD_EDIT: u32 = 7;
+/// What all edits left can't be written; the number of the cause is told.
+const BAD_MODULE: u32 = 8;
+
+// The status of an edit that is refused.
+fn status_of_edit(error: &Error) -> u32
+    ensures { result ≡ status_of_edit error.now }
+{
+    match error {
+        Error::TooLarge | Error::Memory(_) => status_of(error),
+        _ => BAD_EDIT,
+    }
+}
+
+// An edit is refused, and so many before it were made.
+fn refuse_edit(applied: usize, error: &Error, length: &mut usize) -> u32
+    ensures status { result ≡ status_of_edit error.now }
+    ensures told { length.new ≡ told_of_edit applied error.now }
+{
+    *length = match error {
+        Error::TooLarge | Error::Memory(_) => 0,
+        _ => applied,
+    };
+    status_of_edit(error)
+}
+
+// The status where this is wrong with what all edits left.
+fn status_of_flaw(flaw: &Flaw) -> u32
+    ensures { result ≡ status_of_flaw flaw.now }
+{
+    match flaw {
+        Flaw::Form(Error::TooLarge) => status_of(&Error::TooLarge),
+        Flaw::Form(Error::Memory(error)) => status_of(&Error::Memory(*error)),
+        _ => BAD_MODULE,
+    }
+}
+
+/// Nothing is written: this is why.
+pub(crate) fn refuse(refusal: &Refusal, length: &mut usize) -> u32
+    ensures status { result ≡ status_of_refusal refusal.now }
+    ensures told { length.new ≡ told_of_refusal refusal.now }
+{
+    match refusal {
+        Refusal::Input(error) => refused(length, status_of(error)),
+        Refusal::Edit(applied, error) => refuse_edit(*applied, error, length),
+        Refusal::Whole(flaw) => {
+            // None where memory ran out, or what is left is too large.
+            *length = flaw.number() as usize;
+            status_of_flaw(flaw)
+        }
+    }
+}

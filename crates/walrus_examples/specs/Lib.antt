@@ -1,0 +1,11 @@
+pub mod Count
+pub mod CountAnswers
+pub mod ExportHook
+pub mod ListAnswers
+pub mod ListSection
+pub mod ListSteps
+pub mod Metadata
+pub mod Moves
+pub mod PlacesSection
+pub mod Snip
+pub mod SnipAnswers

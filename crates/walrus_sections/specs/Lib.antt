@@ -1,0 +1,13 @@
+pub mod Beginnings
+pub mod Choice
+pub mod ExportChoice
+pub mod FitSteps
+pub mod Fits
+pub mod NameLists
+pub mod Numbers
+pub mod PartList
+pub mod PartSteps
+pub mod Parts
+pub mod Sections
+pub mod StripAnswers
+pub mod StripSteps

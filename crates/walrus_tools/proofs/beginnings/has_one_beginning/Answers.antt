@@ -1,5 +1,0 @@
-use Rattle.walrus_tools.proofs.OneBeginning.{one_beginning}
-use Rattle.walrus_tools.proofs.beginnings.has_one_beginning.Goals as goal
-
-pub returns : goal.returns
-returns c = one_beginning

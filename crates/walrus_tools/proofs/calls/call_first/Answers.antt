@@ -1,9 +1,0 @@
-use Rattle.std.proofs.Common.{refl, sym, subst}
-use Rattle.walrus_base.specs.Id.{place}
-use Rattle.walrus_items.specs.declared.function_kind.FunctionKind.{FunctionKind}
-use Rattle.walrus_items.specs.declared.function_kind.FunctionKind.TheVariants.{Local}
-use Rattle.walrus_tools.specs.Count.{KindCalls}
-use Rattle.walrus_tools.proofs.calls.call_first.Goals as goal
-
-pub returns : goal.returns
-returns c = subst (λ (k : FunctionKind). KindCalls (place c.args.called) k (Local c.put_call.new.function)) (sym c.in-Local.is) (c.put_call.new.function, refl, c.in_ok-put_call.ensures)

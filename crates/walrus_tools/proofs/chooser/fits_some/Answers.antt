@@ -1,7 +1,0 @@
-use Rattle.std.proofs.Common.{ℕ, List}
-use Rattle.walrus_tools.specs.Fits.{Fits}
-use Rattle.walrus_tools.proofs.LookUps.{none_is}
-use Rattle.walrus_tools.proofs.chooser.fits_some.Goals as goal
-
-pub returns : goal.returns
-returns c = none_is (λ (name : List ℕ). Fits name c.args.text.now) c.args.names.now c.names.name-index c.names-test.false c.names.invariant

@@ -1,7 +1,0 @@
-use Rattle.std.proofs.Common.{All, take}
-use Rattle.walrus_tools.specs.Fits.{Fits}
-use Rattle.walrus_tools.proofs.chooser.fits_some.Given as goal
-
--- none of those before does
-abbrev pub invariant-names : goal.invariant-names
-invariant-names l = All (λ name. Fits name.now l.text → ⊥) (take l.name-index l.names)

@@ -1,5 +1,0 @@
-use Rattle.walrus_tools.proofs.MovesOnce as all
-use Rattle.walrus_tools.proofs.law.moves_once.Goals as goal
-
-pub returns : goal.returns
-returns c = all.moves_once

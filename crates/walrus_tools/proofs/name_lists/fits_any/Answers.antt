@@ -1,6 +1,0 @@
-use Rattle.walrus_tools.specs.Fits.{Fits}
-use Rattle.walrus_tools.proofs.LookUps.{none_is}
-use Rattle.walrus_tools.proofs.name_lists.fits_any.Goals as goal
-
-pub returns : goal.returns
-returns c = none_is (Fits c.args.name.now) c.args.all.now c.texts.text-index c.texts-test.false c.texts.invariant

@@ -1,7 +1,0 @@
-use Rattle.std.proofs.Common.{◌∙◌, sym}
-use Rattle.walrus_tools.specs.NameLists.{texts}
-use Rattle.walrus_tools.proofs.LookUps.{plain_text}
-use Rattle.walrus_tools.proofs.name_lists.fits_text.Goals as goal
-
-pub returns-else-has_star : goal.returns-else-has_star
-returns-else-has_star c = plain_text (texts c.args.all.now) c.args.name.now c.is_among.result (sym c.has_star.ensures ∙ c.if-has_star.false) c.is_among.ensures

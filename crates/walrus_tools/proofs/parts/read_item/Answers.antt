@@ -1,6 +1,0 @@
-use Rattle.std.proofs.Common.{arith}
-use Rattle.walrus_tools.proofs.PartItems.{data_shorter}
-use Rattle.walrus_tools.proofs.parts.read_item.Goals as goal
-
-pub overflow_sub-size : goal.overflow_sub-size
-overflow_sub-size c = omega (arith, data_shorter _ _ _ c.in_ok-_segment.ensures)
