@@ -75,15 +75,24 @@ module _ (s : wire.Module) (groups : List Group) (c : Contents) where
 
 -- ---- one part behind another
 
-pub parts_none : (old : List ℕ) → (old ≡ old ++ rows []) × RowsFit []
-parts_none old = (sym (append-nil old), tt)
+-- these parts stand behind what was there, and each record fits
+pub record HasParts (old now : List ℕ) (done : List (List Told)) : Type 0 where
+  pub written : now ≡ old ++ rows done
+  pub fit : RowsFit done
 
-pub parts_join : (old mid new : List ℕ) (done more : List (List Told)) → (mid ≡ old ++ rows done) × RowsFit done → (new ≡ mid ++ rows more) × RowsFit more → (new ≡ old ++ rows (done ++ more)) × RowsFit (done ++ more)
-parts_join old mid new done more h k =
-    (k.0 ∙ ap (λ l. l ++ rows more) h.0 ∙ append_assoc old (rows done) (rows more) ∙ ap (λ l. old ++ l) (sym (rows_append done more)), rows_fit_both done more h.1 k.1)
+pub parts_none : (old : List ℕ) → HasParts old old []
+parts_none old = record { written = sym (append-nil old); fit = tt }
 
-pub parts_more : (old mid new : List ℕ) (done : List (List Told)) (part told : List Told) → told ≡ part → (mid ≡ old ++ rows done) × RowsFit done → (new ≡ mid ++ row_bytes told_bytes told) × EachFits ToldFits told
-    → (new ≡ old ++ rows (done ++ part ∷ [])) × RowsFit (done ++ part ∷ [])
+pub parts_join : (old mid new : List ℕ) (done more : List (List Told)) → HasParts old mid done → (new ≡ mid ++ rows more) × RowsFit more → HasParts old new (done ++ more)
+parts_join old mid new done more h k = record {
+  written = k.0 ∙ ap (λ l. l ++ rows more) h.written ∙ append_assoc old (rows done) (rows more) ∙ ap (λ l. old ++ l) (sym (rows_append done more));
+  fit = rows_fit_both done more h.fit k.1;
+}
+
+pub parts_more : (old mid new : List ℕ) (done : List (List Told)) (part told : List Told) → told ≡ part → HasParts old mid done → (new ≡ mid ++ row_bytes told_bytes told) × EachFits ToldFits told → HasParts old new (done ++ part ∷ [])
 parts_more old mid new done part told same h k =
     let row : new ≡ mid ++ rows (part ∷ []) = k.0 ∙ ap (λ ts. mid ++ row_bytes told_bytes ts) same ∙ ap (λ l. mid ++ l) (sym (append-nil (row_bytes told_bytes part))) in
     parts_join old mid new done (part ∷ []) h (row, (subst (EachFits ToldFits) same k.1, tt))
+
+pub parts_end : (old now : List ℕ) (done : List (List Told)) → HasParts old now done → (now ≡ old ++ rows done) × RowsFit done
+parts_end old now done h = (h.written, h.fit)

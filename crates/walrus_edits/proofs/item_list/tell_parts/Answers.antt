@@ -4,7 +4,7 @@ use Rattle.wasm_entries.specs.Record.{data_entry, element_entry, export_entry, g
 use Rattle.walrus.specs.Frames.Record.{body_record}
 use Rattle.walrus_edits.specs.ItemRecords.{AGlobal, AMemory, ASegment, ATable, ATag, AnElement, AnExport}
 use Rattle.walrus_edits.specs.ItemValues.{functions_in, with_brought}
-use Rattle.walrus_edits.proofs.ListSteps.{parts_more, parts_none}
+use Rattle.walrus_edits.proofs.ListSteps.{parts_end, parts_more, parts_none}
 use Rattle.walrus_edits.proofs.item_list.tell_parts.Goals as goal
 
 pub returns : goal.returns
@@ -21,4 +21,5 @@ returns c =
     let p7 = parts_more old _ _ _ _ _ (ap (λ xs. map AnExport (map export_entry xs)) c.deref-8.ensures.value) p6 c.in_ok-tell_exports.ensures in
     let p8 = parts_more old _ _ _ _ _ refl p7 c.in_ok-tell_start.ensures in
     let p9 = parts_more old _ _ _ _ _ (ap (λ xs. map AnElement (map element_entry xs)) c.deref-9.ensures.value) p8 c.in_ok-tell_elements.ensures in
-    parts_more old _ _ _ _ _ (ap (λ xs. map ASegment (map data_entry xs)) c.deref-10.ensures.value) p9 c.in_ok-tell_data.ensures
+    let p10 = parts_more old _ _ _ _ _ (ap (λ xs. map ASegment (map data_entry xs)) c.deref-10.ensures.value) p9 c.in_ok-tell_data.ensures in
+    parts_end old _ _ p10
