@@ -1,11 +1,8 @@
 -- What a list of edits comes to: a call's status, the caller's room, and the length that is told.
 use Rattle.std.specs.Prelude.{ℕ, ◌×◌, List, Result, Ok, Err, ◌≡◌, ◌≢◌, ◌↔◌}
 use Rattle.std.specs.Global.{Vec}
-use Rattle.walrus_items.specs.declared.error.Error.{Error}
-use Rattle.walrus_items.specs.declared.error.Error.TheVariants.{Memory, TooLarge}
-use Rattle.walrus_module.specs.Flaws.{flaw_number}
-use Rattle.walrus_module.specs.declared.flaw.Flaw.{Flaw}
-use Rattle.walrus_module.specs.declared.flaw.Flaw.TheVariants.{Form}
+use Rattle.walrus_tools.specs.Facade.{Error, Memory, TooLarge}
+use Rattle.walrus_edits.specs.Facade.{Flaw, Form, flaw_number}
 use Rattle.walrus_edits.specs.declared.refusal.Refusal.{Refusal}
 use Rattle.walrus_edits.specs.declared.refusal.Refusal.TheVariants.{Input, Edit, Whole}
 use Rattle.mulkavesh_c.specs.Answer.{Fills, Lacks, Leaves, status_of}

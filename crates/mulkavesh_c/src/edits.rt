@@ -3,7 +3,7 @@
 ghost use Rattle.std.specs.Prelude.{◌≡◌};
 ghost use Rattle.mulkavesh_c.specs.Edits.{status_of_edit, status_of_flaw, status_of_refusal, told_of_edit, told_of_refusal};
 
-use crate::answer::{refused, status_of};
+use crate::answer::{NO_MEMORY, TOO_LARGE, refused, status_of};
 use walrus_edits::{Flaw, Refusal};
 use walrus_tools::Error;
 
@@ -17,7 +17,8 @@ fn status_of_edit(error: &Error) -> u32
     ensures { result ≡ status_of_edit error.now }
 {
     match error {
-        Error::TooLarge | Error::Memory(_) => status_of(error),
+        Error::TooLarge => TOO_LARGE,
+        Error::Memory(_) => NO_MEMORY,
         _ => BAD_EDIT,
     }
 }
@@ -39,8 +40,8 @@ fn status_of_flaw(flaw: &Flaw) -> u32
     ensures { result ≡ status_of_flaw flaw.now }
 {
     match flaw {
-        Flaw::Form(Error::TooLarge) => status_of(&Error::TooLarge),
-        Flaw::Form(Error::Memory(error)) => status_of(&Error::Memory(*error)),
+        Flaw::Form(Error::TooLarge) => TOO_LARGE,
+        Flaw::Form(Error::Memory(_)) => NO_MEMORY,
         _ => BAD_MODULE,
     }
 }

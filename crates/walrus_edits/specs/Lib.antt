@@ -6,3 +6,4 @@ pub mod LocalNames
 pub mod TypeRecords
 pub mod Edited
 pub mod Ending
+pub mod Facade
