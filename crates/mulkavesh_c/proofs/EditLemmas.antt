@@ -2,32 +2,34 @@
 use Rattle.std.proofs.Common.{◌≡◌, ℕ, Bool, true, List, Option, Some, None, sym, ◌∙◌, subst, inl, inr, arith}
 use Rattle.std.specs.Prelude.{Result, Ok, Err, if◌then◌else◌}
 use Rattle.std.specs.Global.{Vec}
-use Rattle.walrus_edits.specs.Facade.{Flaw, Form}
+use Rattle.walrus_edits.specs.Facade.{Form}
 use Rattle.walrus_tools.specs.Facade.{Error, Memory, TooLarge}
 use Rattle.walrus_tools.specs.WantedValue.{Wanted}
 use Rattle.walrus_edits.specs.declared.refusal.Refusal.{Refusal}
 use Rattle.walrus_edits.specs.declared.refusal.Refusal.TheVariants.{Input, Edit, Whole}
 use Rattle.mulkavesh_c.specs.Answer.{Answer, Puts}
-use Rattle.mulkavesh_c.specs.Edits.{GivesEdited, status_of_edit, status_of_flaw, status_of_refusal, told_of_refusal}
+use Rattle.mulkavesh_c.specs.Edits.{GivesEdited, status_of_refusal, status_or, told_of_refusal}
 use Rattle.mulkavesh_c.specs.Flags.{collects, is_known_of_edits, wanted}
 use Rattle.mulkavesh_c.specs.declared.answer.Made.{Made}
 use Rattle.mulkavesh_c.proofs.AnswerLemmas.{IsRefusal, asks, is_refusal}
 
-edit_is_refusal : (e : Error) → IsRefusal (status_of_edit e)
-edit_is_refusal TooLarge = record { not_done = λ h. omega (arith, h); not_short = λ h. omega (arith, h); not_flags = λ h. omega (arith, h) }
-edit_is_refusal (Memory e) = record { not_done = λ h. omega (arith, h); not_short = λ h. omega (arith, h); not_flags = λ h. omega (arith, h) }
-edit_is_refusal _ = record { not_done = λ h. omega (arith, h); not_short = λ h. omega (arith, h); not_flags = λ h. omega (arith, h) }
-
-flaw_is_refusal : (f : Flaw) → IsRefusal (status_of_flaw f)
-flaw_is_refusal (Form TooLarge) = record { not_done = λ h. omega (arith, h); not_short = λ h. omega (arith, h); not_flags = λ h. omega (arith, h) }
-flaw_is_refusal (Form (Memory e)) = record { not_done = λ h. omega (arith, h); not_short = λ h. omega (arith, h); not_flags = λ h. omega (arith, h) }
-flaw_is_refusal _ = record { not_done = λ h. omega (arith, h); not_short = λ h. omega (arith, h); not_flags = λ h. omega (arith, h) }
-
 -- no refusal of edits has the status of an answer, nor that of flags that aren't known
-refusal_is_refusal : (r : Refusal) → IsRefusal (status_of_refusal r)
-refusal_is_refusal (Input e) = is_refusal e
-refusal_is_refusal (Edit applied e) = edit_is_refusal e
-refusal_is_refusal (Whole f) = flaw_is_refusal f
+is_refusal_or : (e : Error) (other : ℕ) → IsRefusal other → IsRefusal (status_or e other)
+is_refusal_or TooLarge other is = record { not_done = λ h. omega (arith, h); not_short = λ h. omega (arith, h); not_flags = λ h. omega (arith, h) }
+is_refusal_or (Memory e) other is = record { not_done = λ h. omega (arith, h); not_short = λ h. omega (arith, h); not_flags = λ h. omega (arith, h) }
+is_refusal_or _ other is = is
+
+bad_edit : IsRefusal 7
+bad_edit = record { not_done = λ h. omega (arith, h); not_short = λ h. omega (arith, h); not_flags = λ h. omega (arith, h) }
+
+bad_module : IsRefusal 8
+bad_module = record { not_done = λ h. omega (arith, h); not_short = λ h. omega (arith, h); not_flags = λ h. omega (arith, h) }
+
+refuses : (r : Refusal) → IsRefusal (status_of_refusal r)
+refuses (Input e) = is_refusal e
+refuses (Edit applied e) = is_refusal_or e 7 bad_edit
+refuses (Whole (Form e)) = is_refusal_or e 8 bad_module
+refuses (Whole _) = bad_module
 
 module _ (Answers : Result (Vec ℕ) Refusal → Type 0) (Known : Type 0) (old new : List ℕ) (told status : ℕ) where
   -- a module was made, and put into the room
@@ -54,7 +56,7 @@ module _ (Answers : Result (Vec ℕ) Refusal → Type 0) (Known : Type 0) (old n
   -- it is refused, and this is why
   refuses_edits : Known → (r : Refusal) → Answers (Err r) → status ≡ status_of_refusal r → new ≡ old → told ≡ told_of_refusal r → GivesEdited Known Answers old new told status
   refuses_edits is_so r answers is stays tells =
-      let i = refusal_is_refusal r in
+      let i = refuses r in
       record {
         flags = (λ five. absurd (i.not_flags (sym is ∙ five)), λ unknown. absurd (unknown is_so));
         unknown = λ five. absurd (i.not_flags (sym is ∙ five));
