@@ -9,12 +9,12 @@ use Rattle.mulkavesh_c.specs.Answer.{Answer, Gives, NoNumber, Puts, Tells, statu
 use Rattle.mulkavesh_c.specs.declared.answer.Made.{Made}
 
 -- no refusal has the status of an answer, nor that of flags that aren't known
-record IsRefusal (status : ℕ) : Type 0 where
-  not_done : status ≢ 0
-  not_short : status ≢ 4
-  not_flags : status ≢ 5
+pub record IsRefusal (status : ℕ) : Type 0 where
+  pub not_done : status ≢ 0
+  pub not_short : status ≢ 4
+  pub not_flags : status ≢ 5
 
-is_refusal : (e : Error) → IsRefusal (status_of e)
+pub is_refusal : (e : Error) → IsRefusal (status_of e)
 is_refusal (InvalidWasm kind) = record { not_done = λ h. omega (arith, h); not_short = λ h. omega (arith, h); not_flags = λ h. omega (arith, h) }
 is_refusal TooLarge = record { not_done = λ h. omega (arith, h); not_short = λ h. omega (arith, h); not_flags = λ h. omega (arith, h) }
 is_refusal (Memory e) = record { not_done = λ h. omega (arith, h); not_short = λ h. omega (arith, h); not_flags = λ h. omega (arith, h) }

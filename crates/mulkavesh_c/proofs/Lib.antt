@@ -1,4 +1,5 @@
 mod AnswerLemmas
 mod ChoiceLemmas
+mod EditLemmas
 mod QuestionLemmas
 mod TextLemmas

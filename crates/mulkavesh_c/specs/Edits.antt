@@ -1,22 +1,19 @@
 -- What a list of edits comes to: a call's status, the caller's room, and the length that is told.
-use Rattle.std.specs.Prelude.{ℕ, ◌×◌, List, Result, Ok, Err, ◌≡◌, ◌≢◌, ◌↔◌}
+use Rattle.std.specs.Prelude.{ℕ, List, Result, Ok, Err, ◌≡◌, ◌≢◌, ◌↔◌}
 use Rattle.std.specs.Global.{Vec}
-use Rattle.walrus_items.specs.declared.error.Error.{Error}
-use Rattle.walrus_items.specs.declared.error.Error.TheVariants.{Memory, TooLarge}
-use Rattle.walrus_module.specs.Flaws.{flaw_number}
-use Rattle.walrus_module.specs.declared.flaw.Flaw.{Flaw}
-use Rattle.walrus_module.specs.declared.flaw.Flaw.TheVariants.{Form}
+use Rattle.walrus_tools.specs.Facade.{Error, Memory, TooLarge}
+use Rattle.walrus_edits.specs.Facade.{Flaw, Form, flaw_number}
 use Rattle.walrus_edits.specs.declared.refusal.Refusal.{Refusal}
 use Rattle.walrus_edits.specs.declared.refusal.Refusal.TheVariants.{Input, Edit, Whole}
 use Rattle.mulkavesh_c.specs.Answer.{Fills, Lacks, Leaves, status_of}
 
--- the status of an edit that is refused: 2 for what is too large, 3 for want of memory, else 7
-abbrev pub status_of_edit : Error → ℕ
-status_of_edit TooLarge = 2
-status_of_edit (Memory e) = 3
-status_of_edit _ = 7
+-- the status of what is refused behind the input: 2 for what is too large, 3 for want of memory, else this one
+abbrev pub status_or : Error → (other : ℕ) → ℕ
+status_or TooLarge other = 2
+status_or (Memory e) other = 3
+status_or _ other = other
 
--- what is told of it: with status 7 how many edits before it were made, and else nothing
+-- what is told of an edit that is refused: nothing with 2 and 3, else how many edits before it were made
 abbrev pub told_of_edit : (applied : ℕ) → Error → ℕ
 told_of_edit applied TooLarge = 0
 told_of_edit applied (Memory e) = 0
@@ -24,14 +21,13 @@ told_of_edit applied _ = applied
 
 -- the status where this is wrong with what all edits left: 2, 3, else 8
 abbrev pub status_of_flaw : Flaw → ℕ
-status_of_flaw (Form TooLarge) = 2
-status_of_flaw (Form (Memory e)) = 3
+status_of_flaw (Form e) = status_or e 8
 status_of_flaw _ = 8
 
--- the status of a refusal
+-- the status of a refusal: an edit's is 2, 3, else 7
 abbrev pub status_of_refusal : Refusal → ℕ
 status_of_refusal (Input e) = status_of e
-status_of_refusal (Edit applied e) = status_of_edit e
+status_of_refusal (Edit applied e) = status_or e 7
 status_of_refusal (Whole f) = status_of_flaw f
 
 -- what is told of it: of an edit how many were made before it, of the whole the number of the cause

@@ -10,9 +10,9 @@ const DONE: u32 = 0;
 /// The bytes are no module that keeps the rules.
 const INVALID: u32 = 1;
 /// What is kept has a count or a size past 32 bits.
-const TOO_LARGE: u32 = 2;
+pub(crate) const TOO_LARGE: u32 = 2;
 /// Memory ran out.
-const NO_MEMORY: u32 = 3;
+pub(crate) const NO_MEMORY: u32 = 3;
 /// The room is smaller than the answer, whose length is told.
 const NO_ROOM: u32 = 4;
 /// A flag isn't known, or the bytes of a list are none.

@@ -1,9 +1,9 @@
 //! What a list of edits comes to that is refused: its status, and the number that is told as the length.
 
 ghost use Rattle.std.specs.Prelude.{◌≡◌};
-ghost use Rattle.mulkavesh_c.specs.Edits.{status_of_edit, status_of_flaw, status_of_refusal, told_of_edit, told_of_refusal};
+ghost use Rattle.mulkavesh_c.specs.Edits.{status_of_flaw, status_of_refusal, status_or, told_of_edit, told_of_refusal};
 
-use crate::answer::{refused, status_of};
+use crate::answer::{NO_MEMORY, TOO_LARGE, refused, status_of};
 use walrus_edits::{Flaw, Refusal};
 use walrus_tools::Error;
 
@@ -12,26 +12,26 @@ const BAD_EDIT: u32 = 7;
 /// What all edits left can't be written; the number of the cause is told.
 const BAD_MODULE: u32 = 8;
 
-// The status of an edit that is refused.
-fn status_of_edit(error: &Error) -> u32
-    ensures { result ≡ status_of_edit error.now }
+// The status of what is too large and of memory that ran out, or else this one.
+fn status_or(error: &Error, other: u32) -> u32
+    ensures { result ≡ status_or error.now other }
 {
     match error {
-        Error::TooLarge | Error::Memory(_) => status_of(error),
-        _ => BAD_EDIT,
+        Error::TooLarge => TOO_LARGE,
+        Error::Memory(_) => NO_MEMORY,
+        _ => other,
     }
 }
 
-// An edit is refused, and so many before it were made.
-fn refuse_edit(applied: usize, error: &Error, length: &mut usize) -> u32
-    ensures status { result ≡ status_of_edit error.now }
-    ensures told { length.new ≡ told_of_edit applied error.now }
+// What is told of an edit that is refused, where so many before it were made.
+fn told_of_edit(applied: usize, error: &Error) -> usize
+    ensures { result ≡ told_of_edit applied error.now }
 {
-    *length = match error {
-        Error::TooLarge | Error::Memory(_) => 0,
+    match error {
+        Error::TooLarge => 0,
+        Error::Memory(_) => 0,
         _ => applied,
-    };
-    status_of_edit(error)
+    }
 }
 
 // The status where this is wrong with what all edits left.
@@ -39,9 +39,8 @@ fn status_of_flaw(flaw: &Flaw) -> u32
     ensures { result ≡ status_of_flaw flaw.now }
 {
     match flaw {
-        Flaw::Form(Error::TooLarge) => status_of(&Error::TooLarge),
-        Flaw::Form(Error::Memory(error)) => status_of(&Error::Memory(*error)),
-        _ => BAD_MODULE,
+        Flaw::Rule(_) => BAD_MODULE,
+        Flaw::Form(error) => status_or(error, BAD_MODULE),
     }
 }
 
@@ -52,7 +51,10 @@ pub(crate) fn refuse(refusal: &Refusal, length: &mut usize) -> u32
 {
     match refusal {
         Refusal::Input(error) => refused(length, status_of(error)),
-        Refusal::Edit(applied, error) => refuse_edit(*applied, error, length),
+        Refusal::Edit(applied, error) => {
+            *length = told_of_edit(*applied, error);
+            status_or(error, BAD_EDIT)
+        }
         Refusal::Whole(flaw) => {
             // None where memory ran out, or what is left is too large.
             *length = flaw.number() as usize;

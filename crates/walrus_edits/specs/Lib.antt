@@ -6,3 +6,6 @@ pub mod ItemValues
 pub mod Items
 pub mod LocalNames
 pub mod TypeRecords
+pub mod Edited
+pub mod Ending
+pub mod Facade
