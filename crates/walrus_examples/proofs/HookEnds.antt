@@ -27,7 +27,7 @@ use Rattle.walrus_examples.proofs.FunctionsThere.{none_at, one_at}
 use Rattle.walrus_examples.proofs.HookSteps.{export_whole}
 use Rattle.walrus.specs.Edits.{AnswersEdited, IsWhole}
 use Rattle.walrus.specs.Ready.{FinishesReady}
-use Rattle.walrus_tools.specs.declared.examples.with_export.Exporting.{Exporting}
+use Rattle.walrus_examples.specs.declared.examples.with_export.Exporting.{Exporting}
 use Rattle.walrus_examples.specs.ExportHook.{AnswersExport, ExportsHeld, ExportsIndexed, RefusesExport, RefusesIndexed}
 
 module _ {V : Type 0} {O : V → Type 0} (G : (v : V) → Ghosts (O v)) (Gives : ℕ → InstrLocId → Type 0) (bytes : List ℕ) (index : ℕ) (name : List ℕ) where

@@ -14,3 +14,4 @@ pub mod Records
 mod SectionLemmas
 mod Stars
 mod StripLemmas
+mod ToldRows

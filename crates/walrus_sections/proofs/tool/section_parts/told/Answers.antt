@@ -1,7 +1,8 @@
-use Rattle.std.proofs.Common.{map}
+use Rattle.std.proofs.Common.{flat_map, map, refl}
 use Rattle.std.proofs.lemmas.Result.{err_from_is_err_and}
-use Rattle.walrus_sections.specs.PartList.{part_record}
-use Rattle.walrus_sections.proofs.PartListLemmas.{parts_fit, parts_joined, long_end, long_parts}
+use Rattle.walrus_sections.specs.PartList.{part_bytes, part_record}
+use Rattle.walrus_sections.proofs.PartListLemmas.{long_end, long_parts, parts_fit}
+use Rattle.walrus_sections.proofs.ToldRows.{list_joined}
 use Rattle.walrus_sections.proofs.tool.section_parts.told.Goals as goal
 
 pub returns-in_err-end-clause-refused : goal.returns-in_err-end-clause-refused
@@ -16,7 +17,7 @@ returns-in_err-add_parts-clause-refused c =
 
 pub returns-clause-value : goal.returns-clause-value
 returns-clause-value c =
-    parts_joined c.args.place (map part_record c.args.parts.now) c.in_ok-end.end c.in_ok-end.ensures.value _ _ _ _
+    list_joined 1 c.args.place (flat_map part_bytes (map part_record c.args.parts.now)) 1 c.in_ok-end.end refl c.in_ok-end.ensures.value _ _ _ _
     c.new-list.ensures.items c.in_ok-push.ensures.items c.in_ok-add_number.ensures c.in_ok-add_parts.ensures.value
 
 pub returns-clause-fits : goal.returns-clause-fits
