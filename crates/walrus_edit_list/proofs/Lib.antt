@@ -1,3 +1,4 @@
+pub use Rattle.walrus_module.proofs.CheckedWell
 mod BodiesKept
 mod Counting
 pub mod EditRows
@@ -26,4 +27,3 @@ mod RefusingBodies
 mod SegmentSets
 mod TagsKept
 mod Turns
-pub use Rattle.walrus_module.proofs.CheckedWell

@@ -1,3 +1,5 @@
+pub use Rattle.walrus_module.specs.Check
+pub use Rattle.walrus_module.specs.declared.flaw.Flaw
 pub mod Applies
 pub mod Bringing
 pub mod Constants
@@ -24,5 +26,3 @@ pub mod SegmentSets
 pub mod Start
 pub mod Turns
 pub mod Types
-pub use Rattle.walrus_module.specs.Check
-pub use Rattle.walrus_module.specs.declared.flaw.Flaw
