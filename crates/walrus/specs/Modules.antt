@@ -13,6 +13,7 @@ pub use Rattle.walrus_module.specs.Fault
 pub use Rattle.walrus_module.specs.Faults
 pub use Rattle.walrus_module.specs.Features
 pub use Rattle.walrus_module.specs.Flags
+pub use Rattle.walrus_module.specs.Flaws
 pub use Rattle.walrus_module.specs.Following
 pub use Rattle.walrus_module.specs.FunctionTypes
 pub use Rattle.walrus_module.specs.Imported
@@ -30,5 +31,6 @@ pub use Rattle.walrus_module.specs.Transform
 pub use Rattle.walrus_module.specs.View
 pub use Rattle.walrus_module.specs.declared.customs.ModuleCustomSections
 pub use Rattle.walrus_module.specs.declared.entry.SectionEntry
+pub use Rattle.walrus_module.specs.declared.flaw.Flaw
 pub use Rattle.walrus_module.specs.declared.hook.LocationHook
 pub use Rattle.walrus_module.specs.declared.module.Module
