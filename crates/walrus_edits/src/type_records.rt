@@ -3,7 +3,8 @@
 ghost use Rattle.walrus_edits.specs.TypeRecords.{GroupsTypes};
 
 use std::alloc::Global;
-use walrus::{Error, IdsToIndices, ModuleTypes, Numbering, Result};
+use walrus::{Error, IdsToIndices, ModuleTypes, Result};
+use walrus_code::Numbering;
 use walrus_groups::index_types;
 use wasm_entries::RawGroup;
 
