@@ -15,7 +15,6 @@ use Rattle.walrus_functions.specs.BodyRead.{new_locals}
 use Rattle.walrus_functions.specs.EmittedBody.{types_of}
 use Rattle.walrus_functions.specs.Handlers.{params_of}
 use Rattle.walrus_functions.specs.ReadFunction.{StaysInFront}
-use Rattle.walrus_groups.specs.Groups.{types_from}
 use Rattle.walrus_items.specs.Function.{function_type}
 use Rattle.walrus_items.specs.FunctionKinds.{kind_type}
 use Rattle.walrus_items.specs.Functions.{FunctionValue, functions}
@@ -23,13 +22,11 @@ use Rattle.walrus_items.specs.LocalFunction.{LocalFunction}
 use Rattle.walrus_items.specs.declared.function_kind.FunctionKind.TheVariants as kinds
 use Rattle.walrus_model.specs.Abstract as abstract
 use Rattle.walrus_model.specs.Config.{Config}
-use Rattle.walrus_module.specs.Replaced.{with_body}
 use Rattle.walrus_reading.proofs.Carrying.{item_within}
 use Rattle.walrus_reading.proofs.EditedLocals.{stay_typed}
 use Rattle.walrus_theorem.specs.Features.{features_of}
 use Rattle.walrus_theorem.specs.WellMade.{IsWellFormed}
 use Rattle.wasm_entries.specs.Record.{Group}
-use Rattle.wasm_frames.specs.Record.{Custom}
 use Rattle.walrus_edit_list.specs.Bringing.{BringsFunction}
 use Rattle.walrus_edit_list.specs.Fine.{IsFine}
 use Rattle.walrus_edit_list.specs.Formed.{AreFormed, IsFormed, SetsFormed}
@@ -104,14 +101,6 @@ below_is n found false is = absurd (cc)
 
 pub ids_in_place : (m : Contents) (space : Space) (n found : ℕ) → ids_of m space n ≡ Some found → found ≡ n
 ids_in_place m space n found is = below_is n found (nat_lt n (given m space)) is
-
--- bodies are formed still, where types, functions and locals are what they were
-pub same_formed : (c : Config) (a b : Contents) → b.types ≡ a.types → b.funcs ≡ a.funcs → b.locals ≡ a.locals → AreFormed c (contents_view a) → AreFormed c (contents_view b)
-same_formed c a b types funcs all was =
-    subst (λ slots. (i : ℕ) → Said (IsFormed c (contents_view b)) b.locals (item_at slots i)) (sym (ap functions funcs))
-    (all_kept (IsFormed c (contents_view a)) (IsFormed c (contents_view b)) a.locals b.locals
-    (still_formed c a b ([], ap type_slots types ∙ sym (append-nil (type_slots a.types))) ([], ap locals all ∙ sym (append-nil (locals a.locals))))
-    (functions a.funcs) was)
 
 -- ---- a body that was read
 

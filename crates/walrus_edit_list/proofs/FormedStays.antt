@@ -1,5 +1,5 @@
 -- A body stays well formed where types are the same.
-use Rattle.std.proofs.Common.{◌≡◌, ℕ, true, map, Option, Some, sym, ap, ◌∙◌, ◌++◌}
+use Rattle.std.proofs.Common.{◌≡◌, ℕ, map, Option, Some, sym, ap, ◌∙◌, ◌++◌}
 use Rattle.std.specs.Prelude.{slice_get}
 use Rattle.walrus_base.specs.TypeDef.{TypeDef}
 use Rattle.walrus_bodies.specs.FunctionTypes.{is_function_def}

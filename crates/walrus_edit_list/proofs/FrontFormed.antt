@@ -1,17 +1,15 @@
 -- A body with operators in front, which were read over its parameters, is well formed where it was.
-use Rattle.std.proofs.Common.{◌≡◌, ◌≢◌, ℕ, ◌+◌, ◌-◌, ◌<◌, ◌&&◌, ◌||◌, Bool, true, false, not, zero, suc, List, [], ◌∷◌, ◌++◌, map, length, take, Option, Some, None, refl, sym, ap, ap₂, ◌∙◌, subst, arith, append_assoc}
+use Rattle.std.proofs.Common.{◌≡◌, ℕ, ◌+◌, ◌-◌, ◌&&◌, ◌||◌, Bool, true, false, not, zero, suc, List, [], ◌∷◌, ◌++◌, map, length, take, Option, Some, refl, sym, ap, ◌∙◌, subst, arith, append_assoc}
 use Rattle.std.proofs.lemmas.Bool.{and_parts}
-use Rattle.std.proofs.lemmas.List.{map-append, length-append}
+use Rattle.std.proofs.lemmas.List.{map-append}
 use Rattle.std.proofs.lemmas.List.Folds.{list_all-append}
-use Rattle.std.proofs.lemmas.Option.{slice_get_within}
-use Rattle.std.proofs.Math.Seq.{take-append_seam}
 use Rattle.std.specs.Cmp.Derive.{both_true}
 use Rattle.std.specs.List.{list_all}
 use Rattle.std.specs.Prelude.{slice_get}
 use Rattle.wasm_forms.specs.Grammar.{IsRow}
 use Rattle.walrus_base.specs.Operators.{Space, Op}
 use Rattle.walrus_base.specs.Types.{ValType}
-use Rattle.walrus_bodies.specs.Blocks.{are_nested, args_hold, blocks_hold}
+use Rattle.walrus_bodies.specs.Blocks.{are_nested, args_hold}
 use Rattle.walrus_bodies.specs.Body.{BodyReads, OperatorsRead, context}
 use Rattle.walrus_bodies.specs.Features.{are_allowed, is_allowed, is_legacy, is_wide_arithmetic}
 use Rattle.walrus_bodies.specs.declared.features.Features.{Features}

@@ -1,5 +1,5 @@
 -- Operators that were looked up among fewer items are found among more.
-use Rattle.std.proofs.Common.{◌≡◌, ℕ, List, [], ◌∷◌, ◌++◌, map, Option, Some, None, IsSome, replicate, refl, sym, ap, ap₂, ◌∙◌, subst}
+use Rattle.std.proofs.Common.{◌≡◌, ℕ, List, [], ◌∷◌, ◌++◌, map, Option, Some, replicate, refl, sym, ap, ap₂, ◌∙◌}
 use Rattle.wasm_forms.specs.Reading.{◌>>=◌}
 use Rattle.wasm_forms.specs.declared.types.RawVal.{RawVal}
 use Rattle.wasm_forms.proofs.Bind.{bind_at, bind_some, some_same}

@@ -1,10 +1,10 @@
 -- Operators that stand in front of a body nest with it where they nest by themselves, closed.
-use Rattle.std.proofs.Common.{◌≡◌, ℕ, Bool, true, false, List, [], ◌∷◌, ◌++◌, Option, Some, None, cond, refl, sym, ap, ◌∙◌, subst}
+use Rattle.std.proofs.Common.{◌≡◌, ℕ, Bool, true, false, List, [], ◌∷◌, ◌++◌, Option, Some, None, cond, refl, sym, subst}
 use Rattle.std.proofs.lemmas.Bool.{false≢true as untrue}
-use Rattle.std.specs.Prelude.{nat_eq, if◌then◌else◌}
+use Rattle.std.specs.Prelude.{nat_eq}
 use Rattle.wasm_opcodes.specs.declared.one_byte.TheConstants.{IF, ELSE, TRY, CATCH, END, DELEGATE, CATCH_ALL}
 use Rattle.walrus_base.specs.Operators.{Arg, Op}
-use Rattle.walrus_bodies.specs.Blocks.{are_nested, behind_catch, behind_catch_all, behind_delegate, behind_else, behind_end, blocks_after, blocks_behind, blocks_meant, is_none_open, labels_below, nests, opens_plain}
+use Rattle.walrus_bodies.specs.Blocks.{are_nested, behind_catch, behind_catch_all, behind_delegate, behind_else, blocks_after, blocks_behind, blocks_meant, labels_below, nests, opens_plain}
 use Rattle.walrus_bodies.specs.declared.blocks.Opened.{Opened}
 use Rattle.walrus_bodies.specs.declared.blocks.Opened.TheVariants.{Plain, If, Try, Handled}
 

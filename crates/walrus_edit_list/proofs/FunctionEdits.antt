@@ -1,5 +1,5 @@
 -- What edits of functions make, from what their steps answer.
-use Rattle.std.proofs.Common.{◌≡◌, ℕ, ◌+◌, ◌<◌, ◌^◌, true, List, [], ◌∷◌, ◌++◌, length, Option, Some, None, IsSome, option_map, slice_set, refl, sym, ap, ◌∙◌, subst, inl, inr, arith, Err}
+use Rattle.std.proofs.Common.{◌≡◌, ℕ, ◌+◌, true, List, [], ◌∷◌, ◌++◌, length, Option, Some, option_map, slice_set, sym, ap, ◌∙◌, subst, inr, Err}
 use Rattle.wasm_entries.specs.Record.{Group}
 use Rattle.walrus_base.specs.Arena.{item_at}
 use Rattle.walrus_base.specs.Id.{place}

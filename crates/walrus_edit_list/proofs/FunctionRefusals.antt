@@ -1,12 +1,11 @@
 -- What a refusal of a step says of an edit of a function.
 use Rattle.std.proofs.Common.{◌≡◌, ℕ, List, Option, Some, None, IsSome, sym, subst}
-use Rattle.walrus_base.specs.Arena.{item_at}
 use Rattle.walrus_base.specs.Id.{place}
 use Rattle.walrus_bodies.specs.declared.features.Features.{Features}
 use Rattle.walrus_code.specs.Names.{Lookup}
 use Rattle.walrus_contents.specs.declared.parts.Contents.{Contents}
 use Rattle.walrus_items.specs.FunctionKinds.{kind_type}
-use Rattle.walrus_items.specs.Functions.{FunctionValue, functions}
+use Rattle.walrus_items.specs.Functions.{FunctionValue}
 use Rattle.walrus_items.specs.declared.error.Error.{Error}
 use Rattle.walrus_items.specs.declared.error.Error.TheVariants.{Caller, DeadItem, InvalidWasm, Memory, NoIndex, NoMemory, NotExported, NotFound, NotImported, NotReplaceable, NotWritable, SeveralFunctionTables, SeveralMemories, TooLarge, TwoIndices}
 use Rattle.walrus_items.specs.declared.function_kind.FunctionKind.{FunctionKind}

@@ -1,5 +1,5 @@
 -- From edit to edit bodies stay well formed, and the names of custom sections free.
-use Rattle.std.proofs.Common.{◌≡◌, ℕ, List, [], ◌∷◌, sym, ap, subst}
+use Rattle.std.proofs.Common.{ℕ, List, [], ◌∷◌, sym, ap, subst}
 use Rattle.std.specs.Prelude.{Contains, Option, Some, None}
 use Rattle.wasm_frames.specs.Frames as frames
 use Rattle.wasm_frames.specs.Frames.{Section}

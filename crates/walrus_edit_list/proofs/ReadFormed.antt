@@ -1,5 +1,5 @@
 -- A function that was read is well formed.
-use Rattle.std.proofs.Common.{◌≡◌, ◌≢◌, ℕ, zero, suc, ◌+◌, Bool, true, false, List, [], ◌∷◌, ◌++◌, map, length, drop, take, refl, sym, ap, ap₂, ◌∙◌, subst, arith, length-append}
+use Rattle.std.proofs.Common.{◌≡◌, ◌≢◌, ℕ, zero, suc, ◌+◌, Bool, true, List, [], ◌∷◌, ◌++◌, map, length, drop, take, refl, sym, ap, ap₂, ◌∙◌, subst, arith, length-append}
 use Rattle.std.specs.Prelude.{Option, Some, None, IsSome, AllPairs, slice_get}
 use Rattle.std.specs.Cmp.Derive.{both_true}
 use Rattle.std.specs.List.{range_with_len}
@@ -28,7 +28,7 @@ use Rattle.walrus_functions.specs.EmittedBody.{types_of}
 use Rattle.walrus_functions.specs.Handlers.{params_of}
 use Rattle.walrus_functions.specs.ReadFunction.{FunctionIsRead, StaysInFront, locals_from}
 use Rattle.walrus_functions.specs.Signatures.{slots_of}
-use Rattle.walrus_items.specs.Function.{args_of, body_of}
+use Rattle.walrus_items.specs.Function.{body_of}
 use Rattle.walrus_items.specs.LocalFunction.{LocalFunction}
 use Rattle.walrus_model.specs.Abstract.{Abstract}
 use Rattle.walrus_model.specs.Config.{Config}
