@@ -45,7 +45,7 @@ use Rattle.walrus_edit_list.specs.Held.{Held, customs, custom_value}
 use Rattle.walrus_edit_list.proofs.FormedStays.{stays_formed}
 use Rattle.walrus_edit_list.proofs.Keeping.{keep_fine}
 use Rattle.walrus_edit_list.proofs.ParsedFormed.{parsed_formed}
-use Rattle.walrus_edits.specs.Edited.{AnswersEdit, IsRead, MakesOf, RefusesOne, seen_whole}
+use Rattle.walrus_edits.specs.Edited.{AnswersEdit, IsRead, MakesOf, seen_whole}
 use Rattle.walrus_edits.specs.Ending.{Ends, EndsFormed, IsFormed}
 use Rattle.walrus_edits.specs.declared.refusal.Refusal.{Refusal}
 use Rattle.walrus_edits.specs.declared.refusal.Refusal.TheVariants.{Input, Edit, Whole}

@@ -137,14 +137,6 @@ pub rows_append : (some others : List (List Told)) → rows (some ++ others) ≡
 rows_append [] others = refl
 rows_append (part ∷ some) others = ap (λ l. row_bytes told_bytes part ++ l) (rows_append some others) ∙ sym (append_assoc (row_bytes told_bytes part) (rows some) (rows others))
 
-pub rows_fit_front : (some others : List (List Told)) → RowsFit (some ++ others) → RowsFit some
-rows_fit_front [] others h = tt
-rows_fit_front (part ∷ some) others h = (h.0, rows_fit_front some others h.1)
-
-pub rows_fit_back : (some others : List (List Told)) → RowsFit (some ++ others) → RowsFit others
-rows_fit_back [] others h = h
-rows_fit_back (part ∷ some) others h = rows_fit_back some others h.1
-
 pub rows_fit_both : (some others : List (List Told)) → RowsFit some → RowsFit others → RowsFit (some ++ others)
 rows_fit_both [] others h k = k
 rows_fit_both (part ∷ some) others h k = (h.0, rows_fit_both some others h.1 k)

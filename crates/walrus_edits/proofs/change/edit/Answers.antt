@@ -1,5 +1,5 @@
 use Rattle.std.proofs.Common.{ap, map, refl, ◌∙◌, subst}
-use Rattle.std.specs.Prelude.{Err, Ok}
+use Rattle.std.specs.Prelude.{Err}
 use Rattle.std.proofs.lemmas.Result.{err_from_is_err_and}
 use Rattle.walrus.specs.Modules.Customs.{sections}
 use Rattle.walrus.specs.Modules.Entry.{raw_in}
