@@ -10,6 +10,7 @@ KIND: small    many functions of a few operators each
       nest     one function of blocks, each in the one before
       labels   one function of one br_table, a label for each byte
       unused   functions that each declare 50,000 locals which nothing uses, a function for each 16 bytes: 300 have 0.0048 MB
+      locals   functions of 300 declared locals of four types, each used
       params   functions of one type, which has as many parameters as there are functions: 3,000 have 0.042 MB
       types    function types of ten parameters, each that of a function of its own: 100,000 have 3.2 MB
       rows     imports of functions, and as many globals: 294,000 of each have 10 MB

@@ -14,7 +14,7 @@ HERE = pathlib.Path(__file__).resolve().parent
 
 def _files() -> Iterator[Tuple[str, bytes]]:
     """What is installed, into one folder. A library that the system has stays where it is."""
-    for path in (*sorted((HERE / "mulkavesh").glob("*.py")), pathlib.Path(mulkavesh._library._name)):
+    for path in (*sorted((HERE / "mulkavesh").glob("*.py")), HERE / "mulkavesh" / "py.typed", pathlib.Path(mulkavesh._library._name)):
         if path.is_file():
             yield f"mulkavesh/{path.name}", path.read_bytes()
 

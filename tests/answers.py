@@ -1,13 +1,17 @@
 """What the callers of tests/c.sh answer, and what stands in modules, read anew: for tests/c.py and tests/roots.py."""
+import contextlib
 import re
 import struct
 import subprocess
 import sys
+import tempfile
 
 sys.dont_write_bytecode = True
 from hostile import joined, leb, number, sections
 
 NO_NAME = 2**32 - 1
+# More bytes than that are handed over in a file.
+MOST_BYTES_OF_A_WORD = 30_000
 INVALID, UNKNOWN_FLAG, NOT_FOUND = 1, 5, 6
 STATUSES = {
     (0, b""): 0,
@@ -30,8 +34,18 @@ def asked(caller, name, words):
 
 def call(caller, name, data, *words):
     """The status and the bytes that a call answers, or the number that it tells."""
-    status, output, _ = run(asked(caller, name, words), data)
+    with contextlib.ExitStack() as files:
+        words = [in_a_file(files, word) if isinstance(word, bytes) and len(word) > MOST_BYTES_OF_A_WORD else word for word in words]
+        status, output, _ = run(asked(caller, name, words), data)
     return status, output
+
+
+def in_a_file(files, data):
+    """The word for bytes that stand in a file."""
+    file = files.enter_context(tempfile.NamedTemporaryFile())
+    file.write(data)
+    file.flush()
+    return f"@{file.name}"
 
 
 def by_program(program, words, data):

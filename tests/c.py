@@ -7,8 +7,8 @@ It is what tests/c.sh does with the callers that it compiled, but for rooms and 
 REFUSED is refused.c as a shared library, COUNT says how many mutants, and FOLDER.. hold modules: those with a file NAME.expect are rows, whose words
 stand in NAME.args. The calls `gc` and `report` are held against the program: the same bytes, and the status that its own one and what it tells come
 to. So is `diagnose`, which has to say that nothing is wrong exactly where the program accepts, and against the faults that were worked out by hand
-(tests/faults.txt). The calls under a choice of exports, and `snip` and `stub`: tests/roots.py. The other calls are held against what stands in the modules
-themselves, `sections` and `strip` also of mutants that are none. Prints the finds and the counts.
+(tests/faults.txt). The calls under a choice of exports, and `snip` and `stub`: tests/roots.py. `read` and `edit`: tests/edit_lists.py. The other calls are held
+against what stands in the modules themselves, `sections` and `strip` also of mutants that are none. Prints the finds and the counts.
 """
 import collections
 import concurrent.futures
@@ -20,9 +20,9 @@ import sys
 
 sys.dont_write_bytecode = True
 from answers import (
-    INVALID, NOT_FOUND, NO_NAME, UNKNOWN_FLAG, by_program, call, asked, choice, entries, fits, framed, function_names, imports, imports_in, placed, records, section,
+    INVALID, NOT_FOUND, NO_NAME, by_program, call, asked, choice, entries, fits, framed, function_names, imports, imports_in, placed, records, section,
 )
-from edit_lists import all_kinds, as_gc, every_kind, in_the_items, made_or_refused, mutated_list
+from edit_lists import all_kinds, as_chosen, as_gc, as_snip, as_strip, as_stub, bodies_again, every_kind, in_the_items, refused_lists
 from hostile import bodies, mutated, number, sections
 from refused import requests_of
 from roots import in_the_chains, no_list, refused_first, snipped, stubbed, under_choices
@@ -325,15 +325,16 @@ def main():
     tries.all("items of modules", ((path.name, in_the_items, callers[flags // 4], data[path], flags) for path in taken for flags in (0, 4) if not flags or not legacy(static, data[path])))
     tries.all("edits of nothing", ((path.name, as_gc, callers, data[path], flags) for path in taken for flags in range(4)))
     tries.all("edits of every kind", ((path.name, all_kinds, callers, data[path], flags) for path in small for flags in (0, 8)))
+    ways_of_edits = (as_snip, as_stub, as_strip, as_chosen, bodies_again)
+    tries.all("lists that come to what other calls make", ((path.name, one, callers, data[path], flags) for path in taken for one in ways_of_edits for flags in (0, 3)))
     lists = [(path, [*every_kind(data[path], call(static, "read", data[path], 0)[1])]) for path in small if len(data[path]) < 12_000]
-    tries.all("lists of edits that are mutated", ((f"list {i} of {path.name}", made_or_refused, callers[i % 2], data[path], mutated_list(random.Random(f"{SEED}:{i}"), records), i // 2 % 2 * 8)
-              for i in range(int(count)) for path, records in [lists[i % len(lists)]]))
     calls = [(10, *it) for it in (("gc", 0), ("report", 0), ("list", 0), ("dropped", 0), ("why", 0, b"", b"0"), ("callers", 0, b"", b"0"), ("snip", 0, choice([b"*"])))]
     calls += [(10, "stub", 0, choice([b"*"])), (10, "gc", 0, records([(1, b"*"), (0, b"none")])), (5, "exports", 0), (5, "imports", 0)]
     calls += [(1, "diagnose", 0), (2, "sections"), (2, "parts"), (3, "strip", 0, choice([b"*"], [b"name"])), (10, "read", 0)]
     tiny = [path for path in small if len(data[path]) < MOST_BYTES_REFUSED]
     inputs = [(path.name, data[path], *one) for path in tiny for one in calls]
-    inputs += [(path.name, data[path], 20, "edit", flags, b"".join(records)) for path, records in lists if path in tiny for flags in (0, 8)]
+    inputs += [(path.name, data[path], 20, "edit", flags, b"".join(edits)) for path, edits in lists if path in tiny for flags in (0, 8)]
+    inputs += [(path.name, data[path], 5, "edit", flags, listed) for path, edits in lists if path in tiny for listed in refused_lists(edits) for flags in (0, 8)]
     inputs += [(why, given, 0, "diagnose", flags) for why, flags, _, given in faults()]
     tries.all("calls of which each request for memory was refused in turn", ((name, refused_in_turn, static, refused, *one) for name, *one in inputs))
     sys.exit(tries.finds > 0 or not taken)

@@ -1,22 +1,23 @@
 """What `read` and `edit` of C answer, beside what stands in the modules and what other calls answer: for tests/c.py. Lists of edits are made here, byte by byte
-(docs/FORMATS.md, "A list of edits"), and mutated.
+(docs/FORMATS.md, "A list of edits"); tests/edit_mutants.py mutates them.
 """
 import resource
 import subprocess
 import sys
 
 sys.dont_write_bytecode = True
-from answers import asked, call, customs, exports, imports, placed, section
-from hostile import bent, bodies, leb, number
+from answers import asked, call, choice, customs, exports, imports, placed, section
+from answers import records as names_listed
+from hostile import bodies, joined, leb, number, sections
+from roots import TRAP, plain
 
-DONE, INVALID, TOO_LARGE, NO_MEMORY, UNKNOWN_FLAG, BAD_EDIT, BAD_MODULE = 0, 1, 2, 3, 5, 7, 8
+DONE, BAD_EDIT, BAD_MODULE = 0, 7, 8
 GC = 8
-CAUSES = {4, 5, 7, 8, 9, 10, 11, 12, 13, 14}
 # The address space that a call may take beside what it is handed: what call.c has for its input and its output, and 64 MB.
 SPACE = (512 + 64 + 16) << 20
 TIMES = 20
-# Of longer lists no word can be made.
-MOST_BYTES_OF_A_LIST = 30_000
+# Of the functions, exports and custom sections of a module so many are tried, spread over all.
+MOST_TRIED = 24
 
 
 def record(kind, payload):
@@ -34,11 +35,6 @@ def told(listed):
         kind, (size, at) = listed[at], number(listed, at + 1)
         yield kind, listed[at : at + size]
         at += size
-
-
-def split(listed):
-    """The records of a list, each with its byte and its size."""
-    return [record(*one) for one in told(listed)]
 
 
 # ---- what is told of a module
@@ -161,7 +157,7 @@ def every_kind(data, listed):
     yield record(0, name(b"added") + b"bytes")
     yield record(17, b"\0" + leb(has[0]) + b"others")
     yield record(18, b"\0" + leb(has[0]))
-    for what, count in ((1, types), (4, has[4]), (5, memories), (6, globals_), (10, functions), (13, has[13])):
+    for what, count in ((1, types), (4, has[4]), (5, memories), (6, globals_), (9, has[9]), (10, functions), (11, has[11]), (13, has[13])):
         if count:
             yield record(20, bytes([what]) + leb(0) + name(b"named"))
             yield record(20, bytes([what]) + leb(0))
@@ -170,73 +166,12 @@ def every_kind(data, listed):
     yield record(21, name(b"sdk") + name(b"a") + name(b"1"))
 
 
-def mutated_list(rng, records):
-    """The records with some taken out, put in twice, turned about or bent."""
-    records = list(records)
-    for _ in range(rng.choice((1, 1, 2, 3))):
-        at, kind = rng.randrange(len(records)), rng.randrange(7)
-        if kind == 0 and len(records) > 1:
-            del records[at]
-        elif kind == 1:
-            records.insert(rng.randrange(len(records) + 1), records[at])
-        elif kind == 2:
-            rng.shuffle(records)
-        elif kind == 3:
-            records[at] = bent(rng, records[at])
-        elif kind == 4:
-            _, payload = next(told(records[at]), (0, b""))
-            records[at] = record(rng.randrange(26), payload)
-        else:
-            number_of, payload = next(told(records[at]), (0, b""))
-            records[at] = record(number_of, bent(rng, payload))
-        try:
-            records = split(b"".join(records)) if kind != 3 else records
-        except IndexError:
-            pass
-    return b"".join(records)
-
-
 def within(caller, name_of, data, *words):
     """What a call answers in the room that it may have."""
     space = SPACE + TIMES * (len(data) + sum(len(word) for word in words if isinstance(word, bytes)))
     limit = lambda: resource.setrlimit(resource.RLIMIT_AS, (space, space))
     ran = subprocess.run(asked(caller, name_of, words), input=data, capture_output=True, preexec_fn=limit, timeout=60, check=False)
     return ran.returncode, ran.stdout
-
-
-def at_most(listed, count):
-    """The first so many records of a list that begins with so many, or None where it has fewer."""
-    try:
-        return b"".join(record_of for _, record_of in zip(range(count), pieces(listed)))
-    except IndexError:
-        return None
-
-
-def pieces(listed):
-    at = 0
-    while at < len(listed):
-        size, end = number(listed, at + 1)
-        yield listed[at : end + size]
-        at = end + size
-
-
-def made_or_refused(caller, data, listed, flags):
-    """Where a list ends otherwise than by a status that tells what it has to."""
-    status, output = within(caller, "edit", data, flags, listed)
-    if status == DONE:
-        if call(caller, "diagnose", output, 0)[1] != bytes(8):
-            yield f"edit {flags} {listed.hex()}: what is written isn't taken"
-    elif status == BAD_EDIT:
-        made = int(output or 0)
-        front = at_most(listed, made)
-        before = within(caller, "edit", data, flags, front)[0] if front is not None else None
-        if before not in (DONE, BAD_MODULE):
-            yield f"edit {flags} {listed.hex()}: {made} edits can be made, and they end by status {before}"
-    elif status == BAD_MODULE:
-        if int(output or 0) not in CAUSES:
-            yield f"edit {flags} {listed.hex()}: the cause is {output!r}"
-    else:
-        yield f"edit {flags} {listed.hex()}: status {status}"
 
 
 def all_kinds(callers, data, flags):
@@ -255,3 +190,112 @@ def all_kinds(callers, data, flags):
     status, output = call(callers[0], "edit", data, flags, b"".join(records) + b"\x63\0")
     if (status, output) != (BAD_EDIT, b"%d" % len(records)):
         yield f"edit {flags}: an edit that is none behind {len(records)}: status {status}, {output!r}"
+
+
+# ---- lists that come to what other calls make
+
+
+def spread(items):
+    """Some of many, from first to last."""
+    items = [*items]
+    return items if len(items) <= MOST_TRIED else [items[at * (len(items) - 1) // (MOST_TRIED - 1)] for at in range(MOST_TRIED)]
+
+
+def own_bodies(caller, data):
+    """The id and the body of each function that has one."""
+    functions = (payload for kind, payload in told(call(caller, "read", data, 0)[1]) if kind == 10)
+    for index, payload in enumerate(functions):
+        if payload[0] == 0:
+            _, place, size = numbers(payload, 1)
+            yield index, data[place : place + size]
+
+
+def trap(index):
+    """A function has a body that traps."""
+    return record(17, b"\x0A" + leb(index) + TRAP)
+
+
+def beside(caller, data, flags, listed, wanted, what):
+    """Where a list, with gc, comes to something else than another call."""
+    found = call(caller, "edit", data, flags | GC, listed)
+    if found != wanted:
+        yield f"edit {flags | GC}, {what}: status {found[0]} and {len(found[1])} bytes, and not {wanted[0]} and {len(wanted[1])}"
+
+
+def as_snip(callers, data, flags):
+    """Where bodies that are set to trap aren't what `snip` writes: of functions alone, and of all at once."""
+    indices = [index for index, _ in own_bodies(callers[0], data)]
+    for which, some in enumerate([*([index] for index in spread(indices)), indices] if indices else []):
+        wanted = call(callers[which % 2], "snip", data, flags, choice([b"%d" % index for index in some]))
+        yield from beside(callers[which % 2], data, flags, b"".join(map(trap, some)), wanted, f"a trap in {some[:9]}")
+
+
+def as_stub(callers, data, flags):
+    """Where imported functions that are set to trap aren't what `stub` writes: of each module that is imported from, and of the names of one."""
+    functions = [one[:2] for one in imports(data) if one[2] == 0]
+    for which, module in enumerate(dict.fromkeys(module for module, _ in functions)):
+        listed = b"".join(trap(index) for index, one in enumerate(functions) if one[0] == module)
+        wanted = call(callers[which % 2], "stub", data, flags, choice([plain(module)]))
+        yield from beside(callers[which % 2], data, flags, listed, wanted, f"traps for {module}")
+    for which, (module, name_of) in enumerate(spread(dict.fromkeys(functions))):
+        listed = b"".join(trap(index) for index, one in enumerate(functions) if one == (module, name_of))
+        wanted = call(callers[which % 2], "stub", data, flags, choice([plain(module)]), choice([plain(name_of)]))
+        yield from beside(callers[which % 2], data, flags, listed, wanted, f"traps for {module} {name_of}")
+
+
+def as_strip(callers, data, flags):
+    """Where custom sections that are deleted aren't what `strip` leaves, and gc of it."""
+    apart = [its for its, _ in customs(data) if its not in (b"name", b"producers") and not its.startswith(b".debug")]
+    for which, name_of in enumerate([*spread(dict.fromkeys(apart)), None] if apart else []):
+        listed = b"".join(record(18, b"\0" + leb(at)) for at, its in enumerate(apart) if name_of in (None, its))
+        names = [name_of] if name_of is not None else [*dict.fromkeys(apart)]
+        left = call(callers[which % 2], "strip", data, 0, choice([plain(its) for its in names]))[1]
+        yield from beside(callers[which % 2], data, flags, listed, call(callers[which % 2], "gc", left, flags), f"without {names}")
+
+
+def as_chosen(callers, data, flags):
+    """Where exports that are deleted aren't those that go by a choice: all but one, one alone, and all."""
+    names = [name_of for name_of, *_ in exports(data)]
+    for which, name_of in enumerate(spread(names)):
+        for kind, goes in ((1, lambda it: it != name_of), (0, lambda it: it == name_of)):
+            listed = b"".join(record(18, b"\x07" + leb(at)) for at, its in enumerate(names) if goes(its))
+            wanted = call(callers[which % 2], "gc", data, flags, names_listed([(kind, plain(name_of))]))
+            yield from beside(callers[which % 2], data, flags, listed, wanted, f"exports chosen by {kind} {name_of}")
+    if names:
+        listed = b"".join(record(18, b"\x07" + leb(at)) for at in range(len(names)))
+        yield from beside(callers[0], data, flags, listed, call(callers[0], "gc", data, flags, names_listed([(0, b"*")])), "no exports")
+
+
+def without_locals(module):
+    """The module without the names of locals in its name section, which goes where nothing is left in it."""
+    found = []
+    for number_of, content in sections(module):
+        if number_of == 0 and content.startswith(name(b"name")):
+            listed = b"".join(record(kind, payload) for kind, payload in told(content[5:]) if kind != 2)
+            content = name(b"name") + listed if listed else None
+        found += [] if content is None else [(number_of, content)]
+    return joined(found)
+
+
+def bodies_again(callers, data, flags):
+    """Where each function's own body, set again, comes to other bytes but for names of locals: of all functions at once, and of some alone under gc."""
+    own = [*own_bodies(callers[0], data)]
+    again = [record(17, b"\x0A" + leb(index) + body) for index, body in own]
+    for which, caller in enumerate(callers):
+        for gc in (0, GC):
+            _, wanted = call(caller, "edit", data, flags | gc, b"")
+            status, output = call(caller, "edit", data, flags | gc, b"".join(again))
+            if status or output != (without_locals(wanted) if own else wanted):
+                yield f"edit {flags | gc}, all bodies again: status {status} and {len(output)} bytes, and not {len(wanted)}"
+    wanted = without_locals(call(callers[0], "edit", data, flags | GC, b"")[1])
+    for (index, _), one in zip(spread(own), spread(again)):
+        status, output = call(callers[0], "edit", data, flags | GC, one)
+        if status or without_locals(output) != wanted:
+            yield f"edit {flags | GC}, body {index} again: status {status} and {len(output)} bytes, and not {len(wanted)}"
+
+
+def refused_lists(edits):
+    """Lists that are refused, made of edits that can be made: an edit that is none behind all, one that is cut, and two exports of one name."""
+    export = next(edit for edit in edits if edit[0] == 7)
+    front = b"".join(edits)
+    yield from (front + b"\x63\0", front[:-1], b"".join(edits[: edits.index(export) + 1]) + export)

@@ -6,7 +6,8 @@
 #   cargo test   each call on worked modules, in the tests and in the docs, `diagnose` and refusals on the bytes of faults.txt, and all on those of
 #                tests/samples and ../shared/samples (where it is there): `gc`, `report` and `diagnose` beside the program, over mutants of the small
 #                ones too, `sections` and `strip` beside what stands in them, and the other calls beside one another; in four threads at once. Modules that are
-#                changed: each field of each item of a small one, those of the samples beside `gc`, `snip`, `stub` and `strip`, and the examples that change one
+#                changed: each field of each item of small ones, those of the samples beside `gc`, `snip`, `stub` and `strip`, and the examples that change one
+#   cargo doc    without a warning
 #   shrink_last  the example, on a module in a file: it is what the program writes, alone; and what is refused stays as it was, and what is wrong is told
 # Prints the counts and a line for each find. Where there is no cargo, nothing is run, and the status is 2. Half a minute of one processor.
 set -eu
@@ -44,6 +45,8 @@ cargo test --offline --locked --no-fail-fast --workspace --manifest-path "$top/r
 [ "$status" = 0 ] || grep -Ev '^(test .* ok|running|$)' "$work/told" | tail -n 60
 grep -oE '(not )?compared: .*' "$work/told" | awk '!seen[$0]++ { print "tests/rust.sh: " $0 }'
 awk '/^test result:/ { passed += $4; failed += $6 } END { printf "tests/rust.sh: %d tests passed, %d failed\n", passed, failed }' "$work/told"
+RUSTDOCFLAGS="-D warnings" cargo doc --quiet --offline --locked --no-deps --workspace --manifest-path "$top/rust/Cargo.toml" > "$work/told" 2>&1 ||
+  find_is "cargo doc: $(grep -m 3 -E '^(error|warning)' "$work/told")"
 shrinks || find_is "shrink_last leaves other files: $(cat "$work/said")"
 [ "$status" = 0 ] && echo "tests/rust.sh: no finds" || echo "tests/rust.sh: there are finds"
 exit "$status"

@@ -7,7 +7,8 @@
 #   beside.mjs   the modules of tests/samples, ../shared/samples (where it is there), made ones of tests/made (where wabt is there) and 2,000 mutants of them,
 #                beside the program under its words: the same bytes and statuses, and a fault where it refuses; `sections`, `strip` and `exports` beside what
 #                stands there; half of the exports chosen in several ways; chains, callers and what would go with a function beside lists and what `snip` leaves
-#   module.mjs   modules that are changed by `mulkavesh/module`: each field of each item on a small one; those of tests/samples and ../shared/samples beside `gc`,
+#   fields.mjs   each field of each item of a small module, changed by `mulkavesh/module`
+#   module.mjs   modules that are changed by `mulkavesh/module`: a small one; those of tests/samples and ../shared/samples beside `gc`,
 #                `snip` and `stub`; and a program over the packages' types, where a TypeScript compiler is (Debian's node-typescript)
 #   browser.py   the page in a headless Chromium (where one is there; chromium.py drives it): drops, the counts, lists, chains and download of these modules,
 #                with all exports ticked and with some, beside the program and the library; keys alone, refusals, 20 MB, the policy, wide and narrow.
@@ -59,6 +60,7 @@ fi
 mkdir "$work/mutants" && make_mutants "${modules[@]}"
 node "$top/tests/web/worked.mjs" "$folder" || status=1
 node "$top/tests/web/beside.mjs" "$folder" "$program" "$work/mutants" "${modules[@]}" || status=1
+node "$top/tests/web/fields.mjs" "$folder" || status=1
 node "$top/tests/web/module.mjs" "$folder" "${real[@]}" || status=1
 if command -v tsc > /dev/null; then
   mkdir -p "$work/types/node_modules" && ln -s "$folder" "$work/types/node_modules/mulkavesh" && cp "$top/tests/web/types.mts" "$work/types"

@@ -1,12 +1,14 @@
 #!/usr/bin/env bash
-# Puts in what the scripts of this folder compare with, as Debian's packages: wabt (wat2wasm, wasm-objdump, wasm-validate), binaryen (wasm-opt) and
-# nodejs (node); and what c.sh, rust.sh, python.sh and web.sh compile and run: g++ (cc, c++, nm), cargo, python3 and a Chromium, of which any will do. What is
-# there stays. Where a package can't be put in, it says which commands are missing, and ends with status 1: what is compared with them isn't compared then.
+# Puts in what the scripts of tests/ compare with, as Debian's packages: wabt (wat2wasm, wasm-objdump, wasm-validate), binaryen (wasm-opt) and
+# nodejs (node); what c.sh, rust.sh, python.sh and web.sh compile and run: g++ (cc, c++, nm), cargo, python3 and a Chromium, of which any will do; and what
+# looks at types, mypy and node-typescript (tsc). What is there stays. The Chromium comes last, by itself, since it is large. Where a package can't be put in, it
+# says which commands are missing, and ends with status 1: what is compared with them isn't compared then.
 # `.ci/run` calls it, with a limit on its time. tools/install.sh [--look]: with --look nothing is put in.
 set -u
 here=$(dirname "$0")
 declare -A package=([wat2wasm]=wabt [wasm-objdump]=wabt [wasm-validate]=wabt [wasm-opt]=binaryen [node]=nodejs
-  [cc]=g++ [c++]=g++ [nm]=binutils [cargo]=cargo [python3]=python3 [chromium]=chromium-headless-shell)
+  [cc]=g++ [c++]=g++ [nm]=binutils [cargo]=cargo [python3]=python3 [mypy]=mypy [tsc]=node-typescript
+  [chromium]=chromium-headless-shell)
 
 # Whether a command is there, or what stands for it.
 there() {
@@ -36,9 +38,10 @@ put_in() {
 
 mapfile -t lacking < <(missing)
 if [ "${#lacking[@]}" -gt 0 ] && [ "${1-}" != --look ]; then
-  mapfile -t wanted < <(packages "${lacking[@]}")
+  mapfile -t wanted < <(packages "${lacking[@]}" | grep -v '^chromium')
   # Where one of them isn't known, none is put in: then each by itself.
-  put_in "${wanted[@]}" || for one in "${wanted[@]}"; do put_in "$one" || true; done
+  [ "${#wanted[@]}" = 0 ] || put_in "${wanted[@]}" || for one in "${wanted[@]}"; do put_in "$one" || true; done
+  there chromium || put_in "${package[chromium]}" || true
   mapfile -t lacking < <(missing)
 fi
 [ "${#lacking[@]}" = 0 ] || { echo "tools/install.sh: there is no ${lacking[*]}" >&2; exit 1; }

@@ -10,8 +10,8 @@ const ACTIVE = 2, PASSIVE = 1, DECLARED = 3, EXPRESSIONS = 4;
 const WHY = {
   gone: "an item of its kind can't go",
   isNew: "an item of its kind can't be added",
-  fixed: 'nothing but its name can be changed',
   import: "its import can't be changed",
+  locals: "the names of its locals can't be changed",
   type: "its type isn't there, or isn't one of functions",
   body: "its body isn't well formed, or names what isn't there",
   front: "what stands in front of its body isn't well formed, or names what isn't there",
@@ -22,6 +22,11 @@ const WHY = {
   custom: 'the library writes sections of its name itself, or none',
   field: "its field isn't `language`, `processed-by` or `sdk`",
   absent: "it isn't there",
+  fixed: (key) => `its \`${key}\` can't be changed, only its name`,
+  brought: (key) => `its \`${key}\` can't be changed, since an import brings it`,
+  both: (what) => `it has a ${what} and an import`,
+  neither: (what) => `it has neither a ${what} nor an import`,
+  offset: (what) => `it has an offset, and no ${what}`,
 };
 
 /** An item that can't be written as it is, and why. */
@@ -47,7 +52,9 @@ function same(one, other) {
 }
 
 const sameIn = (one, other, ...keys) => keys.every((key) => same(one[key], other[key]));
-const allButName = (one, other) => same({ ...one, name: null }, { ...other, name: null });
+// The first of these fields that differs, or undefined.
+const differing = (one, other, ...keys) => keys.find((key) => !same(one[key], other[key]));
+const butForName = (one, other) => differing(one, other, ...Object.keys(one).filter((key) => key !== 'name'));
 const byte = (...flags) => flags.reduce((sum, [is, bit]) => sum | (is ? bit : 0), 0);
 
 function limits(it) {
@@ -61,13 +68,18 @@ const spelled = {
   export: (it) => joined(name(it.name), KINDS.indexOf(it.item.kind), number(it.item.id)),
   element(it) {
     const mode = it.table !== null ? ACTIVE : it.declared ? DECLARED : PASSIVE;
-    const front = joined(mode | (it.type ? EXPRESSIONS : 0), it.table === null ? [] : joined(number(it.table), it.offset));
+    const front = joined(mode | (it.type ? EXPRESSIONS : 0), it.table === null ? [] : joined(number(it.table), it.offset ?? []));
     return joined(front, it.type ? valueType(it.type) : 0, vector(it.items.map((one) => (typeof one === 'number' ? number(one) : one))));
   },
-  data: (it) => joined(it.memory === null ? PASSIVE : joined(ACTIVE, number(it.memory), it.offset), block(it.value)),
+  data: (it) => joined(it.memory === null ? PASSIVE : joined(ACTIVE, number(it.memory), it.offset ?? []), block(it.value)),
 };
 
 const EMPTY = { element: { items: [], table: null, type: null, declared: false }, data: { value: [], memory: null } };
+
+function refuseAllButName(item, was, now) {
+  const key = butForName(was, now);
+  if (key) refuse(item, WHY.fixed(key));
+}
 
 /** The edits so far, and of which item each came, with what is wrong with that where the library refuses it. */
 class Edits {
@@ -120,7 +132,7 @@ class Differ {
     for (const { item, was, now } of this.pairs('type')) {
       if (now === undefined) refuse(item, WHY.gone);
       if (was !== undefined) {
-        if (!allButName(was, now)) refuse(item, WHY.fixed);
+        refuseAllButName(item, was, now);
       } else if (now.params === null) {
         refuse(item, 'only types of functions come');
       } else {
@@ -137,20 +149,27 @@ class Differ {
     return found;
   }
 
-  // What was there of a function, of which the body comes later.
+  // What was there of a function, of which the body comes later. Names of its locals go with another body.
   changeFunction(pair, brought) {
     const { item, was, now } = pair;
     if (was.type !== now.type) refuse(item, "its type can't be changed");
-    if (now.body === null && now.imported === null) refuse(item, 'it has neither a body nor an import');
+    if (now.body === null && now.imported === null) refuse(item, WHY.neither('body'));
+    const stays = same(was.body?.data, now.body?.data);
+    if (!same(was.localNames, now.localNames) && (stays || now.localNames.size > 0)) refuse(item, WHY.locals);
     if (now.body !== null) {
-      if (now.imported !== null && now.imported !== was.imported) refuse(item, 'it has a body and an import');
+      if (now.imported !== null && now.imported !== was.imported) refuse(item, WHY.both('body'));
       if (was.imported !== null) this.done.add(was.imported);
-      if (was.body !== null && same(was.body.data, now.body.data) && !same(was.localNames, now.localNames)) refuse(item, "the names of its locals can't be changed");
     } else if (was.imported === null && !brought.has(now.imported)) {
       brought.set(now.imported, pair);
-    } else if (was.imported !== now.imported || !same(was.localNames, now.localNames)) {
+    } else if (was.imported !== now.imported) {
       refuse(item, WHY.import);
     }
+  }
+
+  // Refuses an item that is new and has a body or a value, and an import too that isn't its own. Its own one is gone.
+  own({ item, now }, what) {
+    const its = now.imported !== null && now.imported >= this.was.imports.nextId ? this.now.imports.get(now.imported)?.item : undefined;
+    if (now.imported !== null && !same(its, item)) refuse(item, WHY.both(what));
   }
 
   // Has functions imported by those of these imports that come before this one.
@@ -162,14 +181,17 @@ class Differ {
     }
   }
 
-  addFunction({ item, now }, brought) {
+  addFunction(pair, brought) {
+    const { item, now } = pair;
+    if (now.localNames.size > 0) refuse(item, WHY.locals);
     if (now.body !== null) {
+      this.own(pair, 'body');
       this.edits.put(ADD_FUNCTION, joined(number(now.type), TRAP), item, WHY.type);
     } else if (now.imported !== null) {
       this.bring(brought, now.imported);
       this.edits.add(SECTIONS.import, spelled.import(this.newImport(now.imported, item), number(now.type)), item, WHY.type);
     } else {
-      refuse(item, 'it has neither a body nor an import');
+      refuse(item, WHY.neither('body'));
     }
   }
 
@@ -198,7 +220,7 @@ class Differ {
     for (const kind of ['table', 'tag']) {
       for (const { item, was, now } of this.pairs(kind)) {
         if (was === undefined || now === undefined) refuse(item, was === undefined ? WHY.isNew : WHY.gone);
-        if (!allButName(was, now)) refuse(item, WHY.fixed);
+        refuseAllButName(item, was, now);
       }
     }
   }
@@ -207,26 +229,29 @@ class Differ {
     for (const { item, was, now } of this.pairs('memory')) {
       if (was === undefined || now === undefined) refuse(item, was === undefined ? WHY.isNew : WHY.gone);
       if (was.imported !== now.imported) refuse(item, WHY.import);
-      if (!allButName(was, now)) this.edits.set(SECTIONS.memory, limits(now), item, "its limits can't be spelled");
+      if (butForName(was, now)) this.edits.set(SECTIONS.memory, limits(now), item, "its limits can't be spelled");
     }
   }
 
   // Whether what was read of a global comes anew.
   isSet({ item, was, now }) {
     if (now.init !== null) {
-      if (now.imported !== null && now.imported !== was.imported) refuse(item, 'it has a value and an import');
+      if (now.imported !== null && now.imported !== was.imported) refuse(item, WHY.both('value'));
       if (was.imported !== null) this.done.add(was.imported);
       return !sameIn(was, now, 'type', 'mutable', 'shared', 'init');
     }
-    if (was.imported === null) refuse(item, now.imported === null ? 'it has neither a value nor an import' : "it can't come to be imported");
+    if (was.imported === null) refuse(item, now.imported === null ? WHY.neither('value') : "it can't come to be imported");
     if (was.imported !== now.imported) refuse(item, WHY.import);
-    if (!sameIn(was, now, 'type', 'mutable', 'shared')) refuse(item, "its type can't be changed, since an import brings it");
+    const key = differing(was, now, 'type', 'mutable', 'shared');
+    if (key) refuse(item, WHY.brought(key));
     return false;
   }
 
-  addGlobal({ item, now }) {
+  addGlobal(pair) {
+    const { item, now } = pair;
+    if (now.init !== null) this.own(pair, 'value');
     if (now.init !== null) this.edits.add(SECTIONS.global, spelled.global(now), item, WHY.global);
-    else if (now.imported === null) refuse(item, 'it has neither a value nor an import');
+    else if (now.imported === null) refuse(item, WHY.neither('value'));
     else this.edits.add(SECTIONS.import, spelled.import(this.newImport(now.imported, item), spelled.global(now)), item, WHY.global);
   }
 
@@ -246,17 +271,26 @@ class Differ {
     if (now === undefined) this.edits.delete(SECTIONS[kind], item);
   }
 
+  // A new segment that has what it doesn't need is refused.
   elements() {
     for (const pair of this.pairs('element')) {
-      if (pair.isNew || pair.now === undefined) this.segment('element', pair);
-      else if (!allButName(pair.was, pair.now)) refuse(pair.item, WHY.fixed);
+      const { item, was, now, isNew } = pair;
+      if (isNew && now !== undefined) {
+        if (now.table === null && now.offset?.length) refuse(item, WHY.offset('table'));
+        if (now.table !== null && now.declared) refuse(item, 'it has a table, and declares functions');
+        if (now.items.some((one) => (typeof one === 'number') !== (now.type === null))) refuse(item, 'it lists functions and has a `type`, or expressions and has none');
+      }
+      if (isNew || now === undefined) this.segment('element', pair);
+      else refuseAllButName(item, was, now);
     }
   }
 
   data() {
     for (const pair of this.pairs('data')) {
-      if (pair.isNew || pair.now === undefined) this.segment('data', pair);
-      else if (!allButName(pair.was, pair.now)) this.edits.set(SECTIONS.data, spelled.data(pair.now), pair.item, WHY.data);
+      const { item, was, now, isNew } = pair;
+      if (now?.memory === null && now.offset?.length && (isNew || !same(was.offset, now.offset))) refuse(item, WHY.offset('memory'));
+      if (isNew || now === undefined) this.segment('data', pair);
+      else if (butForName(was, now)) this.edits.set(SECTIONS.data, spelled.data(pair.now), pair.item, WHY.data);
     }
   }
 

@@ -16,7 +16,7 @@ export const HAS_MAXIMUM = 1, LIMITS_SHARED = 2, WIDE = 4, HAS_PAGE = 8, MUTABLE
 const OF_FUNCTIONS = 0x60, GROUP = 0x4E;
 const NAMED_BY = new Map(Object.entries(NAMED).map(([kind, arena]) => [SECTIONS[kind], arena]));
 
-/** The items of one kind by their ids. An item of the input has its index there, and none is used again. */
+/** The items of one kind by their ids. An item of the input has its index there, and none is used again. An item gets no field that it hasn't. */
 export class Arena {
   #items = new Map();
   #next = 0;
@@ -68,7 +68,7 @@ export class Arena {
 
   static put(arena, item) {
     const id = arena.#next++;
-    arena.#items.set(id, item);
+    arena.#items.set(id, Object.seal(item));
     return id;
   }
 

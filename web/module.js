@@ -7,7 +7,7 @@
 //     const changed = module.emitWasm({ gc: true });
 //
 // Items are plain values: `fromBuffer` reads them, and `emitWasm` makes a module of the input and of what differs by then. So their fields are written as any. What can't
-// be changed is refused by `emitWasm`, with the item; nothing is passed over. module.d.ts says what each item has.
+// be changed is refused by `emitWasm`, with the item and the field; nothing is passed over. module.d.ts says what each item has.
 import { Body, InstrSeqBuilder } from './code.js';
 import { Refused, between } from './differ.js';
 import { Arena, Items } from './items.js';
@@ -149,6 +149,7 @@ export class Module extends Items {
     this.#library = library;
     this.#input = input;
     this.#told = told;
+    Object.seal(this);
   }
 
   /** The module that the bytes are, over the calls that `load` answered. InvalidModule where they are none that keeps the rules. */

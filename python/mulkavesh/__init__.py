@@ -633,7 +633,8 @@ def _report(lines: str) -> Report:
     """What the lines say that the library tells: seven of items, and three of bytes in front of what follows from them."""
     numbers = [[int(word) for word in line.split() if word.isdigit()] for line in lines.splitlines()]
     (read, written), (lost,), (debug,) = numbers[7:10]
-    return Report(*(Counts(kept, gone) for kept, gone in numbers[:7]), bytes=Sizes(read, written, lost, debug))
+    functions, tables, memories, tags, globals_, elements, data = (Counts(kept, gone) for kept, gone in numbers[:7])
+    return Report(functions, tables, memories, tags, globals_, elements, data, Sizes(read, written, lost, debug))
 
 
 def _sections(told: bytes) -> Sections:

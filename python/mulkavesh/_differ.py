@@ -5,7 +5,7 @@ from typing import Any, Callable, Dict, Iterator, List, NamedTuple, Optional, Se
 from mulkavesh._told import GLOBAL_SHARED, HAS_MAXIMUM, HAS_PAGE, LIMITS_SHARED, MUTABLE, NAMED, SECTIONS, WIDE, Items
 from mulkavesh._wire import block, name, number, value_type, value_types, vector
 from mulkavesh.items import (
-    FUNCTION, GLOBAL, KINDS, MEMORY, TABLE, TAG, Arena, CustomSection, Data, Element, Export, Function, FunctionId, Global, Import, Memory, Type,
+    FUNCTION, GLOBAL, KINDS, MEMORY, TABLE, TAG, Arena, CustomSection, Data, Element, Export, Function, FunctionId, Global, Import, Memory,
 )
 
 _ADD_FUNCTION, _SET, _DELETE, _BRING, _NAME, _PRODUCER, _NO_PRODUCERS, _FRONT = range(16, 24)
@@ -14,14 +14,18 @@ _TRAP = b"\0\0\x0B"
 # The flags of segments: written at first, for operators, to declare; and beside these, that expressions are listed.
 _ACTIVE, _PASSIVE, _DECLARED, _EXPRESSIONS = 2, 1, 3, 4
 
-_GONE, _NEW, _FIXED = "an item of its kind can't go", "an item of its kind can't be added", "nothing but its name can be changed"
+_GONE, _NEW = "an item of its kind can't go", "an item of its kind can't be added"
+_FIXED = "its `{}` can't be changed, only its name"
 _IMPORT = "its import can't be changed"
+_LOCALS = "the names of its locals can't be changed"
+_BOTH, _NEITHER = "it has a {} and an import", "it has neither a {} nor an import"
 _TYPELESS = "its type isn't there, or isn't one of functions"
 _BODY = "its body isn't well formed, or names what isn't there"
 _IN_FRONT = "what stands in front of its body isn't well formed, or names what isn't there"
 _GLOBAL = "its type or its initialiser isn't well formed, or names what isn't there"
 _ELEMENT = "its table, its offset or what it lists isn't there, or isn't well formed"
 _DATA = "its memory isn't there, or its offset isn't well formed"
+_OFFSET = "it has an offset, and no {}"
 _EXPORT = "what it exports isn't there"
 _SECTION = "the library writes sections of its name itself, or none"
 _FIELD = "its field isn't `language`, `processed-by` or `sdk`"
@@ -117,13 +121,16 @@ def _pairs(what: str, was: "Arena[Any, Any]", now: "Arena[Any, Any]") -> Iterato
             yield Pair((what, id_), old, new, is_new)
 
 
-def _differ(was: Any, now: Any, *fields: str) -> bool:
-    """Whether one of these fields differs."""
-    return any(getattr(was, field) != getattr(now, field) for field in fields)
+def _differing(was: Any, now: Any, *fields: str) -> Optional[str]:
+    """The first of these fields that differs, or None."""
+    return next((field for field in fields if getattr(was, field) != getattr(now, field)), None)
 
 
-def _all_but_name(kind: type) -> Tuple[str, ...]:
-    return tuple(field.name for field in dataclasses.fields(kind) if field.name != "name")
+def _refuse_all_but_name(it: Pair) -> None:
+    """Refuses an item, of which another field than its name differs."""
+    field = _differing(it.was, it.now, *(field.name for field in dataclasses.fields(it.was) if field.name != "name"))
+    if field is not None:
+        raise Refused(it.which, _FIXED.format(field))
 
 
 class Differ:
@@ -146,11 +153,10 @@ class Differ:
 
     def types(self) -> None:
         for it in self.pairs("type"):
-            if it.was is not None and it.now is not None:
-                if _differ(it.was, it.now, *_all_but_name(Type)):
-                    raise Refused(it.which, _FIXED)
-            elif it.now is None:
+            if it.now is None:
                 raise Refused(it.which, _GONE)
+            if it.was is not None:
+                _refuse_all_but_name(it)
             elif it.now.params is None or it.now.results is None:
                 raise Refused(it.which, "only types of functions come")
             else:
@@ -170,17 +176,19 @@ class Differ:
         if was.type != now.type:
             raise Refused(it.which, "its type can't be changed")
         if now.body is None and now.imported is None:
-            raise Refused(it.which, "it has neither a body nor an import")
+            raise Refused(it.which, _NEITHER.format("body"))
+        # they go with another body
+        stays = (was.body and was.body.data) == (now.body and now.body.data)
+        if was.local_names != now.local_names and (stays or now.local_names):
+            raise Refused(it.which, _LOCALS)
         if now.body is not None:
             if now.imported not in (None, was.imported):
-                raise Refused(it.which, "it has a body and an import")
+                raise Refused(it.which, _BOTH.format("body"))
             if was.imported is not None:
                 self.done.add(was.imported)
-            if was.body is not None and was.body.data == now.body.data and was.local_names != now.local_names:
-                raise Refused(it.which, "the names of its locals can't be changed")
         elif was.imported is None and now.imported not in brought:
             brought[now.imported] = it
-        elif was.imported != now.imported or was.local_names != now.local_names:
+        elif was.imported != now.imported:
             raise Refused(it.which, _IMPORT)
 
     def bring(self, brought: Dict[int, Pair], end: Optional[int] = None) -> None:
@@ -190,15 +198,26 @@ class Differ:
             found = self.new_import(id_, it.which)
             self.edits.put(_BRING, b"\0" + number(it.id) + name(found.module) + name(found.name), it.which)
 
+    def own(self, it: Pair, what: str) -> None:
+        """Refuses an item that is new and has a body or a value, and an import too that isn't its own. Its own one is gone."""
+        id_: Optional[int] = it.now.imported
+        if id_ is not None:
+            found = self.now.imports.get(id_)
+            if found is None or id_ < self.was.imports._next or tuple(found.kind) != it.which:
+                raise Refused(it.which, _BOTH.format(what))
+
     def add_function(self, it: Pair, brought: Dict[int, Pair]) -> None:
         now: Function = it.now
+        if now.local_names:
+            raise Refused(it.which, _LOCALS)
         if now.body is not None:
+            self.own(it, "body")
             self.edits.put(_ADD_FUNCTION, number(now.type) + _TRAP, it.which, _TYPELESS)
         elif now.imported is not None:
             self.bring(brought, now.imported)
             self.edits.add(2, _import(self.new_import(now.imported, it.which), number(now.type)), it.which, _TYPELESS)
         else:
-            raise Refused(it.which, "it has neither a body nor an import")
+            raise Refused(it.which, _NEITHER.format("body"))
 
     def functions(self) -> None:
         """New imports come in their order."""
@@ -228,8 +247,7 @@ class Differ:
             for it in self.pairs(kind):
                 if it.was is None or it.now is None:
                     raise Refused(it.which, _NEW if it.was is None else _GONE)
-                if _differ(it.was, it.now, *_all_but_name(type(it.was))):
-                    raise Refused(it.which, _FIXED)
+                _refuse_all_but_name(it)
 
     def memories(self) -> None:
         for it in self.pairs(MEMORY):
@@ -245,26 +263,28 @@ class Differ:
         was, now = it.was, it.now
         if now.init is not None:
             if now.imported not in (None, was.imported):
-                raise Refused(it.which, "it has a value and an import")
+                raise Refused(it.which, _BOTH.format("value"))
             if was.imported is not None:
                 self.done.add(was.imported)
-            return _differ(was, now, "type", "mutable", "shared", "init")
+            return _differing(was, now, "type", "mutable", "shared", "init") is not None
         if was.imported is None:
-            raise Refused(it.which, "it can't come to be imported" if now.imported is not None else "it has neither a value nor an import")
+            raise Refused(it.which, "it can't come to be imported" if now.imported is not None else _NEITHER.format("value"))
         if was.imported != now.imported:
             raise Refused(it.which, _IMPORT)
-        if _differ(was, now, "type", "mutable", "shared"):
-            raise Refused(it.which, "its type can't be changed, since an import brings it")
+        field = _differing(was, now, "type", "mutable", "shared")
+        if field is not None:
+            raise Refused(it.which, f"its `{field}` can't be changed, since an import brings it")
         return False
 
     def add_global(self, it: Pair) -> None:
         now: Global = it.now
         if now.init is not None:
+            self.own(it, "value")
             self.edits.add(SECTIONS[GLOBAL], _global(now), it.which, _GLOBAL)
         elif now.imported is not None:
             self.edits.add(2, _import(self.new_import(now.imported, it.which), _global(now)), it.which, _GLOBAL)
         else:
-            raise Refused(it.which, "it has neither a value nor an import")
+            raise Refused(it.which, _NEITHER.format("value"))
 
     def globals(self) -> None:
         later = []
@@ -278,20 +298,31 @@ class Differ:
         for it in later:
             self.edits.set(SECTIONS[GLOBAL], _global(it.now), it.which, _GLOBAL)
 
+    def add_element(self, which: Which, it: Element) -> None:
+        """One that has what it doesn't need is refused."""
+        if it.table is None and it.offset:
+            raise Refused(which, _OFFSET.format("table"))
+        if it.table is not None and it.declared:
+            raise Refused(which, "it has a table, and declares functions")
+        if any(isinstance(one, bytes) == (it.type is None) for one in it.items):
+            raise Refused(which, "it lists functions and has a `type`, or expressions and has none")
+        self.edits.add(9, _element(it), which, _ELEMENT)
+
     def elements(self) -> None:
         for it in self.pairs("element"):
             if it.was is not None and it.now is not None:
-                if _differ(it.was, it.now, *_all_but_name(Element)):
-                    raise Refused(it.which, _FIXED)
+                _refuse_all_but_name(it)
                 continue
             if it.is_new:
-                self.edits.add(9, _element(it.now or _NO_ELEMENTS), it.which, _ELEMENT)
+                self.add_element(it.which, it.now or _NO_ELEMENTS)
             if it.now is None:
                 self.edits.delete(9, it.which)
 
     def data(self) -> None:
         """One that came and went has an id all the same, and so do those behind it."""
         for it in self.pairs("data"):
+            if it.now is not None and it.now.memory is None and it.now.offset and (it.is_new or it.was.offset != it.now.offset):
+                raise Refused(it.which, _OFFSET.format("memory"))
             if it.is_new:
                 self.edits.add(11, _data(it.now or Data(b"")), it.which, _DATA)
             elif it.now is not None and _data(it.was) != _data(it.now):

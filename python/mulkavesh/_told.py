@@ -17,6 +17,8 @@ MUTABLE, GLOBAL_SHARED = 1, 2
 class Items:
     """The items of a module, as they are told of its input."""
 
+    __slots__ = ("types", "imports", "funcs", "tables", "memories", "globals", "tags", "exports", "elements", "data", "customs", "start", "producers", "name")
+
     def __init__(self, wasm: bytes, told: bytes) -> None:
         self.types = items.Types()
         self.imports = items.Imports()

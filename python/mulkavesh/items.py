@@ -1,5 +1,5 @@
-"""What items are, and items by their ids. Which fields can't be changed, each class says; `Module.emit_wasm` refuses them, with the item."""
-from dataclasses import dataclass, field
+"""What items are, and items by their ids. Which fields can't be changed, each class says; `Module.emit_wasm` refuses them, with the item and the field."""
+from dataclasses import dataclass, field, fields
 from typing import Callable, Dict, Generic, Iterator, List, NamedTuple, NewType, Optional, Tuple, TypeVar, Union, cast
 
 from mulkavesh._wire import RefType, TypeId, ValType
@@ -28,6 +28,17 @@ class ExportItem(NamedTuple):
     id: int
 
 
+Kind = TypeVar("Kind", bound=type)
+
+
+def _closed(kind: Kind) -> Kind:
+    """The class of items that have its fields and no other ones: a field of a mistyped name can't be written."""
+    names = tuple(it.name for it in fields(kind))
+    members = {name: value for name, value in vars(kind).items() if name not in (*names, "__dict__", "__weakref__")}
+    return cast(Kind, type(kind.__name__, kind.__bases__, {**members, "__slots__": names}))
+
+
+@_closed
 @dataclass
 class Type:
     """A type. `params` and `results` are what its functions take and give, where it stands alone, is final and has no supertype; else they are None. Only its name
@@ -40,6 +51,7 @@ class Type:
     _group: bytes = field(default=b"", repr=False)
 
 
+@_closed
 @dataclass
 class Import:
     """An import: the module that it comes from, its name there, and what it brings, which can't be changed."""
@@ -49,6 +61,7 @@ class Import:
     kind: ExportItem
 
 
+@_closed
 @dataclass
 class Export:
     """An export: its name, and what it exports."""
@@ -57,6 +70,7 @@ class Export:
     item: ExportItem
 
 
+@_closed
 @dataclass
 class Function:
     """A function: its type, which can't be changed; its body, or None where an import brings it; that import, or None; its name; and the names of its locals by
@@ -70,6 +84,7 @@ class Function:
     local_names: Dict[int, str] = field(default_factory=dict)
 
 
+@_closed
 @dataclass
 class Table:
     """A table: the type of its elements, how many it has at first and may have, whether its indices have 64 bits, the expression of what they are at first, and the
@@ -85,6 +100,7 @@ class Table:
     name: Optional[str] = None
 
 
+@_closed
 @dataclass
 class Memory:
     """A memory: how many pages it has at first and may have, whether threads share it, whether its addresses have 64 bits, the bytes of a page as an exponent of
@@ -100,6 +116,7 @@ class Memory:
     name: Optional[str] = None
 
 
+@_closed
 @dataclass
 class Global:
     """A global: the type of its value, whether it can be written, whether threads share it, the expression of its value at first, or None where an import brings
@@ -114,6 +131,7 @@ class Global:
     name: Optional[str] = None
 
 
+@_closed
 @dataclass
 class Tag:
     """A tag: its type and the import that brings it. Only its name can be changed."""
@@ -123,6 +141,7 @@ class Tag:
     name: Optional[str] = None
 
 
+@_closed
 @dataclass
 class Element:
     """An element segment: functions, or where `type` isn't None expressions of this type; the table that it is written to at first, with the expression of the
@@ -137,6 +156,7 @@ class Element:
     name: Optional[str] = None
 
 
+@_closed
 @dataclass
 class Data:
     """A data segment: its bytes; the memory that it is written to at first, with the expression of the offset, or None; and its name."""
@@ -147,6 +167,7 @@ class Data:
     name: Optional[str] = None
 
 
+@_closed
 @dataclass
 class CustomSection:
     """A custom section, but names, producers and debug information: its name, which can't be changed, and its bytes."""

@@ -6,7 +6,7 @@
     open("out.wasm", "wb").write(module.emit_wasm(gc=True))
 
 Items are plain values: `Module` reads them, and `emit_wasm` makes a module of the input and of what differs by then. So their fields are written as any. What can't be
-changed is refused by `emit_wasm`, with the item; nothing is passed over. What is written keeps the rules that are asked of an input: no other is checked, so that
+changed is refused by `emit_wasm`, with the item and the field; nothing is passed over. What is written keeps the rules that are asked of an input: no other is checked, so that
 operands of wrong types, say, are found by an engine or a validator. Constant expressions are bytes, with `0B` at their end; `InstrSeqBuilder.const_expr` makes them.
 """
 from typing import Optional, Tuple
@@ -48,6 +48,8 @@ class Module(Items):
 
     `InvalidModule` where the bytes are no module that keeps the rules.
     """
+
+    __slots__ = ("_input", "_told")
 
     def __init__(self, wasm: Bytes) -> None:
         self._input = mulkavesh._whole(wasm)

@@ -113,7 +113,7 @@ class Written(unittest.TestCase):
         output = changed(add)
         params = output.types[output.funcs[output.exports.get_func("typed")].type].params
         self.assertEqual((params[0], params[2], len(params)), (RefType("any", False), "v128", 3))
-        self.refuses("type 1: nothing but its name can be changed", lambda module: setattr(module.types[1], "params", ()))
+        self.refuses("type 1: its `params` can't be changed, only its name", lambda module: setattr(module.types[1], "params", ()))
 
     def test_imports(self) -> None:
         def rename(module: Module) -> None:
@@ -236,9 +236,9 @@ class Written(unittest.TestCase):
         self.assertEqual((output.tables[1].name, output.tags[0].name), ("t", "e"))
         others = {"element_ty": EXTERNREF, "initial": 0, "maximum": 9, "table64": True, "init": b"\xD0\x70\x0B", "imported": 0}
         for field, value in others.items():
-            self.refuses("table 0: nothing but its name can be changed", lambda module: setattr(module.tables[0], field, value))
-        self.refuses("tag 0: nothing but its name can be changed", lambda module: setattr(module.tags[0], "type", 1))
-        self.refuses("tag 0: nothing but its name can be changed", lambda module: setattr(module.tags[0], "imported", 1))
+            self.refuses(f"table 0: its `{field}` can't be changed, only its name", lambda module: setattr(module.tables[0], field, value))
+        self.refuses("tag 0: its `type` can't be changed, only its name", lambda module: setattr(module.tags[0], "type", 1))
+        self.refuses("tag 0: its `imported` can't be changed, only its name", lambda module: setattr(module.tags[0], "imported", 1))
         self.refuses("table 2: an item of its kind can't be added", lambda module: module.tables._put(copy.copy(module.tables[0])))
         self.refuses("tag 0: an item of its kind can't go", lambda module: module.tags._take(0))
 
@@ -271,7 +271,7 @@ class Written(unittest.TestCase):
         self.refuses("global 1: it can't come to be imported", to_import)
         self.refuses("global 1: it has neither a value nor an import", lambda module: setattr(module.globals[1], "init", None))
         for field, value in (("type", I64), ("mutable", True), ("shared", True)):
-            text = "global 0: its type can't be changed, since an import brings it"
+            text = f"global 0: its `{field}` can't be changed, since an import brings it"
             self.refuses(text, lambda module: setattr(module.globals[0], field, value))
         self.refuses("global 0: its import can't be changed", lambda module: setattr(module.globals[0], "imported", 0))
 
@@ -318,7 +318,7 @@ class Written(unittest.TestCase):
         wanted = [Element([2], name="passive"), Element(expressions, 0, b"\x41\1\x0B", FUNCREF), Element([1], declared=True)]
         self.assertEqual(output.elements.values(), wanted)
         for field, value in (("items", [2]), ("table", 1), ("offset", b"\x41\1\x0B"), ("type", FUNCREF), ("declared", True)):
-            self.refuses("element segment 0: nothing but its name can be changed", lambda module: setattr(module.elements[0], field, value))
+            self.refuses(f"element segment 0: its `{field}` can't be changed, only its name", lambda module: setattr(module.elements[0], field, value))
         text = "element segment 2: its table, its offset or what it lists isn't there, or isn't well formed"
         self.refuses(text, lambda module: module.elements.add(Element([], 7, b"\x41\0\x0B")))
 

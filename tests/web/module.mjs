@@ -1,11 +1,12 @@
 // Compares what `mulkavesh/module` makes of modules with what was worked out by hand, and with what other calls make of them.
 // node tests/web/module.mjs FOLDER MODULES.. , each a folder: that of mulkavesh.js, and those of modules. tests/web.sh calls it.
-// Each field of each item of a small module is written, and has to come out so or to be refused by name; the small module is that of python/tests/worked.py. Modules of
+// Items of a small module are written, and have to come out so or to be refused by name (fields.mjs has each field of each item, by itself). Modules of
 // other tools are read and written as they are, with traps in the place of bodies and imports, and with edits of all kinds. Prints the counts and a line for each find.
 import assert from 'node:assert/strict';
 import { readFileSync, readdirSync } from 'node:fs';
 import { join } from 'node:path';
 import { pathToFileURL } from 'node:url';
+import { ITEMS, utf8 } from './items.mjs';
 
 const [folder, ...folders] = process.argv.slice(2), from = (file) => import(pathToFileURL(join(folder, file)));
 const { load, BadEdit, BadModule, InvalidModule } = await from('mulkavesh.js');
@@ -13,32 +14,6 @@ const { BadItem, Body, EXTERNREF, FUNCREF, InstrSeqBuilder, Module } = await fro
 const opcodes = await from('opcodes.js');
 const library = await load();
 
-const utf8 = new TextEncoder();
-const section = (id, ...parts) => {
-  const content = parts.flatMap((it) => (typeof it === 'string' ? [it.length, ...utf8.encode(it)] : it));
-  return [id, content.length, ...content];
-};
-// An item of each kind, or two. Function 0 and global 0 are imported; names of the module, of function 1 and of its locals; producers.
-const ITEMS = Uint8Array.from([
-  0, 0x61, 0x73, 0x6D, 1, 0, 0, 0,
-  ...section(1, [3, 0x60, 0, 0, 0x60, 1, 0x7F, 1, 0x7F, 0x60, 0, 1, 0x7E]),
-  ...section(2, [2], 'env', 'f', [0, 1], 'env', 'g', [3, 0x7F, 0]),
-  ...section(3, [2, 1, 0]),
-  ...section(4, [2, 0x70, 1, 1, 2, 0x6F, 0, 0]),
-  ...section(5, [1, 0, 1]),
-  ...section(13, [1, 0, 0]),
-  ...section(6, [2, 0x7E, 1, 0x42, 5, 0x0B, 0x7F, 0, 0x41, 1, 0x0B]),
-  ...section(7, [2], 'run', [0, 1], 'mem', [2, 0]),
-  ...section(8, [2]),
-  ...section(9, [2, 0, 0x41, 0, 0x0B, 1, 1, 1, 0, 1, 2]),
-  ...section(12, [2]),
-  ...section(10, [2, 8, 1, 1, 0x7F, 0x20, 0, 0x10, 0, 0x0B, 2, 0, 0x0B]),
-  ...section(11, [2, 0, 0x41, 3, 0x0B], 'ab', [1], 'c'),
-  ...section(0, 'note', [1, 2]),
-  ...section(0, 'other'),
-  ...section(0, 'name', [0, 2], 'm', [1, 7, 1, 1], 'work', [2, 9, 1, 1, 2, 0], 'x', [1], 'y'),
-  ...section(0, 'producers', [2], 'language', [1], 'C', '11', 'other', [1], 't', ''),
-]);
 const TRAP = new Body([0, 0, 0x0B]), code = () => new InstrSeqBuilder();
 const read = (bytes = ITEMS) => Module.fromBuffer(library, bytes);
 const again = (module) => read(module.emitWasm());
@@ -115,7 +90,7 @@ const WRITTEN = {
     const { params } = output.types.get(output.funcs.get(output.exports.getFunc('typed')).type);
     assert.deepEqual([params[0], params[2]], [{ heapType: 'any', nullable: false }, 'v128']);
     assert.ok(output.types.byName('unary') !== undefined);
-    refuses('type 1: nothing but its name can be changed', (it) => { it.types.get(1).params = []; });
+    refuses('type 1: its `params` can\'t be changed, only its name', (it) => { it.types.get(1).params = []; });
   },
   imports: () => {
     const output = changed((it) => it.imports.values().forEach((one) => Object.assign(one, { module: './env.js', name: `${one.name}2` })));
@@ -202,9 +177,9 @@ const WRITTEN = {
     });
     assert.deepEqual([output.tables.get(1).name, output.tags.get(0).name], ['t', 'e']);
     for (const [key, value] of Object.entries({ elementType: EXTERNREF, initial: 0, maximum: 9n, table64: true, init: new Uint8Array(1), imported: 0 })) {
-      refuses('table 0: nothing but its name can be changed', (it) => { it.tables.get(0)[key] = value; });
+      refuses(`table 0: its \`${key}\` can't be changed, only its name`, (it) => { it.tables.get(0)[key] = value; });
     }
-    refuses('tag 0: nothing but its name can be changed', (it) => { it.tags.get(0).type = 1; });
+    refuses('tag 0: its `type` can\'t be changed, only its name', (it) => { it.tags.get(0).type = 1; });
   },
   memories: () => {
     for (const fields of [{ initial: 2 }, { maximum: 9 }, { shared: true, maximum: 3 }, { pageSizeLog2: 0 }, { name: 'm' }]) {
@@ -237,7 +212,7 @@ const WRITTEN = {
     refuses(text, (it) => { it.globals.get(1).init = code().globalGet(7).constExpr(); });
     refuses("global 1: it can't come to be imported", (it) => Object.assign(it.globals.get(1), { init: null, imported: 1 }));
     for (const [key, value] of Object.entries({ type: 'i64', mutable: true, shared: true })) {
-      refuses("global 0: its type can't be changed, since an import brings it", (it) => { it.globals.get(0)[key] = value; });
+      refuses(`global 0: its \`${key}\` can't be changed, since an import brings it`, (it) => { it.globals.get(0)[key] = value; });
     }
   },
   'the start function': () => {
@@ -263,7 +238,7 @@ const WRITTEN = {
     assert.deepEqual(output.elements.values().map((it) => [it.name, it.table, it.declared]), [['passive', null, false], [null, 0, false], [null, null, true]]);
     assert.deepEqual(output.data.values().map((it) => [[...it.value], it.name, it.memory]), [[[1, 2, 3], 'd', 0], [[7], null, null]]);
     equals(output.funcs.get(output.start).body.bytes(), [0, 0xFC, 9, 1, 0x0B]);
-    refuses('element segment 0: nothing but its name can be changed', (it) => { it.elements.get(0).items = [2]; });
+    refuses('element segment 0: its `items` can\'t be changed, only its name', (it) => { it.elements.get(0).items = [2]; });
     refuses("data segment 1: its memory isn't there, or its offset isn't well formed", (it) => Object.assign(it.data.get(1), { memory: 1, offset }));
   },
   'custom sections and producers': () => {

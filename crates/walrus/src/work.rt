@@ -79,8 +79,7 @@ fn smaller(
 ) -> Result<Vec<u8>, Error>
     ensures { RunsOn (config_of (flags config.now)) bytes.items (λ output. output.items) result }
 {
-    let mut module = config.parse(alloc, &bytes)?;
-    drop(bytes);
+    let mut module = config.parse_whole(alloc, bytes)?;
     gc::run(alloc, &mut module)?;
     let output = module.emit_whole(alloc);
     let_go(module, is_last);

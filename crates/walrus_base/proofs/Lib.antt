@@ -9,6 +9,7 @@ pub mod Agree
 pub mod Counting
 pub mod RangeBounds
 pub mod Fronts
+pub mod FullSlots
 pub mod Ranges
 pub mod Turns
 pub mod Taking

@@ -9,6 +9,7 @@ pub mod Alone
 pub mod Composite
 pub mod ConstOps
 pub mod Function
+pub mod HeldCase
 pub mod Index
 pub mod LendsLocal
 pub mod Locals
@@ -22,5 +23,6 @@ pub mod ShapeLaws
 pub mod TypeDef
 pub mod TypeSlots
 pub mod TypesLeft
+pub mod Unnamed
 pub mod Value
 pub mod Whole

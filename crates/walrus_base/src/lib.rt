@@ -9,6 +9,7 @@ mod arena;
 mod composite;
 mod const_expr;
 mod group;
+mod held_type;
 mod id;
 mod index;
 mod keys;

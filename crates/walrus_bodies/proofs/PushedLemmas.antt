@@ -16,8 +16,6 @@ use Rattle.walrus_bodies.specs.declared.plain_code.PlainCode.{PlainCode}
 
 none_held : (limits : Limits) (bytes marks : List ℕ) → IsHeld limits bytes marks nowhere
 none_held limits bytes marks = record {
-  forward = omega arith;
-  within = omega arith;
   marks_forward = omega arith;
   marks_within = omega arith;
   body = inl refl;
@@ -46,32 +44,28 @@ between_behind begin end xs ys b e =
     let many : end - begin ≡ length ys = omega (arith, b, e) in
     ap₂ take many (ap (λ (n : ℕ). drop n (xs ++ ys)) b ∙ drop-append_seam xs ys) ∙ take-length ys
 
-body_kept : (limits : Limits) (bytes marks more others : List ℕ) (e : Entry) → IsHeld limits bytes marks e → IsHeld limits (bytes ++ more) (marks ++ others) e
-body_kept limits bytes marks more others e h =
-    let long = length-append bytes more in
+body_kept : (limits : Limits) (bytes marks others : List ℕ) (e : Entry) → IsHeld limits bytes marks e → IsHeld limits bytes (marks ++ others) e
+body_kept limits bytes marks others e h =
     let many = length-append marks others in
     record {
-      forward = h.forward;
-      within = let w = h.within in omega (arith, long, w);
       marks_forward = h.marks_forward;
       marks_within = let w = h.marks_within in omega (arith, many, w);
       body = moved h.body;
     }
   where
-    bytes_same : between e.begin e.end bytes ≡ between e.begin e.end (bytes ++ more)
-    bytes_same = sym (between_kept e.begin e.end bytes more h.forward h.within)
+    here : List ℕ
+    here = between e.begin e.end bytes
 
     marks_same : between e.first_mark e.last_mark marks ≡ between e.first_mark e.last_mark (marks ++ others)
     marks_same = sym (between_kept e.first_mark e.last_mark marks others h.marks_forward h.marks_within)
 
-    moved : (e.count ≡ 0) ⊎ IsPlainBody (with_locals limits e.locals) (between e.begin e.end bytes) (between e.first_mark e.last_mark marks) e.count
-        → (e.count ≡ 0) ⊎ IsPlainBody (with_locals limits e.locals) (between e.begin e.end (bytes ++ more)) (between e.first_mark e.last_mark (marks ++ others)) e.count
+    moved : (e.count ≡ 0) ⊎ IsPlainBody (with_locals limits e.locals) here (between e.first_mark e.last_mark marks) e.count
+        → (e.count ≡ 0) ⊎ IsPlainBody (with_locals limits e.locals) here (between e.first_mark e.last_mark (marks ++ others)) e.count
     moved (inl none) = inl none
-    moved (inr b) = inr (subst (λ (bs : List ℕ). IsPlainBody (with_locals limits e.locals) bs (between e.first_mark e.last_mark (marks ++ others)) e.count) bytes_same
-        (subst (λ (ms : List ℕ). IsPlainBody (with_locals limits e.locals) (between e.begin e.end bytes) ms e.count) marks_same b))
+    moved (inr b) = inr (subst (λ (ms : List ℕ). IsPlainBody (with_locals limits e.locals) here ms e.count) marks_same b)
 
-all_kept : (limits : Limits) (bytes marks more others : List ℕ) (es : List Entry) → All (IsHeld limits bytes marks) es → All (IsHeld limits (bytes ++ more) (marks ++ others)) es
-all_kept limits bytes marks more others es all k d low = body_kept limits bytes marks more others (slice_index_or es k d) (all k d low)
+all_kept : (limits : Limits) (bytes marks others : List ℕ) (es : List Entry) → All (IsHeld limits bytes marks) es → All (IsHeld limits bytes (marks ++ others)) es
+all_kept limits bytes marks others es all k d low = body_kept limits bytes marks others (slice_index_or es k d) (all k d low)
 
 -- ---- one body more
 
@@ -80,38 +74,33 @@ none_more limits bytes marks old new same held =
     ∥∥₁_elim held (hlevel props) (λ all. ∣ subst (All (IsHeld limits bytes marks)) (sym same) (All-append (IsHeld limits bytes marks) old (nowhere ∷ []) all (one (IsHeld limits bytes marks) nowhere (none_held limits bytes marks))) ∣₁)
 
 module _ (code : PlainCode) (bytes marks : List ℕ) (count start locals : ℕ) (entry : Entry) (behind : IsBehind code bytes marks count start locals entry) (plain : IsPlainBody (with_locals code.limits locals) bytes marks count) where
-  abbrev pub all_bytes : List ℕ
-  all_bytes = code.bytes.items ++ bytes
+  abbrev pub kept : List ℕ
+  kept = code.bytes.value.items
 
   abbrev pub all_marks : List ℕ
   all_marks = code.marks.items ++ marks
 
-  abbrev here : List ℕ
-  here = between entry.begin entry.end all_bytes
-
   abbrev shown : List ℕ
   shown = between entry.first_mark entry.last_mark all_marks
 
-  new_held : IsHeld code.limits all_bytes all_marks entry
+  new_held : IsHeld code.limits kept all_marks entry
   new_held = record {
-    forward = let b = behind.begins in let e = behind.ends in omega (arith, b, e);
-    within = let long : length all_bytes ≡ length code.bytes.items + length bytes = length-append code.bytes.items bytes in let e = behind.ends in omega (arith, long, e);
     marks_forward = let b = behind.first in let e = behind.last in omega (arith, b, e);
     marks_within = let long : length all_marks ≡ length code.marks.items + length marks = length-append code.marks.items marks in let e = behind.last in omega (arith, long, e);
-    body = inr (subst (λ (n : ℕ). IsPlainBody (with_locals code.limits n) here shown entry.count) (sym behind.locals_are)
-        (subst (λ (n : ℕ). IsPlainBody (with_locals code.limits locals) here shown n) (sym behind.counted)
-        (subst (λ (bs : List ℕ). IsPlainBody (with_locals code.limits locals) bs shown count) (sym (between_behind entry.begin entry.end code.bytes.items bytes behind.begins behind.ends))
+    body = inr (subst (λ (n : ℕ). IsPlainBody (with_locals code.limits n) (between entry.begin entry.end kept) shown entry.count) (sym behind.locals_are)
+        (subst (λ (n : ℕ). IsPlainBody (with_locals code.limits locals) (between entry.begin entry.end kept) shown n) (sym behind.counted)
+        (subst (λ (bs : List ℕ). IsPlainBody (with_locals code.limits locals) bs shown count) (sym behind.stands)
         (subst (λ (ms : List ℕ). IsPlainBody (with_locals code.limits locals) bytes ms count) (sym (between_behind entry.first_mark entry.last_mark code.marks.items marks behind.first behind.last)) plain))));
   }
 
-  pub one_more : (new_bytes new_marks : List ℕ) (new : List Entry) → new_bytes ≡ all_bytes → new_marks ≡ all_marks → new ≡ code.entries.items ++ entry ∷ [] → ∥ All (IsHeld code.limits new_bytes new_marks) new ∥₁
-  one_more new_bytes new_marks new b m e =
-      ∥∥₁_elim code.held (hlevel props) (λ all. ∣ rw (b, m, e) (All-append (IsHeld code.limits all_bytes all_marks) code.entries.items (entry ∷ []) (all_kept code.limits code.bytes.items code.marks.items bytes marks code.entries.items all) (one (IsHeld code.limits all_bytes all_marks) entry new_held)) ∣₁)
+  pub one_more : (new_marks : List ℕ) (new : List Entry) → new_marks ≡ all_marks → new ≡ code.entries.items ++ entry ∷ [] → ∥ All (IsHeld code.limits kept new_marks) new ∥₁
+  one_more new_marks new m e =
+      ∥∥₁_elim code.held (hlevel props) (λ all. ∣ rw (m, e) (All-append (IsHeld code.limits kept all_marks) code.entries.items (entry ∷ []) (all_kept code.limits kept code.marks.items marks code.entries.items all) (one (IsHeld code.limits kept all_marks) entry new_held)) ∣₁)
 
 -- ---- one of them
 
 module _ (code : PlainCode) (number : ℕ) (some : (entry_at code number).count ≡ 0 → ⊥) where
-  there : (h : IsHeld code.limits code.bytes.items code.marks.items (entry_at code number)) → IsPlainBody (limits_at code number) (bytes_at code number) (marks_at code number) (entry_at code number).count
+  there : (h : IsHeld code.limits code.bytes.value.items code.marks.items (entry_at code number)) → IsPlainBody (limits_at code number) (bytes_at code number) (marks_at code number) (entry_at code number).count
   there h = of_body h.body
     where
       of_body : ((entry_at code number).count ≡ 0) ⊎ IsPlainBody (limits_at code number) (bytes_at code number) (marks_at code number) (entry_at code number).count
@@ -120,4 +109,4 @@ module _ (code : PlainCode) (number : ℕ) (some : (entry_at code number).count 
       of_body (inr b) = b
 
   pub found : ∥ IsPlainBody (limits_at code number) (bytes_at code number) (marks_at code number) (entry_at code number).count ∥₁
-  found = ∥∥₁_elim code.held (hlevel props) (λ all. ∣ there (held_or (IsHeld code.limits code.bytes.items code.marks.items) code.entries.items number nowhere all (none_held code.limits code.bytes.items code.marks.items)) ∣₁)
+  found = ∥∥₁_elim code.held (hlevel props) (λ all. ∣ there (held_or (IsHeld code.limits code.bytes.value.items code.marks.items) code.entries.items number nowhere all (none_held code.limits code.bytes.value.items code.marks.items)) ∣₁)

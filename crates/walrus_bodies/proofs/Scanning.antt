@@ -1,60 +1,33 @@
--- What the scan of a body keeps from operator to operator.
-use Rattle.std.proofs.Common.{◌≡◌, ℕ, ◌+◌, ◌-◌, ◌<◌, ◌≤◌, Bool, true, false, List, [], ◌∷◌, ◌++◌, length, take, drop, map, Option, Some, refl, sym, ap, ap₂, subst, ◌∙◌, arith, append_assoc, inl, inr}
-use Rattle.std.specs.Prelude.{nat_eq, ◌&&◌, IfSome}
-use Rattle.std.specs.Bool.{then_some}
+-- A body that was scanned is a plain one: its operators nest as a function's do.
+use Rattle.std.proofs.Common.{◌≡◌, ℕ, Bool, true, false, List, [], ◌∷◌, length, map, Option, Some, None, refl, sym, ap, ap₂, subst, ◌∙◌}
+use Rattle.std.specs.Prelude.{nat_eq, ◌&&◌, ◌||◌, Result, Ok, Err, IfOk, IfSome, option_map, if◌then◌else◌}
 use Rattle.std.specs.List.{list_all}
-use Rattle.std.proofs.lemmas.Bool.{eqb-true, ne_eqb, lt-ltb}
-use Rattle.std.proofs.lemmas.List.{append-nil, map-append, length-append}
-use Rattle.std.proofs.lemmas.List.Folds.{list_all-append}
-use Rattle.std.proofs.lemmas.Grind.{flat_map-append}
-use Rattle.std.proofs.Math.Seq.{take-length}
+use Rattle.std.proofs.lemmas.Bool.{eqb-true, lt-ltb}
+use Rattle.std.proofs.lemmas.List.{length-map}
 use Rattle.wasm_forms.specs.Writing.{EachFits}
-use Rattle.wasm_opcodes.specs.declared.one_byte.TheConstants.{DELEGATE}
+use Rattle.wasm_forms.proofs.Items.{each_append}
+use Rattle.wasm_opcodes.specs.declared.one_byte.TheConstants.{BLOCK, LOOP, IF, ELSE, TRY, CATCH, END, DELEGATE, CATCH_ALL, TRY_TABLE}
+use Rattle.wasm_text.specs.Bodies as text
 use Rattle.wasm_text.specs.Operators as wire
 use Rattle.wasm_text.specs.RawArg.{RawArg}
 use Rattle.wasm_text.specs.RawArg.TheVariants as raw
 use Rattle.wasm_text.specs.declared.limits.Limits.{Limits}
-use Rattle.wasm_text.specs.Places.{between}
 use Rattle.wasm_text.specs.Classes.{is_plain}
-use Rattle.wasm_text.specs.Marks.{Holds, all_args}
-use Rattle.wasm_text.specs.Scans.{Begins, HasOperator, IsWithin}
-use Rattle.wasm_text.proofs.Read.{scanned_more}
-use Rattle.wasm_text.proofs.Showing.{holds_none}
-use Rattle.walrus_base.specs.Operators.{Arg, Op}
-use Rattle.walrus_code.specs.FromRaw.{arg_of, op_of, ops_of}
+use Rattle.wasm_text.specs.Marks.{all_args}
+use Rattle.wasm_text.specs.Scans.{IsWithin}
+use Rattle.walrus_base.specs.Operators.{Arg}
+use Rattle.walrus_code.specs.FromRaw.{arg_of, ops_of}
 use Rattle.walrus_bodies.specs.declared.blocks.Opened.{Opened}
-use Rattle.walrus_bodies.specs.declared.blocks.Opened.TheVariants.{Plain}
-use Rattle.walrus_bodies.specs.Blocks.{is_none_open, blocks_behind, blocks_meant, blocks_after, label_below, labels_below, nests}
+use Rattle.walrus_bodies.specs.declared.blocks.Opened.TheVariants.{Plain, If}
+use Rattle.walrus_bodies.specs.Blocks.{opens_plain, behind_else, behind_end, blocks_behind, blocks_meant, blocks_after, label_below, labels_below, nests}
 use Rattle.walrus_bodies.specs.PlainBody.{IsNamed, IsPlainBody}
-use Rattle.wasm_forms.proofs.Items.{each_append}
 use Rattle.walrus_bodies.proofs.BlockLemmas.{after_near}
-
--- The operators up to a place, with these blocks open behind them: what a rest does in these blocks, all do in a function.
-pub record UpTo (limits : Limits) (bytes marks : List ℕ) (count at : ℕ) (blocks : List Opened) : Type 0 where
-  pub texts : List wire.Op
-  pub counted : count ≡ length texts
-  pub holds : Holds (between 0 at bytes) marks texts
-  pub fit : EachFits (IsNamed limits) (all_args texts)
-  pub plain : list_all (λ o. is_plain o.op) texts ≡ true
-  pub nesting : (rest : List Op) → nests (Some blocks) rest ≡ nests (Some (Plain ∷ [])) (ops_of texts ++ rest)
-  pub within : at ≤ length bytes
-
-pub nothing_yet : (limits : Limits) (bytes marks : List ℕ) (blocks : List Opened) → marks ≡ [] → blocks ≡ Plain ∷ [] → UpTo limits bytes marks 0 0 blocks
-nothing_yet limits bytes marks blocks none alone = record {
-  texts = [];
-  counted = refl;
-  holds = subst (λ (m : List ℕ). Holds (between 0 0 bytes) m []) (sym none) holds_none;
-  fit = tt;
-  plain = refl;
-  nesting = λ rest. ap (λ (bs : List Opened). nests (Some bs) rest) alone;
-  within = omega arith;
-}
 
 -- ---- arguments
 
-named_each : (limits here : Limits) (labels : ℕ) (args : List RawArg) → here ≡ record limits { labels = labels } → EachFits (IsWithin here) args → EachFits (IsNamed limits) args
-named_each limits here labels [] same h = tt
-named_each limits here labels (arg ∷ args) same h = ((labels, subst (λ (l : Limits). IsWithin l arg) same h.0), named_each limits here labels args same h.1)
+named_each : (limits : Limits) (labels : ℕ) (args : List RawArg) → EachFits (IsWithin (record limits { labels = labels })) args → EachFits (IsNamed limits) args
+named_each limits labels [] h = tt
+named_each limits labels (arg ∷ args) h = ((labels, h.0), named_each limits labels args h.1)
 
 label_means : (limits : Limits) (arg : RawArg) → IsWithin limits arg → label_below limits.labels (arg_of arg) ≡ true
 label_means limits (raw.Label n) h = lt-ltb n limits.labels h
@@ -85,96 +58,105 @@ labels_mean limits (arg ∷ args) h = ap₂ (λ x y. x && y) (label_means limits
 
 -- ---- blocks
 
-no_delegate : (op : ℕ) → (t : Bool) → nat_eq op DELEGATE ≡ t → is_plain op ≡ true → nat_eq op DELEGATE ≡ false
-no_delegate op false e plain = e
-no_delegate op true e plain =
-    let same : op ≡ DELEGATE = eqb-true op DELEGATE e in
-    let wrong : false ≡ true = subst (λ (n : ℕ). is_plain n ≡ true) same plain in
+-- the block of a flag, which says whether it is an if without its else
+abbrev block_of : Bool → Opened
+block_of true = If
+block_of false = Plain
+
+-- no plain operator has this number
+never : (op k : ℕ) → is_plain k ≡ false → (t : Bool) → nat_eq op k ≡ t → is_plain op ≡ true → nat_eq op k ≡ false
+never op k never_plain false e plain = e
+never op k never_plain true e plain =
+    let wrong : false ≡ true = sym never_plain ∙ sym (ap is_plain (eqb-true op k e)) ∙ plain in
     absurd cc
 
+is_alone : (op : ℕ) (t : Bool) → nat_eq op IF ≡ t → t ≡ true → opens_plain op ≡ false
+is_alone op true e is = ap opens_plain (eqb-true op IF e)
+is_alone op false e is = absurd cc
+
 all_meant : (op : ℕ) (blocks : List Opened) → is_plain op ≡ true → blocks_meant op blocks ≡ length blocks
-all_meant op blocks plain = rw (no_delegate op (nat_eq op DELEGATE) refl plain) refl
+all_meant op blocks plain = rw (never op DELEGATE refl (nat_eq op DELEGATE) refl plain) refl
 
-far : (op k : ℕ) → k < 65536 → 65536 ≤ op → nat_eq op k ≡ false
-far op k small large = ne_eqb op k (λ e. omega (arith, e))
+else_same : (flags : List Bool) → behind_else (map block_of flags) ≡ option_map (map block_of) (text.behind_else flags)
+else_same [] = refl
+else_same (true ∷ around) = refl
+else_same (false ∷ around) = refl
 
--- an operator behind a prefix opens and closes nothing
-prefixed_stays : (op : ℕ) (blocks : List Opened) → 65536 ≤ op → blocks_behind op blocks ≡ Some blocks
-prefixed_stays op blocks large =
+end_same : (flags : List Bool) → behind_end (map block_of flags) ≡ option_map (map block_of) (text.behind_end flags)
+end_same [] = refl
+end_same (flag ∷ around) = refl
+
+-- by whether the operator is block, loop, if, try_table, else or end
+turned_same : (block loop is_if table other last : Bool) (flags : List Bool) → (is_if ≡ true → (block || loop || table) ≡ false)
+    → (if (block || loop || table) then Some (Plain ∷ map block_of flags) else if is_if then Some (If ∷ map block_of flags) else if other then behind_else (map block_of flags) else if last then behind_end (map block_of flags) else Some (map block_of flags))
+    ≡ option_map (map block_of) (if (block || loop || is_if || table) then Some (is_if ∷ flags) else if other then text.behind_else flags else if last then text.behind_end flags else Some flags)
+turned_same true loop true table other last flags alone = let no : true ≡ false = alone refl in absurd cc
+turned_same true loop false table other last flags alone = refl
+turned_same false true true table other last flags alone = let no : true ≡ false = alone refl in absurd cc
+turned_same false true false table other last flags alone = refl
+turned_same false false true true other last flags alone = let no : true ≡ false = alone refl in absurd cc
+turned_same false false true false other last flags alone = refl
+turned_same false false false true other last flags alone = refl
+turned_same false false false false true last flags alone = else_same flags
+turned_same false false false false false true flags alone = end_same flags
+turned_same false false false false false false flags alone = refl
+
+-- a plain operator does to the blocks of flags what it does to these
+turns_same : (op : ℕ) (flags : List Bool) → is_plain op ≡ true → blocks_behind op (map block_of flags) ≡ option_map (map block_of) (text.blocks_behind op flags)
+turns_same op flags plain =
     rw (
-      far op 2 (omega arith) large,
-      far op 3 (omega arith) large,
-      far op 31 (omega arith) large,
-      far op 4 (omega arith) large,
-      far op 6 (omega arith) large,
-      far op 5 (omega arith) large,
-      far op 7 (omega arith) large,
-      far op 25 (omega arith) large,
-      far op 24 (omega arith) large,
-      far op 11 (omega arith) large,
-    ) refl
+      never op TRY refl (nat_eq op TRY) refl plain,
+      never op CATCH refl (nat_eq op CATCH) refl plain,
+      never op CATCH_ALL refl (nat_eq op CATCH_ALL) refl plain,
+      never op DELEGATE refl (nat_eq op DELEGATE) refl plain,
+    ) (turned_same (nat_eq op BLOCK) (nat_eq op LOOP) (nat_eq op IF) (nat_eq op TRY_TABLE) (nat_eq op ELSE) (nat_eq op END) flags (is_alone op (nat_eq op IF) refl))
 
--- what the first byte of an operator does, the operator does
-first_does : (bytes : List ℕ) (at op : ℕ) (blocks : List Opened) (behind : Option (List Opened)) → Begins bytes at op
-    → ((first : ℕ) (rest : List ℕ) → drop at bytes ≡ first ∷ rest → blocks_behind first blocks ≡ behind) → blocks_behind op blocks ≡ behind
-first_does bytes at op blocks behind (inl e) does = does op (drop (at + 1) bytes) e
-first_does bytes at op blocks behind (inr (e, large)) does = prefixed_stays op blocks large ∙ does 252 (drop (at + 1) bytes) e
+-- ---- operators
 
--- what the number of this byte does, does whichever byte stands there
-pub turned : (bytes behind : List ℕ) (at byte op : ℕ) (blocks : List Opened) (after : Option (List Opened)) → drop at bytes ≡ byte ∷ behind → op ≡ byte → blocks_behind op blocks ≡ after
-    → (first : ℕ) (rest : List ℕ) → drop at bytes ≡ first ∷ rest → blocks_behind first blocks ≡ after
-turned bytes behind at byte op blocks after here as_byte does first rest e =
-    let same : op ≡ first = cc in
-    subst (λ (n : ℕ). blocks_behind n blocks ≡ after) same does
+first_plain : (x y : Bool) → (x && y) ≡ true → x ≡ true
+first_plain true y h = refl
+first_plain false y h = h
 
--- ---- one operator more
+others_plain : (x y : Bool) → (x && y) ≡ true → y ≡ true
+others_plain true y h = h
+others_plain false y h = absurd cc
 
-module _ (limits here : Limits) (bytes old new : List ℕ) (count at behind : ℕ) (blocks after : List Opened) where
-  pub one_more : UpTo limits bytes old count at blocks → here ≡ record limits { labels = length blocks } → is_none_open blocks ≡ false → HasOperator here bytes 0 at behind old new
-      → ((first : ℕ) (rest : List ℕ) → drop at bytes ≡ first ∷ rest → blocks_behind first blocks ≡ Some after) → UpTo limits bytes new (count + 1) behind after
-  one_more so_far same some_open found does =
-      let more = scanned_more here bytes [] old old new 0 at behind so_far.texts (omega arith) refl so_far.holds found in
-      let text : wire.Op = found.text in
-      let args : List Arg = map arg_of text.args in
-      let depth : here.labels ≡ blocks_meant text.op blocks = ap (λ (l : Limits). l.labels) same ∙ sym (all_meant text.op blocks found.plain) in
-      let near : labels_below (blocks_meant text.op blocks) args ≡ true = subst (λ (n : ℕ). labels_below n args ≡ true) depth (labels_mean here text.args found.fit) in
-      let steps : blocks_after text.op args blocks ≡ Some after = after_near text.op args blocks some_open near ∙ first_does bytes at text.op blocks (Some after) found.begins does in
-      let ops : ops_of (so_far.texts ++ text ∷ []) ≡ ops_of so_far.texts ++ op_of text ∷ [] = map-append op_of so_far.texts (text ∷ []) in
-      record {
-        texts = so_far.texts ++ text ∷ [];
-        counted = ap (λ n. n + 1) so_far.counted ∙ sym (length-append so_far.texts (text ∷ []));
-        holds = subst (λ (m : List ℕ). Holds (between 0 behind bytes) m (so_far.texts ++ text ∷ [])) (sym more.0) more.1;
-        fit = subst (λ (xs : List RawArg). EachFits (IsNamed limits) xs) (sym (flat_map-append (λ (o : wire.Op). o.args) so_far.texts (text ∷ [])))
-            (each_append (IsNamed limits) (all_args so_far.texts) (all_args (text ∷ [])) so_far.fit
-            (subst (λ (xs : List RawArg). EachFits (IsNamed limits) xs) (sym (append-nil text.args)) (named_each limits here (length blocks) text.args same found.fit)));
-        plain = list_all-append (λ (o : wire.Op). is_plain o.op) so_far.texts (text ∷ []) ∙ ap₂ (λ x y. x && (y && true)) so_far.plain found.plain;
-        nesting = λ rest. ap (λ (bs : Option (List Opened)). nests bs rest) (sym steps) ∙ so_far.nesting (op_of text ∷ rest)
-            ∙ ap (nests (Some (Plain ∷ []))) (sym (ap (λ os. os ++ rest) ops ∙ append_assoc (ops_of so_far.texts) (op_of text ∷ []) rest));
-        within = found.within;
-      }
+named_of : (limits : Limits) (flags : List Bool) (texts : List wire.Op) → text.Nest limits flags texts → EachFits (IsNamed limits) (all_args texts)
+named_of limits flags [] h = tt
+named_of limits [] (o ∷ texts) h = absurd h
+named_of limits (flag ∷ around) (o ∷ texts) h =
+    each_append (IsNamed limits) o.args (all_args texts) (named_each limits (length (flag ∷ around)) o.args h.0) (named_of limits h.1.0 texts h.1.1.1)
 
--- ---- the end
+nests_of : (limits : Limits) (flags : List Bool) (texts : List wire.Op) → list_all (λ o. is_plain o.op) texts ≡ true → text.Nest limits flags texts → nests (Some (map block_of flags)) (ops_of texts) ≡ true
+nests_of limits [] [] plain h = refl
+nests_of limits (flag ∷ around) [] plain h = let no : (flag ∷ around) ≡ [] = h in absurd cc
+nests_of limits [] (o ∷ texts) plain h = absurd h
+nests_of limits (flag ∷ around) (o ∷ texts) plain h =
+    let blocks : List Opened = map block_of (flag ∷ around) in
+    let args : List Arg = map arg_of o.args in
+    let is : is_plain o.op ≡ true = first_plain (is_plain o.op) (list_all (λ (o : wire.Op). is_plain o.op) texts) plain in
+    let depth : blocks_meant o.op blocks ≡ length (flag ∷ around) = all_meant o.op blocks is ∙ length-map (flag ∷ around) block_of in
+    let near : labels_below (blocks_meant o.op blocks) args ≡ true = subst (λ (n : ℕ). labels_below n args ≡ true) (sym depth) (labels_mean (record limits { labels = length (flag ∷ around) }) o.args h.0) in
+    let steps : blocks_after o.op args blocks ≡ Some (map block_of h.1.0) =
+    after_near o.op args blocks refl near ∙ turns_same o.op (flag ∷ around) is ∙ ap (option_map (map block_of)) h.1.1.0 in
+    ap (λ (bs : Option (List Opened)). nests bs (ops_of texts)) steps
+    ∙ nests_of limits h.1.0 texts (others_plain (is_plain o.op) (list_all (λ (o : wire.Op). is_plain o.op) texts) plain) h.1.1.1
 
-pub whole_body : (limits : Limits) (bytes marks : List ℕ) (count at : ℕ) (blocks : List Opened) → at ≡ length bytes → is_none_open blocks ≡ true → UpTo limits bytes marks count at blocks → IsPlainBody limits bytes marks count
-whole_body limits bytes marks count at blocks last closed so_far =
-    let long : at - 0 ≡ length bytes = omega (arith, last) in
-    let whole : between 0 at bytes ≡ bytes = ap (λ n. take n bytes) long ∙ take-length bytes in
-    record {
-      texts = so_far.texts;
-      counted = so_far.counted;
-      holds = subst (λ (b : List ℕ). Holds b marks so_far.texts) whole so_far.holds;
-      fit = so_far.fit;
-      plain = so_far.plain;
-      nested = ap (nests (Some (Plain ∷ []))) (sym (append-nil (ops_of so_far.texts))) ∙ sym (so_far.nesting []) ∙ closed;
-    }
+-- ---- the body
 
-counted_if : (limits : Limits) (bytes marks : List ℕ) (count at : ℕ) (blocks : List Opened) (t : Bool) → nat_eq at (length bytes) ≡ t → is_none_open blocks ≡ true
-    → UpTo limits bytes marks count at blocks → IfSome (then_some t count) (IsPlainBody limits bytes marks)
-counted_if limits bytes marks count at blocks false e closed so_far = tt
-counted_if limits bytes marks count at blocks true e closed so_far = whole_body limits bytes marks count at blocks (eqb-true at (length bytes) e) closed so_far
+plain_body : (limits : Limits) (bytes marks : List ℕ) (count : ℕ) → text.IsBody limits bytes marks count → IsPlainBody limits bytes marks count
+plain_body limits bytes marks count body = record {
+  texts = body.texts;
+  counted = body.counted;
+  holds = body.holds;
+  fit = named_of limits (false ∷ []) body.texts body.nested;
+  plain = body.plain;
+  nested = nests_of limits (false ∷ []) body.texts body.plain body.nested;
+}
 
--- counted, where nothing is left
-pub counted_body : (limits : Limits) (bytes marks : List ℕ) (count at : ℕ) (blocks : List Opened) (found : Option ℕ) → is_none_open blocks ≡ true → UpTo limits bytes marks count at blocks
-    → found ≡ then_some (nat_eq at (length bytes)) count → IfSome found (IsPlainBody limits bytes marks)
-counted_body limits bytes marks count at blocks found closed so_far same =
-    subst (λ (f : Option ℕ). IfSome f (IsPlainBody limits bytes marks)) (sym same) (counted_if limits bytes marks count at blocks (nat_eq at (length bytes)) refl closed so_far)
+-- the same of what the scan answers
+pub plain_answer : {E : Type 0} (limits : Limits) (bytes marks : List ℕ) (answer : Result (Option ℕ) E) → IfOk answer (λ found. IfSome found (text.IsBody limits bytes marks))
+    → IfOk answer (λ found. IfSome found (IsPlainBody limits bytes marks))
+plain_answer limits bytes marks (Err e) h = tt
+plain_answer limits bytes marks (Ok None) h = tt
+plain_answer limits bytes marks (Ok (Some count)) h = plain_body limits bytes marks count h

@@ -32,8 +32,6 @@ with_locals limits locals = record limits { locals = locals }
 
 -- where an entry says, among these bytes and marks, stands such a body, if it says that there are operators
 pub record IsHeld (limits : Limits) (bytes marks : List ℕ) (entry : Entry) : Type 0 where
-  pub forward : entry.begin ≤ entry.end
-  pub within : entry.end ≤ length bytes
   pub marks_forward : entry.first_mark ≤ entry.last_mark
   pub marks_within : entry.last_mark ≤ length marks
   pub body : (entry.count ≡ 0) ⊎ IsPlainBody (with_locals limits entry.locals) (between entry.begin entry.end bytes) (between entry.first_mark entry.last_mark marks) entry.count

@@ -19,7 +19,7 @@ abbrev pub entry_at : PlainCode → ℕ → Entry
 entry_at code number = slice_index_or code.entries.items number nowhere
 
 abbrev pub bytes_in : PlainCode → Entry → List ℕ
-bytes_in code entry = between entry.begin entry.end code.bytes.items
+bytes_in code entry = between entry.begin entry.end code.bytes.value.items
 
 abbrev pub marks_in : PlainCode → Entry → List ℕ
 marks_in code entry = between entry.first_mark entry.last_mark code.marks.items
@@ -36,10 +36,9 @@ marks_at code number = marks_in code (entry_at code number)
 abbrev pub limits_at : PlainCode → ℕ → Limits
 limits_at code number = with_locals code.limits (entry_at code number).locals
 
--- what is told of a body with these bytes and marks, behind all others
+-- what is told of a body with these bytes, which stand among those that are kept, and these marks, behind all others
 pub record IsBehind (code : PlainCode) (bytes marks : List ℕ) (count start locals : ℕ) (entry : Entry) : Type 0 where
-  pub begins : entry.begin ≡ length code.bytes.items
-  pub ends : entry.end ≡ length code.bytes.items + length bytes
+  pub stands : bytes_in code entry ≡ bytes
   pub first : entry.first_mark ≡ length code.marks.items
   pub last : entry.last_mark ≡ length code.marks.items + length marks
   pub counted : entry.count ≡ count

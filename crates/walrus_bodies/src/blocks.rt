@@ -1,5 +1,5 @@
 //! Which blocks are open at a place of a body (Structure > Instructions > Control Instructions).
-ghost use Rattle.std.specs.Prelude.{◌≡◌, ◌-◌, ◌∷◌, [], MatchOption, IfOk, OnOk, length, map};
+ghost use Rattle.std.specs.Prelude.{◌≡◌, ◌-◌, ◌∷◌, [], MatchOption, IfOk, map};
 ghost use Rattle.std.specs.List.{list_all};
 ghost use Rattle.walrus_code.specs.Code.{arg_of};
 ghost use Rattle.walrus_bodies.specs.Blocks.{is_none_open, blocks_behind, behind_else, behind_catch, behind_catch_all, behind_delegate, behind_end, blocks_meant, blocks_after, labels_below, label_below};
@@ -40,19 +40,6 @@ impl OpenBlocks {
         Ok(OpenBlocks { blocks })
     }
 
-    /// Only the function itself is open again. Takes no memory where these blocks were new once.
-    ///
-    /// # Errors
-    ///
-    /// `AllocError` where no memory is left; the blocks mean nothing then.
-    pub fn begin(&mut self) -> Result<(), AllocError>
-        ensures { OnOk result (opened self.new ≡ Opened.Plain ∷ []) }
-    {
-        self.blocks.clear();
-        self.blocks.push(Opened::Plain)?;
-        Ok(())
-    }
-
     /// Whether no block is open: the function is at its end.
     pub fn is_closed(&self) -> bool
         ensures { result ≡ is_none_open (opened self.now) }
@@ -82,16 +69,9 @@ impl OpenBlocks {
         }
     }
 
-    /// How many blocks are open, the function itself among them.
-    pub fn depth(&self) -> usize
-        ensures { result ≡ length (opened self.now) }
-    {
-        self.blocks.len()
-    }
-
-    /// Opens or closes what the operator does, and answers whether it may stand here in its order; labels aren't looked at. Where it may
-    /// not, or where memory runs out, the blocks mean nothing from then on.
-    pub fn turn(&mut self, op: u32) -> Result<bool, AllocError>
+    // Opens or closes what the operator does, and answers whether it may stand here in its order; labels aren't looked at. Where it may
+    // not, or where memory runs out, the blocks mean nothing from then on.
+    fn turn(&mut self, op: u32) -> Result<bool, AllocError>
         ensures { Steps (blocks_behind op (opened self.old)) (opened self.new) result }
     {
         match op {

@@ -22,7 +22,7 @@ impl Text {
 
     /// How many bytes the bodies of its module have together that are kept as this one is.
     pub fn code_length(&self) -> usize {
-        self.code.as_ref().bytes.len()
+        self.code.as_ref().operator_bytes
     }
 
     /// The place of the function's first local.

@@ -5,7 +5,7 @@ ghost use Rattle.std.specs.Prelude.{◌≡◌};
 ghost use Rattle.std.specs.List.{All};
 ghost use Rattle.walrus_bodies.specs.PlainBody.{IsHeld};
 
-use crate::pieces::{bytes_between, marks_between};
+use crate::pieces::{are_same, bytes_between, marks_between};
 use crate::scan::{ScanRoom, scan_body};
 use std::alloc::{AllocError, Global};
 use std::rc::Rc;
@@ -14,7 +14,7 @@ use wasm_text::Limits;
 // Where a plain body stands in the code of its module, and what is told of it. Of a body that isn't plain there are no operators.
 #[derive(Clone, Copy)]
 pub(crate) struct Entry {
-    // Where its operators begin among the bytes, and where they end.
+    // Where its operators begin among the bytes that are kept, and where they end.
     pub(crate) begin: u32,
     pub(crate) end: u32,
     // The same of its marks.
@@ -39,15 +39,19 @@ const NOWHERE: Entry = Entry {
     locals: 0,
 };
 
-/// The plain bodies of a module: the bytes of their operators as they stand in the input, one body behind another, with marks where an argument
-/// stands that names something or isn't in its one spelling. What they name is within the limits.
+/// The plain bodies of a module: bytes of the input, in which their operators stand as they were read, with marks where an argument stands
+/// that names something or isn't in its one spelling. What they name is within the limits.
 #[derive(Drop)]
 pub struct PlainCode {
-    pub(crate) bytes: Vec<u8>,
+    pub(crate) bytes: Rc<Vec<u8>>,
+    // Where the first of these stood in the input.
+    pub(crate) origin: usize,
+    // How many of these are operators of plain bodies, as far as that can be counted.
+    pub(crate) operator_bytes: usize,
     pub(crate) marks: Vec<u32>,
     pub(crate) entries: Vec<Entry>,
     pub(crate) limits: Limits,
-    ghost held: { ∥ All (IsHeld limits bytes.items marks.items) entries.items ∥₁ },
+    ghost held: { ∥ All (IsHeld limits bytes.value.items marks.items) entries.items ∥₁ },
 }
 
 // The same counts, with so many locals.
@@ -64,8 +68,8 @@ impl PlainCode {
     ghost use Rattle.walrus_bodies.specs.PlainBody.{IsPlainBody, with_locals};
     ghost use Rattle.walrus_bodies.specs.PlainCode.{IsBehind, bytes_in, entry_at, limits_in, marks_in};
 
-    /// No bodies yet, and room for so many, which have so many bytes of operators together. What they name is to be within the limits; of
-    /// locals and blocks there is none.
+    /// No bodies yet, and room for so many, whose operators stand among these bytes, of which the first stands at the place `origin` of the
+    /// input. What they name is to be within the limits; of locals and blocks there is none.
     ///
     /// # Errors
     ///
@@ -74,12 +78,15 @@ impl PlainCode {
         alloc: Global,
         limits: Limits,
         bodies: usize,
-        bytes: usize,
+        bytes: Rc<Vec<u8>>,
+        origin: usize,
     ) -> Result<PlainCode, AllocError>
         ensures { IfOk result (λ code. limits_in code ≡ limits) }
     {
         Ok(PlainCode {
-            bytes: Vec::with_capacity(alloc, bytes)?,
+            bytes,
+            origin,
+            operator_bytes: 0,
             marks: Vec::new(alloc),
             entries: Vec::with_capacity(alloc, bodies)?,
             limits,
@@ -102,7 +109,11 @@ impl PlainCode {
     pub(crate) fn bytes_of(&self, entry: Entry) -> &[u8]
         ensures { result.now ≡ bytes_in self.now entry }
     {
-        bytes_between(&self.bytes, entry.begin as usize, entry.end as usize)
+        bytes_between(
+            self.bytes.as_ref(),
+            entry.begin as usize,
+            entry.end as usize,
+        )
     }
 
     // The marks of a body's arguments.
@@ -117,7 +128,8 @@ impl PlainCode {
         )
     }
 
-    // What is told of so many operators of these bytes and marks behind what stands there; none where a number passes 32 bits.
+    // What is told of so many operators of these bytes, which begin at `start` of the input, with marks behind those that stand there; none where
+    // these bytes don't stand there among those that are kept, or a number passes 32 bits.
     fn entry_behind(
         &self,
         operators: &[u8],
@@ -129,11 +141,16 @@ impl PlainCode {
         ensures { IfSome result (λ entry.
             IsBehind self.now operators.now marks.now count start locals entry) }
     {
-        let begin = u32::try_from(self.bytes.len()).ok()?;
+        let begin = u32::try_from(start.checked_sub(self.origin)?).ok()?;
+        let end = begin.checked_add(u32::try_from(operators.len()).ok()?)?;
+        let held = bytes_between(self.bytes.as_ref(), begin as usize, end as usize);
+        if !are_same(held, operators) {
+            return None;
+        }
         let first_mark = u32::try_from(self.marks.len()).ok()?;
         Some(Entry {
             begin,
-            end: begin.checked_add(u32::try_from(operators.len()).ok()?)?,
+            end,
             first_mark,
             last_mark: first_mark.checked_add(u32::try_from(marks.len()).ok()?)?,
             count: u32::try_from(count).ok()?,
@@ -180,7 +197,7 @@ impl PlainCode {
             return self.skip();
         };
         let mut code = self;
-        code.bytes.extend_from_slice(operators)?;
+        code.operator_bytes = code.operator_bytes.saturating_add(operators.len());
         code.marks.extend_from_slice(marks)?;
         code.entries.push(entry)?;
         Ok(code)
@@ -208,7 +225,6 @@ impl PlainCode {
         ensures { IfOk result (λ code. limits_in code.value ≡ limits_in self) }
     {
         let mut code = self;
-        code.bytes.shrink_to_fit();
         code.marks.shrink_to_fit();
         match Rc::new(alloc, code) {
             Ok(shared) => Ok(shared),

@@ -1,10 +1,11 @@
 //! A body as it stands in the input.
 #![tactic(auto, unfolding(crate::specs::PlainCode::limits_in, crate::specs::Function::name_of, crate::specs::Function::as_text, crate::specs::Function::body_of, crate::specs::Function::locations_of, crate::specs::Function::args_of, crate::specs::Function::handlers_in, crate::specs::Function::listed_in, crate::specs::Function::located_in))]
 
-ghost use Rattle.std.specs.Prelude.{◌≡◌, IsTrue};
+ghost use Rattle.std.specs.Prelude.{◌≡◌};
 ghost use Rattle.walrus_bodies.specs.PlainBody.{IsPlainBody};
 ghost use Rattle.walrus_bodies.specs.PlainCode.{bytes_at, entry_at, limits_at, marks_at};
 
+use crate::pieces::are_same;
 use crate::plain_code::{Entry, PlainCode};
 use std::alloc::AllocError;
 use std::rc::Rc;
@@ -21,13 +22,6 @@ pub struct Text {
     pub(crate) first_local: u32,
     ghost body: { ∥ IsPlainBody (limits_at code.value number) (bytes_at code.value number)
         (marks_at code.value number) (entry_at code.value number).count ∥₁ },
-}
-
-// Whether these are the same bytes.
-fn are_same(bytes: &[u8], others: &[u8]) -> bool
-    ensures { IsTrue result → bytes.now ≡ others.now }
-{
-    bytes == others
 }
 
 impl Text {

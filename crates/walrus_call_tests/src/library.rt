@@ -63,6 +63,16 @@ fn written_whole(alloc: Global, text: &str) -> Result<Vec<u8>, Error> {
     module.emit_whole(alloc)
 }
 
+// The same of bytes that are handed over.
+fn handed_over(alloc: Global, text: &str) -> Result<Vec<u8>, Error> {
+    let mut bytes = Vec::new(alloc);
+    add_bytes(&mut bytes, text);
+    let mut config = ModuleConfig::new();
+    config.generate_producers_section(false);
+    let mut module = config.parse_whole(alloc, bytes)?;
+    module.emit_wasm(alloc)
+}
+
 // The same by the one call that reads and writes.
 fn written_at_once(alloc: Global, text: &str) -> Result<Vec<u8>, Error> {
     let mut bytes = Vec::new(alloc);
@@ -77,6 +87,17 @@ fn what_was_read_is_written_whole(rt: HostRuntime) -> Result<(), Fail> {
     let alloc = rt.alloc();
     demand_output(alloc, written_whole(alloc, INPUT), INPUT)?;
     demand_output(alloc, written_at_once(alloc, INPUT), INPUT)
+}
+
+// An exported function of 41 nops, so that most bytes are a body.
+const MOSTLY_BODY: &str =
+    "00 61 73 6D 01 00 00 00 01 04 01 60 00 00 03 02 01 00 07 05 01 01 66 00 00 0A 2D 01 2B 00 01 01 01 01 01 01 01 01 01 01 01 01 01 01 01 01 01 01 01 01 01 01 01 01 01 01 01 01 01 01 01 01 01 01 01 01 01 01 01 01 01 0B";
+
+#[test]
+fn what_is_handed_over_is_written_whole(rt: HostRuntime) -> Result<(), Fail> {
+    let alloc = rt.alloc();
+    demand_output(alloc, handed_over(alloc, INPUT), INPUT)?;
+    demand_output(alloc, handed_over(alloc, MOSTLY_BODY), MOSTLY_BODY)
 }
 
 // Two equal types, a function of each, which are exported as a and b.

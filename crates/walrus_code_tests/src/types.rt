@@ -180,11 +180,15 @@ fn clones_are_equal(rt: HostRuntime) -> Result<(), Fail> {
     demand(expression_is_cloned(rt.alloc()), "an expression")
 }
 
+fn is_held(locals: &ModuleLocals, id: LocalId, ty: ValType) -> bool {
+    locals.contains(id) && locals.get(id).ty() == ty
+}
+
 fn has_a_local(locals: &mut ModuleLocals, name: String) -> bool {
     match locals.add(ValType::I64) {
         Ok(id) => {
             locals.get_mut(id).name = Some(name);
-            locals.get(id).ty() == ValType::I64 && locals.len() == 1
+            is_held(locals, id, ValType::I64) && locals.len() == 1
         }
         Err(_) => false,
     }
@@ -303,4 +307,32 @@ fn locals_are_listed(rt: HostRuntime) -> Result<(), Fail> {
     demand(locals.is_empty(), "no local")?;
     demand(are_listed(rt.alloc(), &mut locals), "two locals")?;
     demand(!locals.is_empty(), "not empty behind them")
+}
+
+fn is_called(locals: &ModuleLocals, id: LocalId, name: &str) -> bool {
+    locals.contains(id) && is_name(&locals.get(id).name, name)
+}
+
+// Whether the name that the second of two locals gets is there, and no other.
+fn is_named_alone(locals: &mut ModuleLocals, name: String) -> bool {
+    let (Ok(first), Ok(second)) = (locals.add(ValType::I32), locals.add(ValType::F32)) else {
+        return false;
+    };
+    let were_unnamed = locals.are_unnamed();
+    if !locals.contains(second) {
+        return false;
+    }
+    locals.get_mut(second).name = Some(name);
+    were_unnamed
+        && !locals.are_unnamed()
+        && is_called(locals, second, "x")
+        && !is_called(locals, first, "x")
+}
+
+#[test]
+fn a_local_gets_a_name(rt: HostRuntime) -> Result<(), Fail> {
+    let mut locals = ModuleLocals::new(rt.alloc());
+    let name = String::from_str(rt.alloc(), "x")?;
+    demand(is_named_alone(&mut locals, name), "the name")?;
+    demand(locals.len() == 2, "two locals")
 }

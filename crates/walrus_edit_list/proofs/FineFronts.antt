@@ -23,8 +23,9 @@ use Rattle.walrus_edit_list.specs.Fronts.{FrontsBody, FrontsFunction, FrontsKind
 use Rattle.walrus_edit_list.specs.Ids.{ids_of}
 use Rattle.walrus_edit_list.proofs.BodiesKept.{Said, said_body, said_of, set_kept}
 use Rattle.walrus_edit_list.proofs.FineFunctions.{ids_in_place, live, local_is, still_formed}
+use Rattle.walrus_edit_list.specs.Joined.{itself}
 use Rattle.walrus_edit_list.proofs.FrontFormed.{body_reads, split_last}
-use Rattle.walrus_edit_list.proofs.FrontNamed.{itself, itself_is}
+use Rattle.walrus_edit_list.proofs.FrontNamed.{itself_is}
 
 module _ (c : Config) (old : Contents) (bytes : List ℕ) where
   abbrev v : abstract.Abstract

@@ -16,7 +16,8 @@ use Rattle.walrus_bodies.specs.declared.features.Features.{Features}
 use Rattle.walrus_code.specs.FromRaw.{op_of}
 use Rattle.walrus_code.specs.Names.{Lookup, named_ops}
 use Rattle.walrus_edit_list.specs.Fronts.{but_last}
-use Rattle.walrus_edit_list.proofs.FrontNamed.{itself, ops_append, ops_but_last, ops_grow, types_grow}
+use Rattle.walrus_edit_list.specs.Joined.{itself}
+use Rattle.walrus_edit_list.proofs.FrontNamed.{ops_append, ops_but_last, ops_grow, types_grow}
 use Rattle.walrus_edit_list.proofs.FrontNests.{front_nests}
 
 -- ---- rows
@@ -30,7 +31,7 @@ row_but_last R bytes (y ∷ xs) x (front, (back, (parts, first, rest))) =
 row_front : {A : Type 0} (R : List ℕ → A → Type 0) (bytes : List ℕ) (all xs : List A) (x : A) → IsRow R bytes all → all ≡ xs ++ x ∷ [] → (front : List ℕ) × IsRow R front xs
 row_front R bytes all xs x h is = row_but_last R bytes xs x (subst (λ ys. IsRow R bytes ys) is h)
 
-row_append : {A : Type 0} (R : List ℕ → A → Type 0) (bytes more : List ℕ) (xs ys : List A) → IsRow R bytes xs → IsRow R more ys → IsRow R (bytes ++ more) (xs ++ ys)
+pub row_append : {A : Type 0} (R : List ℕ → A → Type 0) (bytes more : List ℕ) (xs ys : List A) → IsRow R bytes xs → IsRow R more ys → IsRow R (bytes ++ more) (xs ++ ys)
 row_append R bytes more [] ys h k = subst (λ (m : List ℕ). IsRow R m ys) (sym (ap (λ (m : List ℕ). m ++ more) h)) k
 row_append R bytes more (x ∷ xs) ys (front, (back, (parts, first, rest))) k =
     (front, (back ++ more, (ap (λ (m : List ℕ). m ++ more) parts ∙ append_assoc front back more, first, row_append R back more xs ys rest k)))
@@ -41,17 +42,17 @@ more_allowed : (legacy wide stable all : Bool) → ((not legacy || false) && not
 more_allowed true wide stable all h = absurd (cc)
 more_allowed false wide stable all h = h
 
-all_allowed : (f : Features) (ops : List Op) → are_allowed (record f { legacy_exceptions = false }) ops ≡ true → are_allowed f ops ≡ true
+pub all_allowed : (f : Features) (ops : List Op) → are_allowed (record f { legacy_exceptions = false }) ops ≡ true → are_allowed f ops ≡ true
 all_allowed f [] h = refl
 all_allowed f (o ∷ ops) h =
     let both = and_parts (is_allowed (record f { legacy_exceptions = false }) o.op) (are_allowed (record f { legacy_exceptions = false }) ops) h in
     both_true (more_allowed (is_legacy o.op) (is_wide_arithmetic o.op) f.only_stable f.legacy_exceptions both.0) (all_allowed f ops both.1)
 
 module _ {A : Type 0} (test : A → Bool) where
-  all_front : (a b : List A) → list_all test (a ++ b) ≡ true → list_all test a ≡ true
+  pub all_front : (a b : List A) → list_all test (a ++ b) ≡ true → list_all test a ≡ true
   all_front a b h = (and_parts (list_all test a) (list_all test b) (sym (list_all-append test a b) ∙ h)).0
 
-  all_both : (a b : List A) → list_all test a ≡ true → list_all test b ≡ true → list_all test (a ++ b) ≡ true
+  pub all_both : (a b : List A) → list_all test a ≡ true → list_all test b ≡ true → list_all test (a ++ b) ≡ true
   all_both a b h k = list_all-append test a b ∙ both_true h k
 
 -- ---- locals

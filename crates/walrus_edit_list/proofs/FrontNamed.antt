@@ -9,10 +9,7 @@ use Rattle.walrus_code.specs.FromRaw.{val_of}
 use Rattle.walrus_code.specs.Names.{Lookup, named_arg, named_args, named_block, named_heap, named_op, named_ops, named_val}
 use Rattle.walrus_code.proofs.Named.{ops_again, val_again}
 use Rattle.walrus_bodies.specs.Body.{declared_types}
-
--- each number is that of the item itself
-abbrev pub itself : Lookup
-itself space n = Some n
+use Rattle.walrus_edit_list.specs.Joined.{itself}
 
 pub itself_is : (space : Space) (n found : ℕ) → itself space n ≡ Some found → found ≡ n
 itself_is space n found is = cc

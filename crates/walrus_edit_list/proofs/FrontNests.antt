@@ -10,12 +10,12 @@ use Rattle.walrus_bodies.specs.declared.blocks.Opened.TheVariants.{Plain, If, Tr
 
 -- ---- the outermost open block is the function
 
-abbrev Bottom : List Opened → Type 0
+abbrev pub Bottom : List Opened → Type 0
 Bottom [] = Unit {0}
 Bottom (b ∷ []) = b ≡ Plain
 Bottom (b ∷ c ∷ around) = Bottom (c ∷ around)
 
-abbrev InFunction : Option (List Opened) → Type 0
+abbrev pub InFunction : Option (List Opened) → Type 0
 InFunction None = Unit {0}
 InFunction (Some blocks) = Bottom blocks
 
@@ -68,13 +68,13 @@ behind_is op b around h =
     (by_test InFunction (nat_eq op DELEGATE) _ _ (behind_delegate_is (b ∷ around) h)
     (by_test InFunction (nat_eq op END) _ _ (around_is b around h) h)))))))
 
-after_is : (op : ℕ) (args : List Arg) (blocks : List Opened) → Bottom blocks → InFunction (blocks_after op args blocks)
+pub after_is : (op : ℕ) (args : List Arg) (blocks : List Opened) → Bottom blocks → InFunction (blocks_after op args blocks)
 after_is op args [] h = tt
 after_is op args (b ∷ around) h = by_test InFunction (labels_below (blocks_meant op (b ∷ around)) args) _ _ (behind_is op b around h) tt
 
 -- ---- one operator closes at most one block
 
-abbrev StaysOpen : Option (List Opened) → Type 0
+abbrev pub StaysOpen : Option (List Opened) → Type 0
 StaysOpen None = Unit {0}
 StaysOpen (Some []) = ⊥
 StaysOpen (Some (b ∷ around)) = Unit {0}
@@ -114,10 +114,10 @@ behind_open op b c around =
     with_delegate Try = tt
     with_delegate Handled = tt
 
-after_open : (op : ℕ) (args : List Arg) (b c : Opened) (around : List Opened) → StaysOpen (blocks_after op args (b ∷ c ∷ around))
+pub after_open : (op : ℕ) (args : List Arg) (b c : Opened) (around : List Opened) → StaysOpen (blocks_after op args (b ∷ c ∷ around))
 after_open op args b c around = by_test StaysOpen (labels_below (blocks_meant op (b ∷ c ∷ around)) args) _ _ (behind_open op b c around) tt
 
-closes_all : (after : Option (List Opened)) → StaysOpen after → nests after [] ≡ true → ⊥
+pub closes_all : (after : Option (List Opened)) → StaysOpen after → nests after [] ≡ true → ⊥
 closes_all None stays closed = untrue closed
 closes_all (Some []) stays closed = stays
 closes_all (Some (b ∷ around)) stays closed = untrue closed

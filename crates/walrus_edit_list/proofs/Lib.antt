@@ -1,5 +1,6 @@
 pub use Rattle.walrus_module.proofs.CheckedWell
 mod BodiesKept
+mod ClosingEnd
 mod Counting
 pub mod EditRows
 mod Exporting
@@ -17,10 +18,12 @@ mod FrontNests
 mod FunctionEdits
 mod FunctionRefusals
 mod Importing
+mod Joining
 pub mod Keeping
 mod Numbered
 pub mod ParsedFormed
 mod Places
+mod PlacesInTurn
 mod ReadFormed
 mod Refusing
 mod RefusingBodies

@@ -26,6 +26,7 @@ use Rattle.walrus_items.specs.declared.function_kind.FunctionKind.{FunctionKind}
 use Rattle.walrus_items.specs.declared.function_kind.FunctionKind.TheVariants.{Local}
 use Rattle.walrus_edit_list.specs.Fronts.{FrontsKind, IsFront, IsNoFront, RefusesKind, but_last}
 use Rattle.walrus_edit_list.specs.Functions.{DeclaresNone, RefusesBody, RefusesForm}
+use Rattle.walrus_edit_list.specs.Joined.{Fronts, LeadsToItself}
 use Rattle.walrus_edit_list.specs.declared.front.TheConstants.{END}
 
 module _ (names : Lookup) (tags : ℕ → Option ℕ) (f : Features) (ty : ℕ) (code : List ℕ) (types : ModuleTypes) (all : ModuleLocals) where
@@ -79,3 +80,8 @@ module _ (names : Lookup) (types : ModuleTypes) (f : Features) (bytes : List ℕ
   kind_fronts read made front operators others =
       subst (λ (k : FunctionKind). FrontsKind names types f bytes k (Local made)) (sym is)
       (made, refl, record { read = read; front = subst (λ (ps : List ℕ). IsFront names types f bytes ps read) are front; operators = operators; others = others })
+
+  -- the same of what a text was made of
+  pub text_fronts : (read : List Op) (made : LocalFunction) → LeadsToItself names → IsFront names types f bytes (map place parameters) read → Fronts bytes own made → FrontsKind names types f bytes kind (Local made)
+  text_fronts read made in_place front fronts =
+      kind_fronts read made front (fronts.operators names (is_function_at types) f read in_place (subst (λ (ps : List ℕ). IsFront names types f bytes ps read) are front)) fronts.others

@@ -1,5 +1,5 @@
 -- Functions whose bodies are given in the binary format, with ids as indices ("Binary Format > Modules > Code Section").
-use Rattle.std.specs.Prelude.{ℕ, ◌+◌, ◌<◌, ◌≤◌, true, false, List, [], ◌∷◌, ◌++◌, length, Option, Some, None, option_map, slice_set, ◌≡◌, ◌⊎◌, ⊤}
+use Rattle.std.specs.Prelude.{ℕ, ◌+◌, ◌<◌, ◌≤◌, true, false, List, [], ◌∷◌, ◌++◌, length, Option, Some, None, slice_set, ◌≡◌, ◌⊎◌, ⊤}
 use Rattle.wasm_forms.specs.Grammar.{Is, at}
 use Rattle.wasm_forms.specs.declared.types.RawVal.{RawVal}
 use Rattle.walrus_base.specs.Arena.{item_at}

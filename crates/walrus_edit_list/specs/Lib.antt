@@ -16,6 +16,7 @@ pub mod Globals
 pub mod Held
 pub mod Ids
 pub mod Imports
+pub mod Joined
 pub mod Makes
 pub mod Memories
 pub mod Naming

@@ -3,11 +3,13 @@
 ghost use Rattle.std.specs.Prelude.{◌≡◌, MatchResult};
 ghost use Rattle.wasm_frames.specs.Steps.{section_record};
 ghost use Rattle.walrus_bodies.specs.declared.features.Features.{Features};
+ghost use Rattle.walrus_code.specs.Indices.{index_of};
 ghost use Rattle.walrus_functions.specs.Signatures.{tag_places};
 ghost use Rattle.walrus_edit_list.specs.Applies.{AppliesFirst};
 ghost use Rattle.walrus_edit_list.specs.Edits.{deletion_seen, edit_seen, setting_seen};
 ghost use Rattle.walrus_edit_list.specs.Held.{held};
 ghost use Rattle.walrus_edit_list.specs.Ids.{tag_types};
+ghost use Rattle.walrus_edit_list.specs.Joined.{LeadsToItself};
 ghost use Rattle.walrus_edit_list.specs.Makes.{
   AddsSection,
   Makes,
@@ -37,6 +39,7 @@ use crate::types::add_types;
 use std::alloc::Global;
 use walrus_base::TypeId;
 use walrus_bodies::Features;
+use walrus_code::IdsToIndices;
 use walrus_items::{Error, ErrorKind, Result};
 use walrus_module::Module;
 use wasm_frames::RawSection;
@@ -121,10 +124,12 @@ fn apply<S>(
     edit: Edit<'_>,
     features: &Features,
     tags: &[TypeId],
+    places: &IdsToIndices,
     module: &mut Module<S>,
     beside: &mut Beside,
 ) -> Result<()>
     requires tags { tag_places tags.now ≡ tag_types «module».old.tags }
+    requires places { LeadsToItself (index_of places.now) }
     ensures { MatchResult result
         (λ _. Makes features.now (edit_seen edit.entry) (held «module».old beside.old)
         (held «module».new beside.new))
@@ -147,7 +152,7 @@ fn apply<S>(
             Ok(())
         }
         Edit::Front(number, operators) => {
-            front_function(alloc, number, operators, features, module)
+            front_function(alloc, number, operators, features, places, module)
         }
     }
 }
@@ -162,14 +167,16 @@ pub(crate) fn apply_first<'a, S>(
     edits: &'a [u8],
     features: &Features,
     tags: &[TypeId],
+    places: &IdsToIndices,
     module: &mut Module<S>,
     beside: &mut Beside,
 ) -> Result<&'a [u8]>
     requires tags { tag_places tags.now ≡ tag_types «module».old.tags }
+    requires places { LeadsToItself (index_of places.now) }
     ensures { AppliesFirst features.now edits.now (held «module».old beside.old)
         (held «module».new beside.new) result }
 {
     let (edit, behind) = read_edit(alloc, edits)?;
-    apply(alloc, edit, features, tags, module, beside)?;
+    apply(alloc, edit, features, tags, places, module, beside)?;
     Ok(behind)
 }

@@ -3,18 +3,20 @@
 ghost use Rattle.std.specs.Prelude.{◌≡◌, ◌++◌, MatchResult, map};
 ghost use Rattle.walrus_base.specs.Id.{place};
 ghost use Rattle.walrus_code.specs.Code.{ops_of};
-ghost use Rattle.walrus_code.specs.Indices.{ids_at};
+ghost use Rattle.walrus_code.specs.Indices.{ids_at, index_of};
 ghost use Rattle.walrus_items.specs.Errors.{out_of_memory};
 ghost use Rattle.walrus_items.specs.Function.{KeepsOthers, body_of};
 ghost use Rattle.walrus_module.specs.View.{contents_of};
 ghost use Rattle.walrus_edit_list.specs.Fronts.{FrontsFunction, FrontsKind, IsFront, IsNoFront, RefusesFront, RefusesKind, but_last};
 ghost use Rattle.walrus_edit_list.specs.Functions.{RefusesForm};
+ghost use Rattle.walrus_edit_list.specs.Joined.{LeadsToItself};
 
 use crate::ids::ids_of;
+use crate::joined::front_text;
 use std::alloc::Global;
 use walrus_base::{FunctionId, LocalId, ModuleTypes};
 use walrus_bodies::{Features, LocalFunction, read_operators};
-use walrus_code::{IndicesToIds, InstrLocId, Operator};
+use walrus_code::{IdsToIndices, IndicesToIds, InstrLocId, Operator};
 use walrus_items::{Error, FunctionKind, Result};
 use walrus_module::Module;
 
@@ -76,9 +78,12 @@ fn front_kind(
     bytes: &[u8],
     features: &Features,
     ids: &IndicesToIds,
+    places: &IdsToIndices,
     types: &ModuleTypes,
     kind: &mut FunctionKind,
 ) -> Result<()>
+    requires ids { LeadsToItself (ids_at ids.now) }
+    requires places { LeadsToItself (index_of places.now) }
     ensures { MatchResult result
         (λ _. FrontsKind (ids_at ids.now) types.now features.now bytes.now kind.old kind.new)
         (RefusesKind (ids_at ids.now) types.now features.now bytes.now kind.old) }
@@ -88,6 +93,10 @@ fn front_kind(
     };
     let parameters = own.args(alloc)?;
     let front = read_front(alloc, bytes, features, ids, types, parameters.as_slice())?;
+    if let Some(made) = front_text(alloc, bytes, own, ids, places)? {
+        *own = made;
+        return Ok(());
+    }
     put_front(alloc, front, own)?;
     Ok(())
 }
@@ -104,8 +113,10 @@ pub(crate) fn front_function<S>(
     number: u32,
     bytes: &[u8],
     features: &Features,
+    places: &IdsToIndices,
     module: &mut Module<S>,
 ) -> Result<()>
+    requires places { LeadsToItself (index_of places.now) }
     ensures { MatchResult result
         (λ _. FrontsFunction features.now number bytes.now (contents_of «module».old)
         (contents_of «module».new))
@@ -117,6 +128,6 @@ pub(crate) fn front_function<S>(
     }
     let ids = ids_of(alloc, module)?;
     let kind = &mut module.funcs.get_mut(id).kind;
-    front_kind(alloc, bytes, features, &ids, &module.types, kind)?;
+    front_kind(alloc, bytes, features, &ids, places, &module.types, kind)?;
     Ok(())
 }

@@ -19,6 +19,7 @@ mod functions;
 mod globals;
 mod ids;
 mod imports;
+mod joined;
 mod law;
 mod list;
 mod memories;

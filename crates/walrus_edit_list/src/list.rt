@@ -6,7 +6,7 @@ ghost use Rattle.walrus_edit_list.specs.Held.{held};
 
 use crate::apply::apply_first;
 use crate::beside::Beside;
-use crate::ids::types_of_tags;
+use crate::ids::{places_of_items, types_of_tags};
 use std::alloc::Global;
 use std::result;
 use walrus_bodies::Features;
@@ -42,12 +42,16 @@ pub fn apply_all<S>(
         Ok(types) => types,
         Err(error) => return Err(Refusal { applied: 0, error }),
     };
+    let places = match places_of_items(alloc, module) {
+        Ok(places) => places,
+        Err(error) => return Err(Refusal { applied: 0, error }),
+    };
     let mut rest = edits;
     'edits: for applied in 0..edits.len() {
         if rest.is_empty() {
             return Ok(applied);
         }
-        match apply_first(alloc, rest, features, &tag_types, module, beside) {
+        match apply_first(alloc, rest, features, &tag_types, &places, module, beside) {
             Ok(behind) => rest = behind,
             Err(error) => return Err(Refusal { applied, error }),
         }

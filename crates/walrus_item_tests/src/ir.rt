@@ -56,7 +56,10 @@ fn is_written(
 fn scanned(alloc: Global, bytes: &[u8], ids: &IndicesToIds) -> Result<Rc<PlainCode>, AllocError>
     ensures { IfOk result (λ code. AreInPlace (limits_in code.value) (ids_at ids.now)) }
 {
-    let empty = PlainCode::new(alloc, limits_of(ids), 1, bytes.len())?;
+    let Ok(kept) = Rc::new(alloc, bytes.to_vec(alloc)?) else {
+        return Err(AllocError);
+    };
+    let empty = PlainCode::new(alloc, limits_of(ids), 1, kept, 40)?;
     let mut room = ScanRoom::new(alloc)?;
     let code = scan_body(alloc, empty, bytes, 40, 0, &mut room)?;
     code.share(alloc)

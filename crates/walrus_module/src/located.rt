@@ -9,6 +9,7 @@ ghost use Rattle.walrus_theorem.specs.Features.{features_of};
 use crate::config::ModuleConfig;
 use crate::hook::LocationHook;
 use std::alloc::Global;
+use std::rc::Rc;
 use walrus_code::InstrLocId;
 use walrus_items::Result;
 use walrus_reading::{ReadModule, read};
@@ -23,8 +24,13 @@ impl LocationHook {
 }
 
 impl ModuleConfig {
-    // What is read of the bytes, refused as by [`ModuleConfig::parse`].
-    pub(crate) fn read(&self, alloc: Global, bytes: &[u8]) -> Result<ReadModule>
+    // What is read of the bytes, refused as by [`ModuleConfig::parse`]; `whole` are the same bytes, where they may be shared.
+    pub(crate) fn read(
+        &self,
+        alloc: Global,
+        bytes: &[u8],
+        whole: Option<&Rc<Vec<u8>>>,
+    ) -> Result<ReadModule>
         ensures found { IfOk result (λ m. IsParsed (config_of (flags self.now)) bytes.now (read_view m)) }
         ensures refused { IfErr result (RefusesBytes (config_of (flags self.now)) bytes.now) }
         ensures taken { IfOk result (λ m. TakenFrom (features_of (config_of (flags self.now))) bytes.now
@@ -41,14 +47,14 @@ impl ModuleConfig {
                 let locate = |place: &usize| -> InstrLocId
                     ensures { MayAnswer hook.entry.now place.now result }
                 { hook.locate(place) };
-                read(alloc, bytes, features, synthetic, false, &locate)
+                read(alloc, bytes, whole, features, synthetic, false, &locate)
             }
             None => {
                 let locate = |place: &usize| -> InstrLocId
                     ensures { location result ≡ location_at place.now }
                 { InstrLocId::of_place(*place) };
                 let as_texts = !self.switches.preserve_code_transform;
-                read(alloc, bytes, features, synthetic, as_texts, &locate)
+                read(alloc, bytes, whole, features, synthetic, as_texts, &locate)
             }
         }
     }

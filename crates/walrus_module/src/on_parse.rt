@@ -103,7 +103,7 @@ impl<'a, H: ParseHook> OnParse<'a, H> {
         ensures ran { RunsHook ⟦<dyn CustomSection as CustomSection>⟧ (H.does self.now.hook)
             (flags self.now.config.now) (Gives self.now.config.now) bytes.now result }
     {
-        let found = self.config.read(alloc, bytes)?;
+        let found = self.config.read(alloc, bytes, None)?;
         let type_count = found.type_count;
         let customs = ModuleCustomSections::keeping(alloc, found.customs)?;
         let mut module = Module::holding(found.contents, customs, self.config.switches);

@@ -22,6 +22,7 @@ pub mod Numbered
 pub mod Placed
 pub mod ProducersHeld
 pub mod Refusals
+pub mod Rest
 pub mod Rooms
 pub mod Rows
 pub mod StillBrought

@@ -7,6 +7,7 @@ pub mod Numbers
 pub mod Parsed
 pub mod Placed
 pub mod Producers
+pub mod Rest
 pub mod Sections
 pub mod Stays
 pub mod Taken

@@ -20,6 +20,7 @@ ghost use Rattle.wasm_frames.specs.Record.{sections};
 ghost use Rattle.walrus_items.specs.Function.{locations_of};
 
 use crate::functions::Under;
+use crate::input::Input;
 use std::alloc::{AllocError, Global};
 use std::rc::Rc;
 use std::result;
@@ -84,18 +85,10 @@ fn param_count(index: u32, indices: &IndicesToIds, types: &ModuleTypes) -> usize
     }
 }
 
-// How many bytes the bodies have together.
-fn byte_count(bodies: &[RawBody<'_>]) -> usize {
-    let mut count: usize = 0;
-    for body in bodies {
-        count = count.saturating_add(body.bytes.len());
-    }
-    count
-}
-
-// The code of the bodies of these sections.
+// The code of the bodies of these sections, which are those of the input.
 fn scan_bodies(
     alloc: Global,
+    input: Input<'_>,
     raw: &Raw<'_>,
     indices: &IndicesToIds,
     types: &ModuleTypes,
@@ -103,8 +96,8 @@ fn scan_bodies(
     ensures { IfOk result (λ code. AreInPlace (limits_in code) (ids_at indices.now)) }
 {
     let limits = limits_of(indices);
-    let bytes = byte_count(&raw.bodies);
-    let mut code = PlainCode::new(alloc, limits, raw.bodies.len(), bytes)?;
+    let (bytes, origin) = input.kept(alloc, raw.bodies.as_slice())?;
+    let mut code = PlainCode::new(alloc, limits, raw.bodies.len(), bytes, origin)?;
     let mut room = ScanRoom::new(alloc)?;
     'bodies: for (body, index) in raw.bodies.iter().zip(raw.functions.iter()) {
         let params = param_count(*index, indices, types);
@@ -113,9 +106,11 @@ fn scan_bodies(
     Ok(code)
 }
 
-/// The code of the bodies of these sections, if plain bodies are to be kept as they stand in the input. `Memory` is the only error.
+/// The code of the bodies of these sections, which are those of the input, if plain bodies are to be kept as they stand there. `Memory` is the only
+/// error.
 pub(crate) fn texts_of(
     alloc: Global,
+    input: Input<'_>,
     as_texts: bool,
     raw: &Raw<'_>,
     indices: &IndicesToIds,
@@ -129,7 +124,7 @@ pub(crate) fn texts_of(
     if !as_texts {
         return Ok(None);
     }
-    let code = scan_bodies(alloc, raw, indices, types)?;
+    let code = scan_bodies(alloc, input, raw, indices, types)?;
     Ok(Some(code.share(alloc)?))
 }
 

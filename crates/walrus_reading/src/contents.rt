@@ -15,6 +15,7 @@ ghost use Rattle.walrus_model.specs.Reads.{declared};
 ghost use Rattle.walrus_reading.specs.Imported.{HoldsImported};
 ghost use Rattle.walrus_reading.specs.Numbers.{FitsIndices};
 ghost use Rattle.walrus_reading.specs.Producers.{HoldsProducers};
+ghost use Rattle.walrus_reading.specs.Rest.{RestStays};
 ghost use Rattle.walrus_reading.specs.Taken.{AreLocatedIn, TakesBodies, TakesSections};
 ghost use Rattle.walrus_reading.specs.Sections.{Rules};
 ghost use Rattle.walrus_items.specs.Errors.{out_of_memory};
@@ -27,6 +28,7 @@ use crate::exports::add_exports;
 use crate::functions::{Under, add_functions};
 use crate::globals::add_globals;
 use crate::imports::add_imports;
+use crate::input::Input;
 use crate::memories::add_memories;
 use crate::numbers::number_items;
 use crate::producers::add_producers;
@@ -45,39 +47,46 @@ use wasm_frames::Raw;
 
 /// What sections that keep the rules hold, where bodies may use these proposals and `locate` gives each operator its location; where the locals
 /// of each function begin, with the end behind them; and how many types were read. With `as_texts` plain bodies are kept as they stand in the
-/// input, and their operators are located by their places.
+/// input, and their operators are located by their places. The records of types, imports, functions, bodies and globals are let go as soon as
+/// they are read.
 ///
 /// # Errors
 ///
 /// `InvalidWasm` exactly where a body isn't read, and `Memory`.
 pub(crate) fn read_contents<L: Fn(&usize) -> InstrLocId>(
     alloc: Global,
-    raw: &Raw<'_>,
+    input: Input<'_>,
+    raw: &mut Raw<'_>,
     features: &Features,
     as_texts: bool,
     locate: &L,
 ) -> Result<(Contents, Vec<usize>, usize)>
-    requires rules { Rules (sections raw.now) }
-    requires room { FitsIndices (sections raw.now) }
+    requires rules { Rules (sections raw.old) }
+    requires room { FitsIndices (sections raw.old) }
     requires callable { L.IsAlwaysCallable locate.now }
-    ensures taken { TakesSections features.now (sections raw.now) result }
+    ensures taken { TakesSections features.now (sections raw.old) result }
     ensures located { IfOk result (λ m. AreLocatedIn (GivenIf as_texts (FnReturnsAt L.Fn locate.now))
-        (sections raw.now) (functions m.0.funcs)) }
-    ensures produced { IfOk result (λ m. HoldsProducers (sections raw.now) m.0.producers) }
-    ensures counted { IfOk result (λ m. m.2 ≡ length (types_from 0 (sections raw.now).types)) }
+        (sections raw.old) (functions m.0.funcs)) }
+    ensures produced { IfOk result (λ m. HoldsProducers (sections raw.old) m.0.producers) }
+    ensures counted { IfOk result (λ m. m.2 ≡ length (types_from 0 (sections raw.old).types)) }
+    ensures customs { OnOk result (raw.new.customs ≡ raw.old.customs) }
 {
     let mut indices = IndicesToIds::new(alloc);
     let (mut contents, starts, type_count) = read_functions(
         alloc,
+        input,
         raw,
         features,
         as_texts,
         locate,
         &mut indices,
     )?;
+    raw.functions = Vec::new(alloc);
+    raw.bodies = Vec::new(alloc);
     add_tables(alloc, &raw.tables, &indices, &mut contents.tables)?;
     add_memories(&raw.memories, &mut contents.memories)?;
     add_globals(alloc, &raw.globals, &indices, &mut contents.globals)?;
+    raw.globals = Vec::new(alloc);
     add_elements(
         alloc,
         &raw.elements,
@@ -100,28 +109,33 @@ pub(crate) fn read_contents<L: Fn(&usize) -> InstrLocId>(
 
 /// The types of these sections, what their imports bring, their tags and their functions, as [`read_contents`] reads them; where the locals of each
 /// function begin, with the end behind them; and how many types were read. Refused, the first function whose body isn't read is told.
+/// The records of types and imports are let go in front of the functions.
 pub(crate) fn read_functions<L: Fn(&usize) -> InstrLocId>(
     alloc: Global,
-    raw: &Raw<'_>,
+    input: Input<'_>,
+    raw: &mut Raw<'_>,
     features: &Features,
     as_texts: bool,
     locate: &L,
     indices: &mut IndicesToIds,
 ) -> result::Result<(Contents, Vec<usize>, usize), Unread>
-    requires rules { Rules (sections raw.now) }
-    requires room { FitsIndices (sections raw.now) }
+    requires rules { Rules (sections raw.old) }
+    requires room { FitsIndices (sections raw.old) }
     requires callable { L.IsAlwaysCallable locate.now }
     requires no_indices { (space : Space) → places_in indices.old space ≡ [] }
-    ensures taken { TakesBodies features.now (sections raw.now) result }
+    ensures taken { TakesBodies features.now (sections raw.old) result }
     ensures located { IfOk result (λ m. AreLocatedIn (GivenIf as_texts (FnReturnsAt L.Fn locate.now))
-        (sections raw.now) (functions m.0.funcs)) }
-    ensures counted { IfOk result (λ m. m.2 ≡ length (types_from 0 (sections raw.now).types)) }
-    ensures numbered { OnOk result (ids_at indices.new ≡ declared (sections raw.now)) }
+        (sections raw.old) (functions m.0.funcs)) }
+    ensures counted { IfOk result (λ m. m.2 ≡ length (types_from 0 (sections raw.old).types)) }
+    ensures numbered { OnOk result (ids_at indices.new ≡ declared (sections raw.old)) }
+    ensures rest { OnOk result (RestStays raw.old raw.new) }
 {
     let (mut contents, type_count) = read_imported(alloc, raw, indices)?;
     add_tags(&raw.tags, indices, &mut contents.tags)?;
     let tag_types = types_of_tags(alloc, &contents.tags)?;
-    let texts = texts_of(alloc, as_texts, raw, indices, &contents.types)?;
+    raw.types = Vec::new(alloc);
+    raw.imports = Vec::new(alloc);
+    let texts = texts_of(alloc, input, as_texts, raw, indices, &contents.types)?;
     let starts = add_functions(
         &Under {
             alloc,

@@ -2,6 +2,7 @@
 ghost use Rattle.std.specs.Prelude.{IfOk};
 ghost use Rattle.walrus_reading.specs.Faults.{FindsFault};
 
+use crate::input::Input;
 use crate::unread::unread_body;
 use std::alloc::{AllocError, Global};
 use std::result;
@@ -31,7 +32,7 @@ pub fn first_fault(
 ) -> result::Result<Option<Fault>, AllocError>
     ensures { IfOk result (λ found. FindsFault features.now bytes.now found) }
 {
-    let raw = match framed_until(alloc, bytes)? {
+    let mut raw = match framed_until(alloc, bytes)? {
         Framed::Whole(raw) => raw,
         Framed::NoHeader => return Ok(Some(Fault::Header)),
         Framed::Until(place) => return Ok(Some(Fault::Section(place))),
@@ -39,7 +40,8 @@ pub fn first_fault(
     if let Some(rule) = broken_rule(alloc, &raw)? {
         return Ok(Some(Fault::Rule(rule)));
     }
-    match unread_body(alloc, &raw, features)? {
+    let input = Input { bytes, whole: None };
+    match unread_body(alloc, input, &mut raw, features)? {
         Some(index) => Ok(Some(Fault::Body(index))),
         None => Ok(None),
     }

@@ -15,6 +15,7 @@ mod faults;
 mod functions;
 mod globals;
 mod imports;
+mod input;
 pub mod law;
 mod memories;
 mod module;

@@ -6,9 +6,11 @@ ghost use Rattle.walrus_functions.specs.ReadFunction.{GivenIf};
 ghost use Rattle.walrus_reading.specs.Parsed.{AreLocated, HasTypesRead, IsParsed, IsReadWith, ItemsAtOwnIds, KeepsCustoms, RefusesBytes, TakenFrom, read_view};
 
 use crate::customs::keep_sections;
+use crate::input::Input;
 use crate::names::read_named;
 use crate::numbers::check_room;
 use std::alloc::Global;
+use std::rc::Rc;
 use walrus_bodies::Features;
 use walrus_code::InstrLocId;
 use walrus_contents::Contents;
@@ -33,7 +35,8 @@ pub struct ReadModule {
 /// it declares. Each type that a legacy handler needs is found among the types, or stands behind those that were read. Names are those that the
 /// custom sections called `name` give ("Appendix > Custom Sections > Name Section"), and where `synthetic` says so, functions and locals that
 /// have none then get one of their index. Of each custom section called `producers` the fields that stand whole before its first fault are held,
-/// and this program with them. Those whose names begin with `.debug` are passed over, and all others are kept as they were read.
+/// and this program with them. Those whose names begin with `.debug` are passed over, and all others are kept as they were read. Where the same bytes
+/// may be shared, as `whole`, plain bodies are kept within these; else they are copied.
 ///
 /// # Errors
 ///
@@ -41,6 +44,7 @@ pub struct ReadModule {
 pub fn read<L: Fn(&usize) -> InstrLocId>(
     alloc: Global,
     bytes: &[u8],
+    whole: Option<&Rc<Vec<u8>>>,
     features: Features,
     synthetic: bool,
     as_texts: bool,
@@ -58,11 +62,14 @@ pub fn read<L: Fn(&usize) -> InstrLocId>(
     ensures kept { IfOk result (λ m. KeepsCustoms bytes.now m.customs.items) }
     ensures counted { IfOk result (λ m. HasTypesRead bytes.now m.type_count) }
 {
-    let raw = read_module(alloc, bytes)?;
+    let mut raw = read_module(alloc, bytes)?;
     check(alloc, &raw)?;
     check_room(&raw)?;
     let customs = keep_sections(alloc, &raw.customs)?;
-    let (contents, type_count) = read_named(alloc, &raw, &features, synthetic, as_texts, locate)?;
+    let input = Input { bytes, whole };
+    let (contents, type_count) = read_named(
+        alloc, input, &mut raw, &features, synthetic, as_texts, locate,
+    )?;
     Ok(ReadModule {
         contents,
         customs,

@@ -18,6 +18,7 @@ ghost use Rattle.walrus_reading.specs.Synthetic.{AreNamed, finished};
 ghost use Rattle.walrus_reading.specs.TakenNames.{TakesNames};
 
 use crate::contents::read_contents;
+use crate::input::Input;
 use crate::sink::{NameBounds, Namer};
 use crate::synthetic::fill_names;
 use std::alloc::Global;
@@ -31,30 +32,31 @@ use wasm_wire::CustomGroup;
 
 /// What sections that keep the rules hold, where bodies may use these proposals and `locate` gives each operator its location, with the names
 /// that the sections called `name` give, and where `synthetic` says so those that functions and locals without a name are given; and how many
-/// types were read.
+/// types were read. Records are let go once they are read.
 ///
 /// # Errors
 ///
 /// `InvalidWasm` exactly where a body isn't read, and `Memory`.
 pub(crate) fn read_named<L: Fn(&usize) -> InstrLocId>(
     alloc: Global,
-    raw: &Raw<'_>,
+    input: Input<'_>,
+    raw: &mut Raw<'_>,
     features: &Features,
     synthetic: bool,
     as_texts: bool,
     locate: &L,
 ) -> Result<(Contents, usize)>
-    requires rules { Rules (sections raw.now) }
-    requires room { FitsIndices (sections raw.now) }
+    requires rules { Rules (sections raw.old) }
+    requires room { FitsIndices (sections raw.old) }
     requires callable { L.IsAlwaysCallable locate.now }
-    ensures taken { TakesNamed features.now synthetic (sections raw.now) (first_told result) }
+    ensures taken { TakesNamed features.now synthetic (sections raw.old) (first_told result) }
     ensures own_ids { IfOk result (λ m. ItemsAtOwnIds m.0) }
     ensures located { IfOk result (λ m. AreLocatedIn (GivenIf as_texts (FnReturnsAt L.Fn locate.now))
-        (sections raw.now) (functions m.0.funcs)) }
-    ensures produced { IfOk result (λ m. HoldsProducers (sections raw.now) m.0.producers) }
-    ensures counted { IfOk result (λ m. m.1 ≡ length (types_from 0 (sections raw.now).types)) }
+        (sections raw.old) (functions m.0.funcs)) }
+    ensures produced { IfOk result (λ m. HoldsProducers (sections raw.old) m.0.producers) }
+    ensures counted { IfOk result (λ m. m.1 ≡ length (types_from 0 (sections raw.old).types)) }
 {
-    let (contents, starts, types) = read_contents(alloc, raw, features, as_texts, locate)?;
+    let (contents, starts, types) = read_contents(alloc, input, raw, features, as_texts, locate)?;
     let bounds = NameBounds {
         types,
         starts,

@@ -8,6 +8,7 @@ ghost use Rattle.wasm_frames.specs.Record.{sections};
 ghost use Rattle.wasm_wire.specs.Rules.{Rules};
 
 use crate::contents::read_functions;
+use crate::input::Input;
 use crate::numbers::check_room;
 use std::alloc::{AllocError, AllocFailed, Global};
 use std::result;
@@ -65,27 +66,29 @@ pub fn unread_at(index: usize, e: IrError) -> Unread
     }
 }
 
-/// The index of the first function of these sections whose body isn't read, where bodies may use these proposals; none where all are read. The
-/// functions that imports bring have the first indices, so the body of function f is the one of that number in the code section less these.
+/// The index of the first function of these sections, which are those of the input, whose body isn't read, where bodies may use these proposals; none
+/// where all are read. The functions that imports bring have the first indices, so the body of function f is the one of that number in the code section less these.
+/// Records are let go once they are read.
 ///
 /// # Errors
 ///
 /// A request for memory was refused, or imports and functions are too many for indices.
 pub fn unread_body(
     alloc: Global,
-    raw: &Raw<'_>,
+    input: Input<'_>,
+    raw: &mut Raw<'_>,
     features: &Features,
 ) -> result::Result<Option<usize>, AllocError>
-    requires framed { (bytes : List ℕ) × Frames bytes (sections raw.now) }
-    requires rules { Rules (sections raw.now) }
-    ensures { IfOk result (IsFirstUnread features.now (sections raw.now)) }
+    requires framed { (bytes : List ℕ) × Frames bytes (sections raw.old) }
+    requires rules { Rules (sections raw.old) }
+    ensures { IfOk result (IsFirstUnread features.now (sections raw.old)) }
 {
     let Ok(()) = check_room(raw) else {
         return Err(AllocError);
     };
     let locate = |_place: &usize| -> InstrLocId { InstrLocId::DEFAULT };
     let mut indices = IndicesToIds::new(alloc);
-    match read_functions(alloc, raw, features, true, &locate, &mut indices) {
+    match read_functions(alloc, input, raw, features, true, &locate, &mut indices) {
         Ok(_) => Ok(None),
         Err(Unread::Body(index)) => Ok(Some(index)),
         Err(Unread::Fails(Error::Memory(refused))) => Err(refused),

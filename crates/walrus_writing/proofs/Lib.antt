@@ -23,7 +23,8 @@ pub mod JoinedBodies
 pub mod LastPlaces
 pub mod LocatedBodies
 pub mod LocatedLoops
-pub mod NamesAre
+pub mod NameRefusals
+mod NamesAre
 pub mod NamesSpelled
 pub mod NamesStand
 pub mod NoCauseAll

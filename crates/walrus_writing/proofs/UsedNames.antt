@@ -1,6 +1,7 @@
--- One turn of the loop that lists the names of the used locals of a function.
+-- The names of the used locals of a function: one turn of the loop that lists them, and where no local has one.
 use Rattle.std.proofs.Common.{◌≡◌, ℕ, ◌+◌, ◌<◌, Bool, true, false, List, [], ◌∷◌, ◌++◌, length, map, drop, append_assoc, refl, sym, ap, ap₂, ◌∙◌, subst, arith}
-use Rattle.std.specs.Prelude.{Option, slice_index_or}
+use Rattle.std.specs.Prelude.{Option, slice_index_or, option_map, IsTrue}
+use Rattle.std.specs.List.{cons_option}
 use Rattle.std.proofs.lemmas.List.{drop_more}
 use Rattle.std.proofs.lemmas.List.Elements.{filter_map-append}
 use Rattle.wasm_payloads.specs.Spelling.{NameMap}
@@ -8,8 +9,11 @@ use Rattle.walrus_base.specs.Arena.{entries_from}
 use Rattle.walrus_base.specs.Id.{place}
 use Rattle.walrus_base.specs.declared.id.Id.{Id}
 use Rattle.walrus_base.specs.declared.keys.LocalKey.{LocalKey}
+use Rattle.walrus_base.specs.Unnamed.{AreUnnamed}
 use Rattle.walrus_base.specs.declared.locals.Local.{Local}
+use Rattle.walrus_model.specs.Abstract.{Name}
 use Rattle.walrus_writing.specs.Names.{local_entry, local_names, used_among}
+use Rattle.walrus_writing.specs.Pushed.{with_map}
 
 used_first : (i x : ℕ) (xs : List ℕ) (u : Bool) (us : List Bool) → entries_from i (used_among (x ∷ xs) (u ∷ us)) ≡ entries_from i (used_among (x ∷ []) (u ∷ [])) ++ entries_from (i + 1) (used_among xs us)
 used_first i x xs true us = refl
@@ -41,3 +45,11 @@ module _ (all : List (Option Local)) (ids : List (Id LocalKey)) (us : List Bool)
       ∙ append_assoc done here (names_behind (i + 1))
       ∙ ap (λ (l : NameMap). done ++ l) (sym (names_split i d b low (omega (arith, low, as_many))))
       ∙ so
+
+-- where no local has a name
+none_used : (all : List (Option Local)) → AreUnnamed all → (used : List (ℕ × ℕ)) → local_names all used ≡ []
+none_used all none [] = refl
+none_used all none (u ∷ used) = ap (λ (o : Option Name). cons_option (option_map (λ (name : Name). (u.0, name)) o) (local_names all used)) (none u.1) ∙ none_used all none used
+
+pub none_pushed : (all : List (Option Local)) (used : List (ℕ × ℕ)) (maps : List (ℕ × NameMap)) (function : ℕ) (unnamed : Bool) → (IsTrue unnamed → AreUnnamed all) → unnamed ≡ true → maps ≡ with_map maps function (local_names all used)
+none_pushed all used maps function unnamed says is = ap (with_map maps function) (sym (none_used all (says is) used))

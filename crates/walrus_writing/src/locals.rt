@@ -90,7 +90,7 @@ fn push_locals<'a>(
 }
 
 /// Puts the names of a function's used locals behind others, where there are any: of its locals, which are given by their indices, with which
-/// of them are used. Want of memory is the only refusal.
+/// of them are used. They aren't looked for where no local of the module has a name. Want of memory is the only refusal.
 pub fn push_local_names<'a>(
     alloc: Global,
     all: &'a ModuleLocals,
@@ -106,6 +106,9 @@ pub fn push_local_names<'a>(
         (local_names (locals all.now) (used_listed (map place order.now) used.now))) }
     ensures fails { IsOkUnless result out_of_memory }
 {
+    if all.are_unnamed() {
+        return Ok(());
+    }
     let names = named_locals(alloc, all, order, used)?;
     push_locals(to, function, names)
 }

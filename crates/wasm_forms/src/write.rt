@@ -70,12 +70,17 @@ fn write_groups(to: &mut Vec<u8>, below: bool, stop: u64, number: u64) -> Result
 }
 
 /// Writes a u32 in its shortest spelling. Refused for lack of memory, the bytes stay.
+#[inline]
 pub fn write_u32(to: &mut Vec<u8>, value: u32) -> Result<(), AllocError>
     ensures written { to.new.items
         ≡ (if is_ok result then to.old.items ++ number_bytes value else to.old.items) }
     ensures room { NeedsRoom result to.old to.new (number_bytes value) }
 {
-    write_groups(to, false, 128, u64::from(value))
+    if value >= 128 {
+        return write_groups(to, false, 128, u64::from(value));
+    }
+    to.push(value as u8)?;
+    Ok(())
 }
 
 /// Writes an s32 in its shortest spelling. Refused for lack of memory, the bytes stay.

@@ -1,4 +1,4 @@
-//! Operators that are written with new numbers, by hand.
+//! Bodies that are written with new numbers, by hand.
 
 ghost use Rattle.std.specs.Prelude.{Some, None, nat_lt, ◌+◌, if◌then◌else◌};
 
@@ -6,19 +6,22 @@ use crate::scans::LIMITS;
 use std::alloc::{AllocError, Global};
 use std::test::Fail;
 use test_support::{bytes_of, demand_bytes};
-use wasm_text::{NO_NUMBER, Numbers, append_filled, scan_operator};
+use wasm_text::{NO_NUMBER, Numbers, append_filled, scan_body};
 
-/// Operators, and what they become where each index below 100 is ten more.
+/// Bodies, and what they become where each index below 100 is ten more.
 const ROWS: [(&str, &str); 9] = [
-    ("6A", "6A"),
-    ("20 00", "20 0A"),
-    ("10 83 80 80 80 00", "10 0D"),
-    ("21 E3 00", "21 6D"),
-    ("11 02 00", "11 0C 0A"),
-    ("41 C0 BB F8 7F", "41 C0 BB 78"),
-    ("36 02 E5 8E 26", "36 42 0A E5 8E 26"),
-    ("03 03", "03 0D"),
-    ("0E 02 00 81 00 00", "0E 02 00 01 00"),
+    ("6A 0B", "6A 0B"),
+    ("20 00 0B", "20 0A 0B"),
+    ("10 83 80 80 80 00 0B", "10 0D 0B"),
+    ("21 E3 00 0B", "21 6D 0B"),
+    ("11 02 00 0B", "11 0C 0A 0B"),
+    ("41 C0 BB F8 7F 0B", "41 C0 BB 78 0B"),
+    ("36 02 E5 8E 26 0B", "36 42 0A E5 8E 26 0B"),
+    ("03 03 0B 0B", "03 0D 0B 0B"),
+    (
+        "02 40 0E 02 00 81 00 00 0B 0B",
+        "02 40 0E 02 00 01 00 0B 0B",
+    ),
 ];
 
 // Each index below 100 is ten more, all others have no new number.
@@ -39,8 +42,8 @@ impl Numbers for TenMore {
 fn rewritten(alloc: Global, bytes: &[u8]) -> Result<Vec<u8>, AllocError> {
     let mut marks = Vec::new(alloc);
     let mut to = Vec::new(alloc);
-    let behind = scan_operator(bytes, 0, 0, &LIMITS, &mut marks)?;
-    if behind == bytes.len() {
+    let mut opened = Vec::new(alloc);
+    if let Some(_count) = scan_body(bytes, &LIMITS, &mut opened, &mut marks)? {
         let _all = append_filled(&mut to, bytes, marks.as_slice(), &TenMore {})?;
     }
     Ok(to)

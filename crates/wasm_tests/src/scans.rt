@@ -1,16 +1,17 @@
-//! Operators that are scanned, each behind the byte of `nop`, from the instructions of the standard by hand.
+//! Bodies that are scanned, each behind the byte of `nop` and before that of the last `end`, from the instructions of the standard by hand.
 
 use std::alloc::Global;
 use std::test::Fail;
 use test_support::{add_bytes, demand};
-use wasm_text::{Limits, NO_PLACE, scan_operator};
+use wasm_text::{Limits, scan_body};
 
 /// Operators, and their marks: sixteen times the offset, where `nop` stands at 0, and the kind.
-const ROWS: [(&str, &str); 38] = [
+const ROWS: [(&str, &str); 39] = [
     ("00", ""),
     ("6A", ""),
-    ("05", ""),
-    ("0B", ""),
+    ("04 40 05 0B", ""),
+    ("04 40 0B", ""),
+    ("04 40 05 02 40 0B 0B", ""),
     ("20 00", "20"),
     ("21 C8 01", "20"),
     ("10 03", "21"),
@@ -32,15 +33,15 @@ const ROWS: [(&str, &str); 38] = [
     ("42 C0 00", "29"),
     ("43 00 00 80 3F", ""),
     ("44 00 00 00 00 00 00 F0 3F", ""),
-    ("02 40", ""),
-    ("04 7F", ""),
-    ("03 7B", ""),
-    ("03 03", "2A"),
-    ("02 83 00", "2A"),
-    ("0C 01", ""),
+    ("02 40 0B", ""),
+    ("04 7F 0B", ""),
+    ("03 7B 0B", ""),
+    ("03 03 0B", "2A"),
+    ("02 83 00 0B", "2A"),
+    ("02 40 0C 01 0B", ""),
     ("0D 80 00", "27"),
-    ("0E 02 00 01 00", ""),
-    ("0E 81 00 00 81 00", "27 57"),
+    ("02 40 0E 02 00 01 00 0B", ""),
+    ("02 40 0E 81 00 00 81 00 0B", "47 77"),
     ("FC 0A 00 00", "35 45"),
     ("FC 0B 00", "35"),
     ("FC 00", ""),
@@ -48,8 +49,9 @@ const ROWS: [(&str, &str); 38] = [
 ];
 
 /// What isn't scanned: `ref.func`, segments, legacy exceptions, tags and wide arithmetic; an index past its count; a memory behind the
-/// flags; too large a number; bytes that end too early; and bytes that no operator has.
-const OTHERS: [&str; 16] = [
+/// flags; too large a number; bytes that end too early, or go on behind the last `end`; an `else` without its `if`; and bytes that no operator
+/// has.
+const OTHERS: [&str; 22] = [
     "D2 00",
     "FC 08 00 00",
     "FC 09 00",
@@ -59,7 +61,13 @@ const OTHERS: [&str; 16] = [
     "08 00",
     "FC 13",
     "20 AC 02",
-    "0C 02",
+    "0C 01",
+    "02 40 0C 02 0B",
+    "0B",
+    "02 40",
+    "05",
+    "02 40 05 0B",
+    "04 40 05 05 0B",
     "28 42 00 00",
     "10 80 80 80 80 70",
     "20",
@@ -68,7 +76,7 @@ const OTHERS: [&str; 16] = [
     "FF",
 ];
 
-/// How many items of each kind there are, how many locals, and how many blocks are open.
+/// How many items of each kind there are, and how many locals; how many blocks are open counts for nothing.
 pub(crate) const LIMITS: Limits = Limits {
     functions: 5,
     globals: 5,
@@ -93,29 +101,35 @@ fn are_marks(alloc: Global, marks: &[u32], wanted: &str) -> bool {
 }
 
 fn has_marks(alloc: Global, bytes: &[u8], wanted: &str) -> bool {
+    let mut opened = Vec::new(alloc);
     let mut marks = Vec::new(alloc);
-    match scan_operator(bytes, 0, 1, &LIMITS, &mut marks) {
-        Ok(behind) => behind == bytes.len() && are_marks(alloc, &marks, wanted),
-        Err(_) => false,
+    match scan_body(bytes, &LIMITS, &mut opened, &mut marks) {
+        Ok(Some(_count)) => are_marks(alloc, &marks, wanted),
+        _ => false,
     }
 }
 
 fn is_other(alloc: Global, bytes: &[u8]) -> bool {
+    let mut opened = Vec::new(alloc);
     let mut marks = Vec::new(alloc);
-    match scan_operator(bytes, 0, 1, &LIMITS, &mut marks) {
-        Ok(behind) => behind == NO_PLACE,
+    match scan_body(bytes, &LIMITS, &mut opened, &mut marks) {
+        Ok(found) => found.is_none(),
         Err(_) => false,
     }
 }
 
+fn add_body(bytes: &mut Vec<u8>, text: &str) -> bool {
+    add_bytes(bytes, "01") && add_bytes(bytes, text) && add_bytes(bytes, "0B")
+}
+
 fn is_row(alloc: Global, text: &str, wanted: &str) -> bool {
     let mut bytes = Vec::new(alloc);
-    add_bytes(&mut bytes, "01") && add_bytes(&mut bytes, text) && has_marks(alloc, &bytes, wanted)
+    add_body(&mut bytes, text) && has_marks(alloc, &bytes, wanted)
 }
 
 fn is_refused(alloc: Global, text: &str) -> bool {
     let mut bytes = Vec::new(alloc);
-    add_bytes(&mut bytes, "01") && add_bytes(&mut bytes, text) && is_other(alloc, &bytes)
+    add_body(&mut bytes, text) && is_other(alloc, &bytes)
 }
 
 #[test]

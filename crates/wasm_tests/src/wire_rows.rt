@@ -124,3 +124,19 @@ fn framing(rt: HostRuntime) -> Result<(), Fail> {
     each_is_answered(rt.alloc(), &NO_MODULES, Answer::Malformed)?;
     each_stays(rt.alloc(), &[EMPTY_NAME])
 }
+
+// A memory under the names `costarring` and `liquid`, which have one number of 32 bits by FNV-1a.
+const OF_ONE_NUMBER: &str =
+    "00 61 73 6D 01 00 00 00 05 03 01 00 00 07 17 02 0A 63 6F 73 74 61 72 72 69 6E 67 02 00 06 6C 69 71 75 69 64 02 00";
+
+// The same, and one of them twice.
+const ONE_TWICE: [&str; 2] = [
+    "00 61 73 6D 01 00 00 00 05 03 01 00 00 07 24 03 0A 63 6F 73 74 61 72 72 69 6E 67 02 00 06 6C 69 71 75 69 64 02 00 0A 63 6F 73 74 61 72 72 69 6E 67 02 00",
+    "00 61 73 6D 01 00 00 00 05 03 01 00 00 07 20 03 06 6C 69 71 75 69 64 02 00 0A 63 6F 73 74 61 72 72 69 6E 67 02 00 06 6C 69 71 75 69 64 02 00",
+];
+
+#[test]
+fn names_of_one_number(rt: HostRuntime) -> Result<(), Fail> {
+    each_stays(rt.alloc(), &[OF_ONE_NUMBER])?;
+    each_is_answered(rt.alloc(), &ONE_TWICE, Answer::Refused)
+}

@@ -47,18 +47,18 @@ plain_block : (b : ℕ) → (b ≡ 64) ⊎ ((123 ≤ b) × (b < 128)) → PlainB
 plain_block b (inl e) = subst PlainBlock (sym e) no_result
 plain_block b (inr h) = let e : 123 + (b - 123) ≡ b = omega (arith, h.0) in subst PlainBlock e (value_block (b - 123) (omega (arith, h.0, h.1)))
 
-block_arg : (b : ℕ) (limits : Limits) (bytes : List ℕ) (start at : ℕ) (old : List ℕ) → drop at bytes ≡ b ∷ drop (at + 1) bytes → at < length bytes → PlainBlock b
-    → HasArgs (args_form (kinds.Block ∷ [])) limits bytes start at (at + 1) old old
+block_arg : (b : ℕ) (limits : Limits) (bytes : List ℕ) (at : ℕ) (old : List ℕ) → drop at bytes ≡ b ∷ drop (at + 1) bytes → at < length bytes → PlainBlock b
+    → HasArgs (args_form (kinds.Block ∷ [])) limits bytes at (at + 1) old old
 unfolding arg_form
-block_arg b limits bytes start at old first there p =
+block_arg b limits bytes at old first there p =
     let here : between at (at + 1) bytes ≡ b ∷ [] = one_byte bytes at b first in
-    plain_arg (args_form (kinds.Block ∷ [])) limits bytes start at (at + 1) old (args.Block p.block) (omega arith) (omega (arith, there))
+    plain_arg (args_form (kinds.Block ∷ [])) limits bytes at (at + 1) old (args.Block p.block) (omega arith) (omega (arith, there))
     (of_one kinds.Block (between at (at + 1) bytes) (args.Block p.block ∷ []) (p.block, (refl, subst (λ (m : List ℕ). Is block_type m p.block) (sym here) p.is)))
     p.none (p.once ∙ sym here) (p.fits limits)
 
-pub block_scans : (b : ℕ) (limits : Limits) (bytes : List ℕ) (start at : ℕ) (old : List ℕ) → drop at bytes ≡ b ∷ drop (at + 1) bytes → at < length bytes → (b ≡ 64) ⊎ ((123 ≤ b) × (b < 128))
-    → ScansArgs (args_form (kinds.Block ∷ [])) limits bytes start at old old (at + 1)
-block_scans b limits bytes start at old first there which = inr (block_arg b limits bytes start at old first there (plain_block b which))
+pub block_scans : (b : ℕ) (limits : Limits) (bytes : List ℕ) (at : ℕ) (old : List ℕ) → drop at bytes ≡ b ∷ drop (at + 1) bytes → at < length bytes → (b ≡ 64) ⊎ ((123 ≤ b) × (b < 128))
+    → ScansArgs (args_form (kinds.Block ∷ [])) limits bytes at old old (at + 1)
+block_scans b limits bytes at old first there which = inr (block_arg b limits bytes at old first there (plain_block b which))
 
 -- ---- the index of a type
 
@@ -95,15 +95,14 @@ type_block b n front which is =
       ),
     )
 
-pub type_block_scans : (b n : ℕ) (limits : Limits) (bytes front after : List ℕ) (start at : ℕ) (old new : List ℕ) (place : ℕ) → (b < 64) ⊎ (128 ≤ b) → n < limits.types
-    → drop at bytes ≡ b ∷ drop (at + 1) bytes → drop (at + 1) bytes ≡ front ++ after → Is (IndexFrom b) front n → IsMarked start at 10 (length bytes - length after) old new place
-    → ScansArgs (args_form (kinds.Block ∷ [])) limits bytes start at old new place
+pub type_block_scans : (b n : ℕ) (limits : Limits) (bytes front after : List ℕ) (at : ℕ) (old new : List ℕ) (place : ℕ) → (b < 64) ⊎ (128 ≤ b) → n < limits.types
+    → drop at bytes ≡ b ∷ drop (at + 1) bytes → drop (at + 1) bytes ≡ front ++ after → Is (IndexFrom b) front n → IsMarked at 10 (length bytes - length after) old new place
+    → ScansArgs (args_form (kinds.Block ∷ [])) limits bytes at old new place
 unfolding form_of arg_form
-type_block_scans b n limits bytes front after start at old new place which small first rest is (inl e) = inl e
-type_block_scans b n limits bytes front after start at old new place which small first rest is (inr (e, put)) =
+type_block_scans b n limits bytes front after at old new place which small first rest is (e, put) =
     let whole : drop at bytes ≡ (b ∷ front) ++ after = first ∙ ap (λ k. b ∷ k) rest in
     let s : Stands block_type bytes at (length bytes - length after) (OfType n) = stands_read block_type bytes (b ∷ front) after at (OfType n) whole (omega arith) (type_block b n front which is) in
-    inr (subst (λ (k : ℕ). HasArgs (args_form (kinds.Block ∷ [])) limits bytes start at k old new) (sym e)
-    (marked_arg (args_form (kinds.Block ∷ [])) limits bytes start at (length bytes - length after) 10 old new (args.Block (OfType n)) (args.Block (OfType n)) (omega arith)
+    inr (subst (λ (k : ℕ). HasArgs (args_form (kinds.Block ∷ [])) limits bytes at k old new) (sym e)
+    (marked_arg (args_form (kinds.Block ∷ [])) limits bytes at (length bytes - length after) 10 old new (args.Block (OfType n)) (args.Block (OfType n)) (omega arith)
     (record { forward = s.forward; within = s.within; text = (OfType n, (refl, s.text)) })
     (of_one kinds.Block (between at (length bytes - length after) bytes) (args.Block (OfType n) ∷ []) (OfType n, (refl, s.text))) (λ f l. refl) refl small put))

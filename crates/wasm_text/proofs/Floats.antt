@@ -25,20 +25,20 @@ once count bytes at behind small e w =
     let long : length (between at behind bytes) ≡ count = length_between bytes at behind w ∙ omega (arith, e) in
     (long, little_again count (between at behind bytes) long (bytes_between bytes at behind small))
 
-pub f32_scans : (limits : Limits) (bytes : List ℕ) (start at behind : ℕ) (old : List ℕ) → ((i : ℕ) → get_or bytes i 0 < 256) → IfPlace behind ((behind ≡ at + 4) × (behind ≤ length bytes)) → ScansArgs (args_form (kinds.F32 ∷ [])) limits bytes start at old old behind
+pub f32_scans : (limits : Limits) (bytes : List ℕ) (at behind : ℕ) (old : List ℕ) → ((i : ℕ) → get_or bytes i 0 < 256) → IfPlace behind ((behind ≡ at + 4) × (behind ≤ length bytes)) → ScansArgs (args_form (kinds.F32 ∷ [])) limits bytes at old old behind
 unfolding arg_form
-f32_scans limits bytes start at behind old small (inl e) = inl e
-f32_scans limits bytes start at behind old small (inr (e, w)) =
+f32_scans limits bytes at behind old small (inl e) = inl e
+f32_scans limits bytes at behind old small (inr (e, w)) =
     let here = between at behind bytes in
     let o = once 4 bytes at behind small e w in
-    inr (plain_arg (args_form (kinds.F32 ∷ [])) limits bytes start at behind old (args.F32 (little here)) (omega (arith, e)) w
+    inr (plain_arg (args_form (kinds.F32 ∷ [])) limits bytes at behind old (args.F32 (little here)) (omega (arith, e)) w
     (of_one kinds.F32 here (args.F32 (little here) ∷ []) (little here, (refl, (here, (refl, (refl, o.0)))))) refl o.1 tt)
 
-pub f64_scans : (limits : Limits) (bytes : List ℕ) (start at behind : ℕ) (old : List ℕ) → ((i : ℕ) → get_or bytes i 0 < 256) → IfPlace behind ((behind ≡ at + 8) × (behind ≤ length bytes)) → ScansArgs (args_form (kinds.F64 ∷ [])) limits bytes start at old old behind
+pub f64_scans : (limits : Limits) (bytes : List ℕ) (at behind : ℕ) (old : List ℕ) → ((i : ℕ) → get_or bytes i 0 < 256) → IfPlace behind ((behind ≡ at + 8) × (behind ≤ length bytes)) → ScansArgs (args_form (kinds.F64 ∷ [])) limits bytes at old old behind
 unfolding arg_form
-f64_scans limits bytes start at behind old small (inl e) = inl e
-f64_scans limits bytes start at behind old small (inr (e, w)) =
+f64_scans limits bytes at behind old small (inl e) = inl e
+f64_scans limits bytes at behind old small (inr (e, w)) =
     let here = between at behind bytes in
     let o = once 8 bytes at behind small e w in
-    inr (plain_arg (args_form (kinds.F64 ∷ [])) limits bytes start at behind old (args.F64 (little here)) (omega (arith, e)) w
+    inr (plain_arg (args_form (kinds.F64 ∷ [])) limits bytes at behind old (args.F64 (little here)) (omega (arith, e)) w
     (of_one kinds.F64 here (args.F64 (little here) ∷ []) (little here, (refl, (here, (refl, (refl, o.0)))))) refl o.1 tt)

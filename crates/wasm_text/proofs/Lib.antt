@@ -12,6 +12,7 @@ pub mod Blocks
 pub mod Floats
 pub mod Operator
 pub mod Read
+pub mod Bodies
 pub mod Marked
 pub mod Steps
 pub mod Renaming

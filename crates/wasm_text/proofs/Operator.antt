@@ -1,6 +1,6 @@
 -- An operator by its first byte and its arguments.
 use Rattle.std.proofs.Common.{◌≡◌, ℕ, zero, suc, ◌+◌, ◌-◌, ◌*◌, ◌/◌, ◌%◌, ◌<◌, ◌≤◌, true, List, [], ◌∷◌, ◌++◌, length, take, map, drop, refl, sym, ap, ap₂, subst, ◌∙◌, arith, inl, inr, lt-ltb, le-ltb, append-nil}
-use Rattle.std.specs.Prelude.{Result, IfOk, Option, Some, nat_lt, if◌then◌else◌}
+use Rattle.std.specs.Prelude.{Option, Some, nat_lt, if◌then◌else◌}
 use Rattle.wasm_forms.specs.Grammar.{Is, U32, Where, Led}
 use Rattle.wasm_forms.specs.Spelling.{row_bytes, number_bytes}
 use Rattle.wasm_forms.proofs.Stands.{second_stands}
@@ -16,12 +16,12 @@ use Rattle.wasm_text.specs.declared.class.Class.{Class}
 use Rattle.wasm_text.specs.declared.class.Class.TheVariants as class
 use Rattle.wasm_text.specs.Places.{between, IfPlace}
 use Rattle.wasm_text.specs.Marks.{shifted, Shows, HoldsOne, with}
-use Rattle.wasm_text.specs.Classes.{is_plain, HasKinds, IsOneByte, class_kinds, Fits}
-use Rattle.wasm_text.specs.Scans.{HasArgs, ScansArgs, HasPrefixed, ScansClass, Begins, HasOperator, ScansOperator}
+use Rattle.wasm_text.specs.Classes.{is_plain, HasKinds, IsOneByte}
+use Rattle.wasm_text.specs.Scans.{HasArgs, ScansArgs, HasPrefixed, ScansClass, Begins, HasOperator}
 use Rattle.wasm_text.proofs.Between.{join, one_byte}
 use Rattle.wasm_text.proofs.Forms.{unsigned_byte, number_lone}
 use Rattle.wasm_text.proofs.Showing.{shows_append, shows_plain}
-use Rattle.wasm_text.proofs.Scans.{ok_as, place_as}
+use Rattle.wasm_text.proofs.Scans.{place_as}
 use Rattle.wasm_text.proofs.Together.{put_twice, bare_args}
 
 -- ---- what stands behind an operator's number
@@ -58,9 +58,9 @@ two_code n h =
 -- ---- together
 
 -- an operator whose number is so many bytes, and its arguments behind it
-coded : (code : List ℕ) (op : ℕ) (limits : Limits) (bytes : List ℕ) (start at mid behind : ℕ) (old new : List ℕ) (listed : List Kind) → start ≤ at → at < mid → between at mid bytes ≡ code → length code ≡ mid - at
-    → code_bytes op ≡ code → is_plain op ≡ true → Begins bytes at op → (h : HasArgs (args_form listed) limits bytes start mid behind old new) → Is operator (code ++ between mid behind bytes) (with_args op h.args) → HasOperator limits bytes start at behind old new
-coded code op limits bytes start at mid behind old new listed ordered forward here long spelled plain begins h is =
+coded : (code : List ℕ) (op : ℕ) (limits : Limits) (bytes : List ℕ) (at mid behind : ℕ) (old new : List ℕ) (listed : List Kind) → at < mid → between at mid bytes ≡ code → length code ≡ mid - at
+    → code_bytes op ≡ code → is_plain op ≡ true → Begins bytes at op → (h : HasArgs (args_form listed) limits bytes mid behind old new) → Is operator (code ++ between mid behind bytes) (with_args op h.args) → HasOperator limits bytes at behind old new
+coded code op limits bytes at mid behind old new listed forward here long spelled plain begins h is =
     let joined : code ++ between mid behind bytes ≡ between at behind bytes = ap (λ k. k ++ between mid behind bytes) (sym here) ∙ join bytes at mid behind (omega (arith, forward)) h.forward in
     let both = shows_append code [] (between mid behind bytes) h.marks [] h.args (λ f. code_bytes op) (λ f. row_bytes arg_bytes (map f h.args)) (shows_plain code [] (λ f. code_bytes op) (λ f l. spelled) refl) h.shown in
     let marks : List ℕ = map (shifted (mid - at)) h.marks in
@@ -70,7 +70,7 @@ coded code op limits bytes start at mid behind old new listed ordered forward he
       text = with_args op h.args;
       marks = marks;
       holds = subst (λ (b : List ℕ). HoldsOne b marks (with_args op h.args)) joined (record { is = is; shown = shown });
-      put = put_twice start at mid old old new [] h.marks ordered (omega (arith, forward)) (sym (append-nil old)) h.put;
+      put = put_twice at mid old old new [] h.marks (omega (arith, forward)) (sym (append-nil old)) h.put;
       fit = h.fit;
       plain = plain;
       begins = begins;
@@ -78,36 +78,26 @@ coded code op limits bytes start at mid behind old new listed ordered forward he
       within = h.within;
     }
 
-one_byte_found : (b : ℕ) (limits : Limits) (bytes : List ℕ) (start at behind : ℕ) (old new : List ℕ) (listed : List Kind) → start ≤ at → b < 256 → drop at bytes ≡ b ∷ drop (at + 1) bytes → IsOneByte b listed
-    → HasArgs (args_form listed) limits bytes start (at + 1) behind old new → HasOperator limits bytes start at behind old new
-one_byte_found b limits bytes start at behind old new listed ordered small first o h =
-    coded (b ∷ []) b limits bytes start at (at + 1) behind old new listed ordered (omega arith) (one_byte bytes at b first) (omega arith) (one_code b small) o.has.plain (inl first) h (one_stands b listed (between (at + 1) behind bytes) h.args o h.is)
+pub one_byte_found : (b : ℕ) (limits : Limits) (bytes : List ℕ) (at behind : ℕ) (old new : List ℕ) (listed : List Kind) → b < 256 → drop at bytes ≡ b ∷ drop (at + 1) bytes → IsOneByte b listed
+    → HasArgs (args_form listed) limits bytes (at + 1) behind old new → HasOperator limits bytes at behind old new
+one_byte_found b limits bytes at behind old new listed small first o h =
+    coded (b ∷ []) b limits bytes at (at + 1) behind old new listed (omega arith) (one_byte bytes at b first) (omega arith) (one_code b small) o.has.plain (inl first) h (one_stands b listed (between (at + 1) behind bytes) h.args o h.is)
 
 two_bytes : (bytes : List ℕ) (at b n : ℕ) → drop at bytes ≡ b ∷ drop (at + 1) bytes → drop (at + 1) bytes ≡ n ∷ drop (at + 1 + 1) bytes → between at (at + 1 + 1) bytes ≡ b ∷ n ∷ []
 two_bytes bytes at b n e f =
     let k : at + 1 + 1 - at ≡ 2 = omega arith in
     ap (λ m. take m (drop at bytes)) k ∙ ap (take 2) (e ∙ ap (λ m. b ∷ m) f)
 
-prefixed_found : (b : ℕ) (limits : Limits) (bytes : List ℕ) (start at behind : ℕ) (old new : List ℕ) → start ≤ at → drop at bytes ≡ b ∷ drop (at + 1) bytes → b ≡ 252
-    → HasPrefixed limits bytes start (at + 1) behind old new → HasOperator limits bytes start at behind old new
-prefixed_found b limits bytes start at behind old new ordered first e h =
+pub prefixed_found : (b : ℕ) (limits : Limits) (bytes : List ℕ) (at behind : ℕ) (old new : List ℕ) → drop at bytes ≡ b ∷ drop (at + 1) bytes → b ≡ 252
+    → HasPrefixed limits bytes (at + 1) behind old new → HasOperator limits bytes at behind old new
+prefixed_found b limits bytes at behind old new first e h =
     let lead : drop at bytes ≡ 252 ∷ drop (at + 1) bytes = first ∙ ap (λ k. k ∷ drop (at + 1) bytes) e in
-    coded (252 ∷ h.number ∷ []) (opcode_behind 252 h.number) limits bytes start at (at + 1 + 1) behind old new h.listed ordered (omega arith) (two_bytes bytes at 252 h.number lead h.first) (omega arith)
+    coded (252 ∷ h.number ∷ []) (opcode_behind 252 h.number) limits bytes at (at + 1 + 1) behind old new h.listed (omega arith) (two_bytes bytes at 252 h.number lead h.first) (omega arith)
     (two_code h.number h.small) h.has.plain (inr (lead, omega arith)) h.args (two_stands h.number h.listed (between (at + 1 + 1) behind bytes) h.args.args h.small h.has h.args.is)
 
-pub class_scans : (c : Class) (b : ℕ) (limits : Limits) (bytes : List ℕ) (start at : ℕ) (old new : List ℕ) (behind : ℕ) → start ≤ at → b < 256 → drop at bytes ≡ b ∷ drop (at + 1) bytes → Fits c b
-    → ScansClass c limits bytes start (at + 1) old new behind → ScansOperator limits bytes start at old new behind
-class_scans class.Other b limits bytes start at old new behind ordered small first fits e = inl e
-class_scans class.Prefix b limits bytes start at old new behind ordered small first fits s = place_as behind (prefixed_found b limits bytes start at behind old new ordered first fits) s
-class_scans c b limits bytes start at old new behind ordered small first fits s = place_as behind (one_byte_found b limits bytes start at behind old new (class_kinds c) ordered small first fits) s
-
 -- what is said of a class, said of a class that is this one
-pub as_class : {E : Type 0} (c d : Class) (limits : Limits) (bytes : List ℕ) (start at : ℕ) (old new : List ℕ) (r : Result ℕ E) → c ≡ d → IfOk r (λ behind. ScansClass d limits bytes start at old new behind)
-    → IfOk r (λ behind. ScansClass c limits bytes start at old new behind)
-as_class c d limits bytes start at old new r e h = subst (λ (k : Class). IfOk r (λ behind. ScansClass k limits bytes start at old new behind)) (sym e) h
-
-pub as_class_at : (c d : Class) (limits : Limits) (bytes : List ℕ) (start at : ℕ) (old : List ℕ) (behind : ℕ) → c ≡ d → ScansClass d limits bytes start at old old behind → ScansClass c limits bytes start at old old behind
-as_class_at c d limits bytes start at old behind e h = subst (λ (k : Class). ScansClass k limits bytes start at old old behind) (sym e) h
+pub as_class : (c d : Class) (limits : Limits) (bytes : List ℕ) (at : ℕ) (old new : List ℕ) (behind : ℕ) → c ≡ d → ScansClass d limits bytes at old new behind → ScansClass c limits bytes at old new behind
+as_class c d limits bytes at old new behind e h = subst (λ (k : Class). ScansClass k limits bytes at old new behind) (sym e) h
 
 -- ---- behind the byte FC
 
@@ -141,20 +131,19 @@ fc_tables (suc (suc (suc k))) h = absurd (omega arith)
 pub fc_table : (n : ℕ) → 15 ≤ n → n ≤ 17 → HasKinds (opcode_behind 252 n) (kinds.Table ∷ [])
 fc_table n l h = let e : 15 + (n - 15) ≡ n = omega arith in subst (λ (k : ℕ). HasKinds (opcode_behind 252 k) (kinds.Table ∷ [])) e (fc_tables (n - 15) (omega arith))
 
-pub prefixed_bare : (n : ℕ) (limits : Limits) (bytes : List ℕ) (start at : ℕ) (old : List ℕ) → drop at bytes ≡ n ∷ drop (at + 1) bytes → at < length bytes → n < 8 → IfPlace (at + 1) (HasPrefixed limits bytes start at (at + 1) old old)
-prefixed_bare n limits bytes start at old first there small =
-    inr (record { number = n; listed = []; first = first; small = omega (arith, small); has = fc_bare n small; args = bare_args limits bytes start (at + 1) old (omega (arith, there)) })
+pub prefixed_bare : (n : ℕ) (limits : Limits) (bytes : List ℕ) (at : ℕ) (old : List ℕ) → drop at bytes ≡ n ∷ drop (at + 1) bytes → at < length bytes → n < 8 → IfPlace (at + 1) (HasPrefixed limits bytes at (at + 1) old old)
+prefixed_bare n limits bytes at old first there small =
+    inr (record { number = n; listed = []; first = first; small = omega (arith, small); has = fc_bare n small; args = bare_args limits bytes (at + 1) old (omega (arith, there)) })
 
-pub prefixed_scans : {E : Type 0} (n : ℕ) (listed : List Kind) (limits : Limits) (bytes : List ℕ) (start at : ℕ) (old new : List ℕ) → drop at bytes ≡ n ∷ drop (at + 1) bytes → n < 128 → HasKinds (opcode_behind 252 n) listed
-    → (r : Result ℕ E) → IfOk r (λ behind. ScansArgs (args_form listed) limits bytes start (at + 1) old new behind) → IfOk r (λ behind. ScansClass class.Prefix limits bytes start at old new behind)
-prefixed_scans n listed limits bytes start at old new first small has r h =
-    ok_as (λ behind. ScansArgs (args_form listed) limits bytes start (at + 1) old new behind) (λ behind. ScansClass class.Prefix limits bytes start at old new behind) r
-    (λ behind. place_as behind (λ (a : HasArgs (args_form listed) limits bytes start (at + 1) behind old new). record { number = n; listed = listed; first = first; small = small; has = has; args = a })) h
+pub prefixed_scans : (n : ℕ) (listed : List Kind) (limits : Limits) (bytes : List ℕ) (at : ℕ) (old new : List ℕ) → drop at bytes ≡ n ∷ drop (at + 1) bytes → n < 128 → HasKinds (opcode_behind 252 n) listed
+    → (behind : ℕ) → ScansArgs (args_form listed) limits bytes (at + 1) old new behind → ScansClass class.Prefix limits bytes at old new behind
+prefixed_scans n listed limits bytes at old new first small has behind =
+    place_as behind (λ (a : HasArgs (args_form listed) limits bytes (at + 1) behind old new). record { number = n; listed = listed; first = first; small = small; has = has; args = a })
 
-pub copy_scans : {E : Type 0} (n : ℕ) (limits : Limits) (bytes : List ℕ) (start at : ℕ) (old new : List ℕ) → drop at bytes ≡ n ∷ drop (at + 1) bytes → n ≡ 10
-    → (r : Result ℕ E) → IfOk r (λ behind. ScansArgs (args_form (kinds.Memory ∷ kinds.Memory ∷ [])) limits bytes start (at + 1) old new behind) → IfOk r (λ behind. ScansClass class.Prefix limits bytes start at old new behind)
-copy_scans n limits bytes start at old new first e = prefixed_scans n (kinds.Memory ∷ kinds.Memory ∷ []) limits bytes start at old new first (omega (arith, e)) (subst (λ (k : ℕ). HasKinds (opcode_behind 252 k) (kinds.Memory ∷ kinds.Memory ∷ [])) (sym e) fc_copy)
+pub copy_scans : (n : ℕ) (limits : Limits) (bytes : List ℕ) (at : ℕ) (old new : List ℕ) → drop at bytes ≡ n ∷ drop (at + 1) bytes → n ≡ 10
+    → (behind : ℕ) → ScansArgs (args_form (kinds.Memory ∷ kinds.Memory ∷ [])) limits bytes (at + 1) old new behind → ScansClass class.Prefix limits bytes at old new behind
+copy_scans n limits bytes at old new first e = prefixed_scans n (kinds.Memory ∷ kinds.Memory ∷ []) limits bytes at old new first (omega (arith, e)) (subst (λ (k : ℕ). HasKinds (opcode_behind 252 k) (kinds.Memory ∷ kinds.Memory ∷ [])) (sym e) fc_copy)
 
-pub fill_scans : {E : Type 0} (n : ℕ) (limits : Limits) (bytes : List ℕ) (start at : ℕ) (old new : List ℕ) → drop at bytes ≡ n ∷ drop (at + 1) bytes → n ≡ 11
-    → (r : Result ℕ E) → IfOk r (λ behind. ScansArgs (args_form (kinds.Memory ∷ [])) limits bytes start (at + 1) old new behind) → IfOk r (λ behind. ScansClass class.Prefix limits bytes start at old new behind)
-fill_scans n limits bytes start at old new first e = prefixed_scans n (kinds.Memory ∷ []) limits bytes start at old new first (omega (arith, e)) (subst (λ (k : ℕ). HasKinds (opcode_behind 252 k) (kinds.Memory ∷ [])) (sym e) fc_fill)
+pub fill_scans : (n : ℕ) (limits : Limits) (bytes : List ℕ) (at : ℕ) (old new : List ℕ) → drop at bytes ≡ n ∷ drop (at + 1) bytes → n ≡ 11
+    → (behind : ℕ) → ScansArgs (args_form (kinds.Memory ∷ [])) limits bytes (at + 1) old new behind → ScansClass class.Prefix limits bytes at old new behind
+fill_scans n limits bytes at old new first e = prefixed_scans n (kinds.Memory ∷ []) limits bytes at old new first (omega (arith, e)) (subst (λ (k : ℕ). HasKinds (opcode_behind 252 k) (kinds.Memory ∷ [])) (sym e) fc_fill)

@@ -1,5 +1,5 @@
 -- What a reader of bytes with marks finds, and an operator that was scanned behind others.
-use Rattle.std.proofs.Common.{◌≡◌, ℕ, zero, suc, ◌+◌, ◌-◌, ◌*◌, ◌<◌, ◌≤◌, List, [], ◌∷◌, ◌++◌, length, map, drop, refl, sym, ap, subst, ◌∙◌, arith, append_assoc, inl, inr, ℤ, pos, negsuc, ◌+ℤ◌, ◌*ℤ◌}
+use Rattle.std.proofs.Common.{◌≡◌, ℕ, zero, suc, ◌+◌, ◌-◌, ◌*◌, ◌<◌, ◌≤◌, List, [], ◌∷◌, ◌++◌, length, map, drop, refl, sym, ap, subst, ◌∙◌, arith, inl, inr, ℤ, pos, negsuc, ◌+ℤ◌, ◌*ℤ◌}
 use Rattle.std.specs.Prelude.{nat_eq, nat_lt, ◌&&◌}
 use Rattle.std.proofs.lemmas.Int.{ints}
 use Rattle.wasm_forms.specs.Number.{AreBytes, IsUnsigned, IsSigned, IsIndex}
@@ -70,16 +70,13 @@ index_read bytes at behind index value a s is =
 
 -- ---- an operator behind others
 
-pub scanned_more : (limits : Limits) (bytes front marks old new : List ℕ) (start at behind : ℕ) (texts : List Op) → start ≤ at → old ≡ front ++ marks → Holds (between start at bytes) marks texts
-    → (found : HasOperator limits bytes start at behind old new)
-    → (new ≡ front ++ (marks ++ map (shifted (at - start)) found.marks)) × Holds (between start behind bytes) (marks ++ map (shifted (at - start)) found.marks) (texts ++ found.text ∷ [])
-scanned_more limits bytes front marks old new start at behind texts ordered e h found =
+pub scanned_more : (limits : Limits) (bytes marks new : List ℕ) (at behind : ℕ) (texts : List Op) → Holds (between 0 at bytes) marks texts → (found : HasOperator limits bytes at behind marks new)
+    → Holds (between 0 behind bytes) new (texts ++ found.text ∷ [])
+scanned_more limits bytes marks new at behind texts h found =
     let there : at ≤ length bytes = omega (arith, found.forward, found.within) in
-    let long : length (between start at bytes) ≡ at - start = length_between bytes start at there in
-    let joined : between start at bytes ++ between at behind bytes ≡ between start behind bytes = join bytes start at behind ordered (omega (arith, found.forward)) in
-    let both = holds_more (between start at bytes) marks (between at behind bytes) found.marks texts found.text h found.holds in
-    let here : Holds (between start at bytes ++ between at behind bytes) (marks ++ map (shifted (at - start)) found.marks) (texts ++ found.text ∷ []) =
-    subst (λ (n : ℕ). Holds (between start at bytes ++ between at behind bytes) (marks ++ map (shifted n) found.marks) (texts ++ found.text ∷ [])) long both in (
-      found.put ∙ ap (λ k. k ++ map (shifted (at - start)) found.marks) e ∙ append_assoc front marks (map (shifted (at - start)) found.marks),
-      subst (λ (b : List ℕ). Holds b (marks ++ map (shifted (at - start)) found.marks) (texts ++ found.text ∷ [])) joined here,
-    )
+    let long : length (between 0 at bytes) ≡ at = let none : at - 0 ≡ at = omega arith in length_between bytes 0 at there ∙ none in
+    let joined : between 0 at bytes ++ between at behind bytes ≡ between 0 behind bytes = join bytes 0 at behind (omega arith) (omega (arith, found.forward)) in
+    let both = holds_more (between 0 at bytes) marks (between at behind bytes) found.marks texts found.text h found.holds in
+    let here : Holds (between 0 at bytes ++ between at behind bytes) new (texts ++ found.text ∷ []) =
+    subst (λ (ms : List ℕ). Holds (between 0 at bytes ++ between at behind bytes) ms (texts ++ found.text ∷ [])) (ap (λ (n : ℕ). marks ++ map (shifted n) found.marks) long ∙ sym found.put) both in
+    subst (λ (b : List ℕ). Holds b new (texts ++ found.text ∷ [])) joined here

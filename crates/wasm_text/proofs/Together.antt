@@ -27,20 +27,20 @@ shift_twice a b c (mark ∷ marks) e =
     let p : shifted a (shifted b mark) ≡ shifted c mark = omega (arith, e) in
     ap₂ (λ (x : ℕ) (y : List ℕ). x ∷ y) p (shift_twice a b c marks e)
 
--- marks behind marks, where both count from one start
-pub put_twice : (start at mid : ℕ) (old now new marks marks' : List ℕ) → start ≤ at → at ≤ mid → now ≡ old ++ map (shifted (at - start)) marks → new ≡ now ++ map (shifted (mid - start)) marks'
-    → new ≡ old ++ map (shifted (at - start)) (marks ++ map (shifted (mid - at)) marks')
-put_twice start at mid old now new marks marks' h k e e' =
-    let s : (at - start) + (mid - at) ≡ mid - start = omega arith in
-    e' ∙ ap (λ x. x ++ map (shifted (mid - start)) marks') e
-    ∙ append_assoc old (map (shifted (at - start)) marks) (map (shifted (mid - start)) marks')
-    ∙ ap (λ x. old ++ (map (shifted (at - start)) marks ++ x)) (sym (shift_twice (at - start) (mid - at) (mid - start) marks' s))
-    ∙ ap (λ x. old ++ x) (sym (map-append (shifted (at - start)) marks (map (shifted (mid - at)) marks')))
+-- marks behind marks
+pub put_twice : (at mid : ℕ) (old now new marks marks' : List ℕ) → at ≤ mid → now ≡ old ++ map (shifted at) marks → new ≡ now ++ map (shifted mid) marks'
+    → new ≡ old ++ map (shifted at) (marks ++ map (shifted (mid - at)) marks')
+put_twice at mid old now new marks marks' k e e' =
+    let s : at + (mid - at) ≡ mid = omega arith in
+    e' ∙ ap (λ x. x ++ map (shifted mid) marks') e
+    ∙ append_assoc old (map (shifted at) marks) (map (shifted mid) marks')
+    ∙ ap (λ x. old ++ (map (shifted at) marks ++ x)) (sym (shift_twice at (mid - at) mid marks' s))
+    ∙ ap (λ x. old ++ x) (sym (map-append (shifted at) marks (map (shifted (mid - at)) marks')))
 
-pub then_has : (first second whole : Form (List RawArg)) (limits : Limits) (bytes : List ℕ) (start at mid behind : ℕ) (old now new : List ℕ)
-    → ((b c : List ℕ) (xs ys : List RawArg) → Is first b xs → Is second c ys → Is whole (b ++ c) (xs ++ ys)) → start ≤ at
-    → HasArgs first limits bytes start at mid old now → HasArgs second limits bytes start mid behind now new → HasArgs whole limits bytes start at behind old new
-then_has first second whole limits bytes start at mid behind old now new law l h k =
+pub then_has : (first second whole : Form (List RawArg)) (limits : Limits) (bytes : List ℕ) (at mid behind : ℕ) (old now new : List ℕ)
+    → ((b c : List ℕ) (xs ys : List RawArg) → Is first b xs → Is second c ys → Is whole (b ++ c) (xs ++ ys))
+    → HasArgs first limits bytes at mid old now → HasArgs second limits bytes mid behind now new → HasArgs whole limits bytes at behind old new
+then_has first second whole limits bytes at mid behind old now new law h k =
     let spell : List RawArg → (RawArg → RawArg) → List ℕ = λ xs f. row_bytes arg_bytes (map f xs) in
     let joined : between at mid bytes ++ between mid behind bytes ≡ between at behind bytes = join bytes at mid behind h.forward k.forward in
     let long : length (between at mid bytes) ≡ mid - at = length_between bytes at mid h.within in
@@ -55,15 +55,15 @@ then_has first second whole limits bytes start at mid behind old now new law l h
       shown = shows_as (between at behind bytes) marks (h.args ++ k.args) (h.args ++ k.args) (λ f. spell h.args f ++ spell k.args f) (spell (h.args ++ k.args)) refl
           (λ f. ap (row_bytes arg_bytes) (map-append f h.args k.args) ∙ row_bytes_append arg_bytes (map f h.args) (map f k.args))
           (subst (λ (b : List ℕ). Shows b marks (h.args ++ k.args) (λ f. spell h.args f ++ spell k.args f)) joined here);
-      put = put_twice start at mid old now new h.marks k.marks l h.forward h.put k.put;
+      put = put_twice at mid old now new h.marks k.marks h.forward h.put k.put;
       fit = each_append (IsWithin limits) h.args k.args h.fit k.fit;
       forward = omega (arith, h.forward, k.forward);
       within = k.within;
     }
 
 -- no argument
-pub no_args : (form : Form (List RawArg)) (limits : Limits) (bytes : List ℕ) (start at : ℕ) (old : List ℕ) → Is form [] [] → at ≤ length bytes → HasArgs form limits bytes start at at old old
-no_args form limits bytes start at old is w =
+pub no_args : (form : Form (List RawArg)) (limits : Limits) (bytes : List ℕ) (at : ℕ) (old : List ℕ) → Is form [] [] → at ≤ length bytes → HasArgs form limits bytes at at old old
+no_args form limits bytes at old is w =
     let n : at - at ≡ 0 = omega arith in
     let none : between at at bytes ≡ [] = ap (λ k. take k (drop at bytes)) n in
     record {
@@ -77,9 +77,9 @@ no_args form limits bytes start at old is w =
       within = w;
     }
 
-pub bare_args : (limits : Limits) (bytes : List ℕ) (start at : ℕ) (old : List ℕ) → at ≤ length bytes → HasArgs (args_form []) limits bytes start at at old old
+pub bare_args : (limits : Limits) (bytes : List ℕ) (at : ℕ) (old : List ℕ) → at ≤ length bytes → HasArgs (args_form []) limits bytes at at old old
 unfolding args_form
-bare_args limits bytes start at old w = no_args (args_form []) limits bytes start at old (refl, refl) w
+bare_args limits bytes at old w = no_args (args_form []) limits bytes at old (refl, refl) w
 
 -- ---- forms of lists of kinds
 
@@ -93,10 +93,10 @@ more_kinds : (kind : Kind) (listed : List Kind) (b c : List ℕ) (xs ys : List R
 unfolding args_form
 more_kinds kind listed b c xs ys is is' = ((xs, ys), (refl, (b, (c, (refl, is, is')))))
 
-pub two_kinds : (kind kind' : Kind) (limits : Limits) (bytes : List ℕ) (start at mid behind : ℕ) (old now new : List ℕ) → start ≤ at
-    → HasArgs (args_form (kind ∷ [])) limits bytes start at mid old now → HasArgs (args_form (kind' ∷ [])) limits bytes start mid behind now new → HasArgs (args_form (kind ∷ kind' ∷ [])) limits bytes start at behind old new
-two_kinds kind kind' limits bytes start at mid behind old now new =
-    then_has (args_form (kind ∷ [])) (args_form (kind' ∷ [])) (args_form (kind ∷ kind' ∷ [])) limits bytes start at mid behind old now new
+pub two_kinds : (kind kind' : Kind) (limits : Limits) (bytes : List ℕ) (at mid behind : ℕ) (old now new : List ℕ)
+    → HasArgs (args_form (kind ∷ [])) limits bytes at mid old now → HasArgs (args_form (kind' ∷ [])) limits bytes mid behind now new → HasArgs (args_form (kind ∷ kind' ∷ [])) limits bytes at behind old new
+two_kinds kind kind' limits bytes at mid behind old now new =
+    then_has (args_form (kind ∷ [])) (args_form (kind' ∷ [])) (args_form (kind ∷ kind' ∷ [])) limits bytes at mid behind old now new
     (λ b c xs ys is is'. more_kinds kind (kind' ∷ []) b c xs ys (to_one kind b xs is) is')
 
 -- ---- labels
@@ -119,13 +119,13 @@ labels_more n b c xs ys (ls, (e, (row, long))) is =
       ),
     )
 
-pub no_labels : (limits : Limits) (bytes : List ℕ) (start at : ℕ) (old : List ℕ) → at ≤ length bytes → HasArgs (labels_form 0) limits bytes start at at old old
-no_labels limits bytes start at old w = no_args (labels_form 0) limits bytes start at old ([], (refl, (refl, refl))) w
+pub no_labels : (limits : Limits) (bytes : List ℕ) (at : ℕ) (old : List ℕ) → at ≤ length bytes → HasArgs (labels_form 0) limits bytes at at old old
+no_labels limits bytes at old w = no_args (labels_form 0) limits bytes at old ([], (refl, (refl, refl))) w
 
-pub one_more_label : (n : ℕ) (limits : Limits) (bytes : List ℕ) (start at mid behind : ℕ) (old now new : List ℕ) → start ≤ at
-    → HasArgs (labels_form n) limits bytes start at mid old now → HasArgs (args_form (kinds.Label ∷ [])) limits bytes start mid behind now new → HasArgs (labels_form (n + 1)) limits bytes start at behind old new
-one_more_label n limits bytes start at mid behind old now new =
-    then_has (labels_form n) (args_form (kinds.Label ∷ [])) (labels_form (n + 1)) limits bytes start at mid behind old now new (labels_more n)
+pub one_more_label : (n : ℕ) (limits : Limits) (bytes : List ℕ) (at mid behind : ℕ) (old now new : List ℕ)
+    → HasArgs (labels_form n) limits bytes at mid old now → HasArgs (args_form (kinds.Label ∷ [])) limits bytes mid behind now new → HasArgs (labels_form (n + 1)) limits bytes at behind old new
+one_more_label n limits bytes at mid behind old now new =
+    then_has (labels_form n) (args_form (kinds.Label ∷ [])) (labels_form (n + 1)) limits bytes at mid behind old now new (labels_more n)
 
 counted_labels : (n : ℕ) (b c : List ℕ) (xs ys : List RawArg) → Is (count_form n) b xs → Is (labels_form n) c ys → Is (arg_form kinds.Labels) (b ++ c) (xs ++ ys)
 unfolding arg_form
@@ -133,9 +133,9 @@ counted_labels n b c xs ys (k, (e, (is, t))) (ls, (e', row)) =
     let same : k ≡ n = eqb-true k n t in
     (k, (b, (c, (refl, is, (ls, (ap₂ (λ x y. x ++ y) e e', subst (λ (m : ℕ). Is (Row U32 m) c ls) (sym same) row))))))
 
-pub all_labels : (n : ℕ) (limits : Limits) (bytes : List ℕ) (start at mid last behind : ℕ) (old now then new : List ℕ) → start ≤ at
-    → HasArgs (count_form n) limits bytes start at mid old now → HasArgs (labels_form n) limits bytes start mid last now then → HasArgs (args_form (kinds.Label ∷ [])) limits bytes start last behind then new
-    → HasArgs (args_form (kinds.Labels ∷ kinds.Label ∷ [])) limits bytes start at behind old new
-all_labels n limits bytes start at mid last behind old now then new l h k m =
-    then_has (arg_form kinds.Labels) (args_form (kinds.Label ∷ [])) (args_form (kinds.Labels ∷ kinds.Label ∷ [])) limits bytes start at last behind old then new (more_kinds kinds.Labels (kinds.Label ∷ [])) l
-    (then_has (count_form n) (labels_form n) (arg_form kinds.Labels) limits bytes start at mid last old now then (counted_labels n) l h k) m
+pub all_labels : (n : ℕ) (limits : Limits) (bytes : List ℕ) (at mid last behind : ℕ) (old now then new : List ℕ)
+    → HasArgs (count_form n) limits bytes at mid old now → HasArgs (labels_form n) limits bytes mid last now then → HasArgs (args_form (kinds.Label ∷ [])) limits bytes last behind then new
+    → HasArgs (args_form (kinds.Labels ∷ kinds.Label ∷ [])) limits bytes at behind old new
+all_labels n limits bytes at mid last behind old now then new h k m =
+    then_has (arg_form kinds.Labels) (args_form (kinds.Label ∷ [])) (args_form (kinds.Labels ∷ kinds.Label ∷ [])) limits bytes at last behind old then new (more_kinds kinds.Labels (kinds.Label ∷ []))
+    (then_has (count_form n) (labels_form n) (arg_form kinds.Labels) limits bytes at mid last old now then (counted_labels n) h k) m

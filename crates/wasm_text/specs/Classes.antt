@@ -31,6 +31,8 @@ abbrev pub class_kinds : Class → List Kind
 class_kinds class.Other = []
 class_kinds class.Prefix = []
 class_kinds class.Bare = []
+class_kinds class.Else = []
+class_kinds class.End = []
 class_kinds class.Block = kinds.Block ∷ []
 class_kinds class.Label = kinds.Label ∷ []
 class_kinds class.Labels = kinds.Labels ∷ kinds.Label ∷ []

@@ -1,5 +1,6 @@
 -- What a scan finds at a place: arguments and operators, with their marks.
-use Rattle.std.specs.Prelude.{◌≡◌, ℕ, ◌+◌, ◌*◌, ◌-◌, ◌<◌, ◌≤◌, true, List, [], ◌∷◌, ◌++◌, length, map, drop, flat_map, nat_eq, ◌⊎◌, false, Result, IfOk}
+use Rattle.std.specs.Prelude.{◌≡◌, ℕ, ◌+◌, ◌*◌, ◌-◌, ◌<◌, ◌≤◌, true, List, [], ◌∷◌, ◌++◌, length, map, drop, flat_map, nat_eq, ◌⊎◌, false, ◌^◌, Vec, vec_len, vec_capacity}
+use Rattle.std.specs.declared.alloc.Global.{Global}
 use Rattle.wasm_forms.specs.Grammar.{Form, Is, Made, Where, Row, U32}
 use Rattle.wasm_forms.specs.Spelling.{row_bytes}
 use Rattle.wasm_forms.specs.Writing.{EachFits}
@@ -54,18 +55,22 @@ IsWithin limits (args.Access flags memory offset) = memory < limits.memories
 
 -- ---- marks
 
--- the mark of what stands at a place, where offsets are counted from start
-abbrev pub mark_at : (start at kind : ℕ) → ℕ
-mark_at start at kind = 16 * (at - start) + kind
+-- the mark of what stands at a place
+abbrev pub mark_at : (at kind : ℕ) → ℕ
+mark_at at kind = 16 * at + kind
 
 -- a place that was answered is this one, and a mark was put behind the others
-abbrev pub IsMarked : (start at kind behind : ℕ) → (old new : List ℕ) → ℕ → Type 0
-IsMarked start at kind behind old new place = IfPlace place ((place ≡ behind) × (new ≡ old ++ mark_at start at kind ∷ []))
+abbrev pub IsMarked : (at kind behind : ℕ) → (old new : List ℕ) → ℕ → Type 0
+IsMarked at kind behind old new place = (place ≡ behind) × (new ≡ old ++ mark_at at kind ∷ [])
 
--- the same, but that what stands in its one spelling gets no mark
-abbrev pub IsMarkedIfPadded : (bytes : List ℕ) → (start at kind behind : ℕ) → (old new : List ℕ) → ℕ → Type 0
-IsMarkedIfPadded bytes start at kind behind old new place =
-    IfPlace place ((place ≡ behind) × ((IsShortest (between at behind bytes) × (new ≡ old)) ⊎ (new ≡ old ++ mark_at start at kind ∷ [])))
+-- a place that was answered is this one, and a mark was put behind the others, unless the argument stands in its one spelling
+abbrev pub IsMarkedIfPadded : (bytes : List ℕ) → (at kind behind : ℕ) → (old new : List ℕ) → ℕ → Type 0
+IsMarkedIfPadded bytes at kind behind old new place =
+    (place ≡ behind) × ((IsShortest (between at behind bytes) × (new ≡ old)) ⊎ (new ≡ old ++ mark_at at kind ∷ []))
+
+-- there is room for a mark of each byte from a place on and for one more, and a mark holds each of these places
+abbrev pub HasRoom : Vec ℕ Global → List ℕ → (at : ℕ) → Type 0
+HasRoom marks bytes at = (at ≤ length bytes) × (length bytes < 2 ^ 28) × (vec_len marks + (length bytes - at) < vec_capacity marks)
 
 -- ---- arguments
 
@@ -77,62 +82,62 @@ abbrev pub labels_form : ℕ → Form (List RawArg)
 labels_form n = Made (flat_map (λ l. args.Label l ∷ [])) (Row U32 n)
 
 -- an index below a count, with its mark
-pub record IsIndexed (below kind : ℕ) (bytes : List ℕ) (start at behind : ℕ) (old new : List ℕ) : Type 0 where
+pub record IsIndexed (below kind : ℕ) (bytes : List ℕ) (at behind : ℕ) (old new : List ℕ) : Type 0 where
   pub number : ℕ
   pub stands : Stands U32 bytes at behind number
   pub small : number < below
-  pub put : new ≡ old ++ mark_at start at kind ∷ []
+  pub put : new ≡ old ++ mark_at at kind ∷ []
 
 -- arguments of this form, with their marks
-pub record HasArgs (form : Form (List RawArg)) (limits : Limits) (bytes : List ℕ) (start at behind : ℕ) (old new : List ℕ) : Type 0 where
+pub record HasArgs (form : Form (List RawArg)) (limits : Limits) (bytes : List ℕ) (at behind : ℕ) (old new : List ℕ) : Type 0 where
   pub args : List RawArg
   pub marks : List ℕ
   pub is : Is form (between at behind bytes) args
   pub shown : Shows (between at behind bytes) marks args (λ f. row_bytes arg_bytes (map f args))
-  pub put : new ≡ old ++ map (shifted (at - start)) marks
+  pub put : new ≡ old ++ map (shifted at) marks
   pub fit : EachFits (IsWithin limits) args
   pub forward : at ≤ behind
   pub within : behind ≤ length bytes
 
-abbrev pub ScansArgs : Form (List RawArg) → Limits → List ℕ → (start at : ℕ) → (old new : List ℕ) → ℕ → Type 0
-ScansArgs form limits bytes start at old new behind = IfPlace behind (HasArgs form limits bytes start at behind old new)
+abbrev pub ScansArgs : Form (List RawArg) → Limits → List ℕ → (at : ℕ) → (old new : List ℕ) → ℕ → Type 0
+ScansArgs form limits bytes at old new behind = IfPlace behind (HasArgs form limits bytes at behind old new)
 
--- the same of what a scan answers
-abbrev pub Scans : {E : Type 0} → List Kind → Limits → List ℕ → (start at : ℕ) → (old new : List ℕ) → Result ℕ E → Type 0
-Scans listed limits bytes start at old new result = IfOk result (λ behind. ScansArgs (args_form listed) limits bytes start at old new behind)
+-- arguments of these kinds
+abbrev pub Scans : List Kind → Limits → List ℕ → (at : ℕ) → (old new : List ℕ) → ℕ → Type 0
+Scans listed limits bytes at old new behind = ScansArgs (args_form listed) limits bytes at old new behind
 
 -- ---- operators
 
 -- the one byte of a number behind the byte FC, and the arguments of the operator that the number leads to
-pub record HasPrefixed (limits : Limits) (bytes : List ℕ) (start at behind : ℕ) (old new : List ℕ) : Type 0 where
+pub record HasPrefixed (limits : Limits) (bytes : List ℕ) (at behind : ℕ) (old new : List ℕ) : Type 0 where
   pub number : ℕ
   pub listed : List Kind
   pub first : drop at bytes ≡ number ∷ drop (at + 1) bytes
   pub small : number < 128
   pub has : HasKinds (opcode_behind PREFIX_FC number) listed
-  pub args : HasArgs (args_form listed) limits bytes start (at + 1) behind old new
+  pub args : HasArgs (args_form listed) limits bytes (at + 1) behind old new
 
--- what a class says of the bytes behind the first one
-abbrev pub ScansClass : Class → Limits → List ℕ → (start at : ℕ) → (old new : List ℕ) → ℕ → Type 0
-ScansClass class.Other limits bytes start at old new behind = behind ≡ NO_PLACE
-ScansClass class.Prefix limits bytes start at old new behind = IfPlace behind (HasPrefixed limits bytes start at behind old new)
-ScansClass c limits bytes start at old new behind = ScansArgs (args_form (class_kinds c)) limits bytes start at old new behind
+-- what a class says of the bytes behind the first one; classes that open or close a block aren't scanned
+abbrev pub ScansClass : Class → Limits → List ℕ → (at : ℕ) → (old new : List ℕ) → ℕ → Type 0
+ScansClass class.Other limits bytes at old new behind = behind ≡ NO_PLACE
+ScansClass class.Block limits bytes at old new behind = behind ≡ NO_PLACE
+ScansClass class.Else limits bytes at old new behind = behind ≡ NO_PLACE
+ScansClass class.End limits bytes at old new behind = behind ≡ NO_PLACE
+ScansClass class.Prefix limits bytes at old new behind = IfPlace behind (HasPrefixed limits bytes at behind old new)
+ScansClass c limits bytes at old new behind = ScansArgs (args_form (class_kinds c)) limits bytes at old new behind
 
 -- an operator of this number begins with this number as its byte, or, where the number is larger, with the byte FC
 abbrev pub Begins : List ℕ → (at op : ℕ) → Type 0
 Begins bytes at op = (drop at bytes ≡ op ∷ drop (at + 1) bytes) ⊎ ((drop at bytes ≡ PREFIX_FC ∷ drop (at + 1) bytes) × (65536 ≤ op))
 
 -- a plain operator, with its marks
-pub record HasOperator (limits : Limits) (bytes : List ℕ) (start at behind : ℕ) (old new : List ℕ) : Type 0 where
+pub record HasOperator (limits : Limits) (bytes : List ℕ) (at behind : ℕ) (old new : List ℕ) : Type 0 where
   pub text : Op
   pub marks : List ℕ
   pub holds : HoldsOne (between at behind bytes) marks text
-  pub put : new ≡ old ++ map (shifted (at - start)) marks
+  pub put : new ≡ old ++ map (shifted at) marks
   pub fit : EachFits (IsWithin limits) text.args
   pub plain : is_plain text.op ≡ true
   pub begins : Begins bytes at text.op
   pub forward : at < behind
   pub within : behind ≤ length bytes
-
-abbrev pub ScansOperator : Limits → List ℕ → (start at : ℕ) → (old new : List ℕ) → ℕ → Type 0
-ScansOperator limits bytes start at old new behind = IfPlace behind (HasOperator limits bytes start at behind old new)

@@ -2,11 +2,12 @@
 
 ghost use Rattle.std.specs.Prelude.{◌≡◌, slice_index_or};
 ghost use Rattle.wasm_text.specs.declared.class.Class.TheVariants as class;
+ghost use Rattle.wasm_text.specs.Bodies.{Turns};
 ghost use Rattle.wasm_text.specs.Classes.{Fits};
 
 use crate::class::Class::{
-    Access, Bare, Block, F32, F64, Function, Global, Label, Labels, Local, Memory, Other, Prefix,
-    S32, S64, Table, Type, TypeTable,
+    Access, Bare, Block, Else, End, F32, F64, Function, Global, Label, Labels, Local, Memory,
+    Other, Prefix, S32, S64, Table, Type, TypeTable,
 };
 
 // What stands behind the first byte of an operator.
@@ -16,9 +17,13 @@ pub(crate) enum Class {
     Other,
     // A number, and what that leads to.
     Prefix,
-    // No argument.
+    // No argument, and no block that is opened or closed.
     Bare,
-    // The type of a block.
+    // `else`.
+    Else,
+    // `end`.
+    End,
+    // The type of a block, which opens.
     Block,
     // A label.
     Label,
@@ -52,7 +57,7 @@ pub(crate) enum Class {
 
 // The class of each byte.
 static CLASSES: [Class; 256] = [
-    Bare, Bare, Block, Block, Block, Bare, Other, Other, Other, Other, Bare, Bare, Label, Label,
+    Bare, Bare, Block, Block, Block, Else, Other, Other, Other, Other, Bare, End, Label, Label,
     Labels, Bare, Function, TypeTable, Function, TypeTable, Type, Type, Other, Other, Other, Other,
     Bare, Bare, Other, Other, Other, Other, Local, Local, Local, Global, Global, Table, Table,
     Other, Access, Access, Access, Access, Access, Access, Access, Access, Access, Access, Access,
@@ -86,7 +91,8 @@ fn entry(classes: &[Class], byte: u8) -> Class
 // The class of an operator's first byte.
 #[inline]
 pub(crate) fn class_of(byte: u8) -> Class
-    ensures { Fits result byte }
+    ensures fits { Fits result byte }
+    ensures turns { Turns result byte }
 {
     entry(&CLASSES, byte)
 }

@@ -56,14 +56,11 @@ pub fn held_behind_held()
         → Holds (bytes ++ more) (marks ++ map (shifted (length bytes)) marks') (texts ++ texts') }
 {}
 
-/// An operator that was scanned behind operators, where the marks of these stand behind others.
+/// An operator that was scanned behind operators is one of them.
 pub fn scanned_behind_held()
-    ensures { (limits : Limited) (bytes front marks old new : List ℕ) (start at behind : ℕ) (texts : List Op)
-        → start ≤ at → old ≡ front ++ marks → Holds (between start at bytes) marks texts
-        → (found : HasOperator limits bytes start at behind old new)
-        → (new ≡ front ++ (marks ++ map (shifted (at - start)) found.marks))
-        × Holds (between start behind bytes) (marks ++ map (shifted (at - start)) found.marks)
-        (texts ++ found.text ∷ []) }
+    ensures { (limits : Limited) (bytes marks new : List ℕ) (at behind : ℕ) (texts : List Op)
+        → Holds (between 0 at bytes) marks texts → (found : HasOperator limits bytes at behind marks new)
+        → Holds (between 0 behind bytes) new (texts ++ found.text ∷ []) }
 {}
 
 /// What is read at a place where a u32 stands is that number.

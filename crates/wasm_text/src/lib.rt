@@ -28,4 +28,4 @@ pub use mark::{
 };
 pub use places::{NO_PLACE, number_at, past_number, past_s32, past_s64, past_u64, rest_from};
 pub use renumbering::{NO_NUMBER, Numbers};
-pub use scan::scan_operator;
+pub use scan::scan_body;

@@ -1,11 +1,13 @@
-//! Plain operators, scanned one by one as they stand in bytes.
+//! Plain bodies, scanned operator by operator as they stand in bytes.
 
-ghost use Rattle.std.specs.Prelude.{◌≡◌, ◌+◌, ◌++◌, ◌<◌, ◌≤◌, ◌∷◌, [], ◌⊎◌, length, drop, IfOk};
-ghost use Rattle.wasm_forms.specs.Writing.{Keeps};
+ghost use Rattle.std.specs.Prelude.{◌≡◌, ◌+◌, ◌<◌, ◌≤◌, ◌∷◌, [], ◌^◌, ◌⊎◌, length, drop, false, Some, IfOk, IfSome, OnOk, vec_capacity, vec_len};
+ghost use Rattle.wasm_opcodes.specs.declared.one_byte.TheConstants.{END};
 ghost use Rattle.wasm_operators.specs.declared.kind.Kind.TheVariants as kinds;
 ghost use Rattle.wasm_operators.specs.Forms.{args_form};
 ghost use Rattle.wasm_text.specs.Places.{IfPlace};
-ghost use Rattle.wasm_text.specs.Scans.{IsMarked, IsMarkedIfPadded, IsIndexed, Scans, ScansArgs, ScansClass, ScansOperator, labels_form};
+ghost use Rattle.wasm_text.specs.Bodies.{IsBody, IsNext, behind_else, behind_end, blocks_of};
+ghost use Rattle.wasm_text.specs.Scans.{HasRoom, IsMarked, IsMarkedIfPadded, IsIndexed, Scans, ScansArgs, ScansClass, labels_form};
+ghost use Rattle.wasm_text.specs.declared.limits.Limits.{Limits as Limited};
 ghost use Rattle.wasm_text.specs.declared.class.Class.TheVariants as class;
 
 use crate::class::{Class, class_of};
@@ -20,6 +22,7 @@ use crate::places::{
 };
 use std::alloc::AllocError;
 use wasm_forms::read_index_from;
+use wasm_opcodes::one_byte::{END, IF};
 use wasm_opcodes::types::{EMPTY_BLOCK, I32_TYPE, V128_TYPE};
 
 // Numbers behind the byte FC (Binary Format > Instructions). Up to the first one stand saturating truncations, from TABLE_GROW to
@@ -34,98 +37,51 @@ const TABLE_GROW: u8 = 15;
 
 const TABLE_FILL: u8 = 17;
 
-// Puts a number behind the others.
+// Puts a mark behind the others, and answers the place behind the argument.
 #[inline]
-fn push(marks: &mut Vec<u32>, mark: u32) -> Result<(), AllocError>
-    ensures pushed { IfOk result (λ _. marks.new.items ≡ marks.old.items ++ mark ∷ []) }
-    ensures keeps { Keeps marks.old.items marks.new.items }
-{
-    if marks.len() < marks.capacity() {
-        marks.push(mark)?;
-        return Ok(());
-    }
-    push_with_room(marks, mark)
-}
-
-// The same where there may be no room: apart, so that a vector that grows stays out of the scan of one operator after another.
-#[inline(never)]
-fn push_with_room(marks: &mut Vec<u32>, mark: u32) -> Result<(), AllocError>
-    ensures pushed { IfOk result (λ _. marks.new.items ≡ marks.old.items ++ mark ∷ []) }
-    ensures keeps { Keeps marks.old.items marks.new.items }
-{
-    marks.push(mark)?;
-    Ok(())
-}
-
-// Puts a mark behind the others, and answers the place behind the argument; [`NO_PLACE`] where a mark doesn't hold its offset.
-#[inline]
-fn put_mark(
-    marks: &mut Vec<u32>,
-    start: usize,
-    at: usize,
-    kind: u32,
-    behind: usize,
-) -> Result<usize, AllocError>
-    requires ordered { start ≤ at }
+fn put_mark(marks: &mut Vec<u32>, at: usize, kind: u32, behind: usize) -> usize
+    requires room { vec_len marks.old < vec_capacity marks.old }
+    requires small { at < 2 ^ 28 }
     requires kind { kind < 16 }
-    ensures marked { IfOk result (λ place.
-        IsMarked start at kind behind marks.old.items marks.new.items place) }
-    ensures keeps { Keeps marks.old.items marks.new.items }
+    ensures marked { IsMarked at kind behind marks.old.items marks.new.items result }
+    ensures capacity { vec_capacity marks.new ≡ vec_capacity marks.old }
 {
-    let offset = at - start;
-    if offset >= 1 << 28 {
-        return Ok(NO_PLACE);
-    }
-    push(marks, offset as u32 * 16 + kind)?;
-    Ok(behind)
+    marks.push_reserved(at as u32 * 16 + kind);
+    behind
 }
 
 // An index below a count, with a mark of this kind, that isn't one byte.
 #[inline(never)]
-fn scan_long_index(
-    bytes: &[u8],
-    start: usize,
-    at: usize,
-    below: u32,
-    kind: u32,
-    marks: &mut Vec<u32>,
-) -> Result<usize, AllocError>
-    requires ordered { start ≤ at }
+fn scan_long_index(bytes: &[u8], at: usize, below: u32, kind: u32, marks: &mut Vec<u32>) -> usize
+    requires room { HasRoom marks.old bytes.now at }
     requires kind { kind < 16 }
-    ensures indexed { IfOk result (λ behind. IfPlace behind
-        (IsIndexed below kind bytes.now start at behind marks.old.items marks.new.items)) }
-    ensures keeps { Keeps marks.old.items marks.new.items }
+    ensures indexed { IfPlace result
+        (IsIndexed below kind bytes.now at result marks.old.items marks.new.items) }
+    ensures capacity { vec_capacity marks.new ≡ vec_capacity marks.old }
 {
     if number_at(bytes, at) >= u64::from(below) {
-        return Ok(NO_PLACE);
+        return NO_PLACE;
     }
-    put_mark(marks, start, at, kind, past_number(bytes, at, 5))
+    put_mark(marks, at, kind, past_number(bytes, at, 5))
 }
 
 // An index below a count, with a mark of this kind.
 #[inline]
-fn scan_index(
-    bytes: &[u8],
-    start: usize,
-    at: usize,
-    below: u32,
-    kind: u32,
-    marks: &mut Vec<u32>,
-) -> Result<usize, AllocError>
-    requires ordered { start ≤ at }
+fn scan_index(bytes: &[u8], at: usize, below: u32, kind: u32, marks: &mut Vec<u32>) -> usize
+    requires room { HasRoom marks.old bytes.now at }
     requires kind { kind < 16 }
-    ensures indexed { IfOk result (λ behind. IfPlace behind
-        (IsIndexed below kind bytes.now start at behind marks.old.items marks.new.items)) }
-    ensures keeps { Keeps marks.old.items marks.new.items }
+    ensures indexed { IfPlace result
+        (IsIndexed below kind bytes.now at result marks.old.items marks.new.items) }
+    ensures capacity { vec_capacity marks.new ≡ vec_capacity marks.old }
 {
     match byte_from(bytes, at) {
         Some(byte) if byte < 128 => {
             if u32::from(byte) >= below {
-                return Ok(NO_PLACE);
+                return NO_PLACE;
             }
-            put_mark(marks, start, at, kind, at + 1)
+            put_mark(marks, at, kind, at + 1)
         }
-        _ => scan_long_index(bytes, start, at, below, kind, marks),
+        _ => scan_long_index(bytes, at, below, kind, marks),
     }
 }
 
@@ -134,204 +90,151 @@ fn scan_index(
 fn put_mark_if_padded(
     bytes: &[u8],
     marks: &mut Vec<u32>,
-    start: usize,
     at: usize,
     kind: u32,
     behind: usize,
-) -> Result<usize, AllocError>
-    requires ordered { start ≤ at }
+) -> usize
+    requires room { HasRoom marks.old bytes.now at }
     requires forward { at ≤ behind }
     requires kind { kind < 16 }
-    ensures marked { IfOk result (λ place.
-        IsMarkedIfPadded bytes.now start at kind behind marks.old.items marks.new.items place) }
-    ensures keeps { Keeps marks.old.items marks.new.items }
+    ensures marked { IsMarkedIfPadded bytes.now at kind behind marks.old.items marks.new.items result }
+    ensures capacity { vec_capacity marks.new ≡ vec_capacity marks.old }
 {
     if is_shortest(bytes, at, behind) {
-        return Ok(behind);
+        return behind;
     }
-    put_mark(marks, start, at, kind, behind)
+    put_mark(marks, at, kind, behind)
 }
 
 // A label.
 #[inline]
-fn scan_label(
-    bytes: &[u8],
-    start: usize,
-    at: usize,
-    limits: &Limits,
-    marks: &mut Vec<u32>,
-) -> Result<usize, AllocError>
-    requires ordered { start ≤ at }
-    ensures scans { Scans (kinds.Label ∷ []) limits.now bytes.now start at
+fn scan_label(bytes: &[u8], at: usize, limits: &Limits, marks: &mut Vec<u32>) -> usize
+    requires room { HasRoom marks.old bytes.now at }
+    ensures scans { Scans (kinds.Label ∷ []) limits.now bytes.now at
         marks.old.items marks.new.items result }
-    ensures keeps { Keeps marks.old.items marks.new.items }
+    ensures capacity { vec_capacity marks.new ≡ vec_capacity marks.old }
 {
     let label = number_at(bytes, at);
     if label >= limits.labels as u64 || label >= 1 << 32 {
-        return Ok(NO_PLACE);
+        return NO_PLACE;
     }
-    put_mark_if_padded(
-        bytes,
-        marks,
-        start,
-        at,
-        MARK_NUMBER,
-        past_number(bytes, at, 5),
-    )
+    put_mark_if_padded(bytes, marks, at, MARK_NUMBER, past_number(bytes, at, 5))
 }
 
 // So many labels.
 fn scan_label_row(
     count: u64,
     bytes: &[u8],
-    start: usize,
     at: usize,
     limits: &Limits,
     marks: &mut Vec<u32>,
-) -> Result<usize, AllocError>
-    requires ordered { start ≤ at }
-    requires within { at ≤ length bytes.now }
-    ensures scans { IfOk result (λ behind. ScansArgs (labels_form count) limits.now bytes.now start at
-        marks.old.items marks.new.items behind) }
-    ensures keeps { Keeps marks.old.items marks.new.items }
+) -> usize
+    requires room { HasRoom marks.old bytes.now at }
+    ensures scans { ScansArgs (labels_form count) limits.now bytes.now at
+        marks.old.items marks.new.items result }
+    ensures capacity { vec_capacity marks.new ≡ vec_capacity marks.old }
 {
     let mut place = at;
     'labels: for _taken in 0..count {
-        place = scan_label(bytes, start, place, limits, marks)?;
+        place = scan_label(bytes, place, limits, marks);
         if place == NO_PLACE {
-            return Ok(NO_PLACE);
+            return NO_PLACE;
         }
     }
-    Ok(place)
+    place
 }
 
 // A count, that many labels, and a label.
 #[inline(never)]
-fn scan_labels(
-    bytes: &[u8],
-    start: usize,
-    at: usize,
-    limits: &Limits,
-    marks: &mut Vec<u32>,
-) -> Result<usize, AllocError>
-    requires ordered { start ≤ at }
-    ensures scans { Scans (kinds.Labels ∷ kinds.Label ∷ []) limits.now bytes.now start at
+fn scan_labels(bytes: &[u8], at: usize, limits: &Limits, marks: &mut Vec<u32>) -> usize
+    requires room { HasRoom marks.old bytes.now at }
+    ensures scans { Scans (kinds.Labels ∷ kinds.Label ∷ []) limits.now bytes.now at
         marks.old.items marks.new.items result }
-    ensures keeps { Keeps marks.old.items marks.new.items }
+    ensures capacity { vec_capacity marks.new ≡ vec_capacity marks.old }
 {
     let count = number_at(bytes, at);
     if count >= 1 << 32 {
-        return Ok(NO_PLACE);
+        return NO_PLACE;
     }
     let first = past_number(bytes, at, 5);
-    let behind = put_mark_if_padded(bytes, marks, start, at, MARK_NUMBER, first)?;
+    let behind = put_mark_if_padded(bytes, marks, at, MARK_NUMBER, first);
     if behind == NO_PLACE {
-        return Ok(NO_PLACE);
+        return NO_PLACE;
     }
-    let last = scan_label_row(count, bytes, start, behind, limits, marks)?;
+    let last = scan_label_row(count, bytes, behind, limits, marks);
     if last == NO_PLACE {
-        return Ok(NO_PLACE);
+        return NO_PLACE;
     }
-    scan_label(bytes, start, last, limits, marks)
+    scan_label(bytes, last, limits, marks)
 }
 
 // A type and a table.
 #[inline(never)]
-fn scan_type_table(
-    bytes: &[u8],
-    start: usize,
-    at: usize,
-    limits: &Limits,
-    marks: &mut Vec<u32>,
-) -> Result<usize, AllocError>
-    requires ordered { start ≤ at }
-    ensures scans { Scans (kinds.«Type» ∷ kinds.Table ∷ []) limits.now bytes.now start at
+fn scan_type_table(bytes: &[u8], at: usize, limits: &Limits, marks: &mut Vec<u32>) -> usize
+    requires room { HasRoom marks.old bytes.now at }
+    ensures scans { Scans (kinds.«Type» ∷ kinds.Table ∷ []) limits.now bytes.now at
         marks.old.items marks.new.items result }
-    ensures keeps { Keeps marks.old.items marks.new.items }
+    ensures capacity { vec_capacity marks.new ≡ vec_capacity marks.old }
 {
-    let table = scan_index(bytes, start, at, limits.types, MARK_TYPE, marks)?;
+    let table = scan_index(bytes, at, limits.types, MARK_TYPE, marks);
     if table == NO_PLACE {
-        return Ok(NO_PLACE);
+        return NO_PLACE;
     }
-    scan_index(bytes, start, table, limits.tables, MARK_TABLE, marks)
+    scan_index(bytes, table, limits.tables, MARK_TABLE, marks)
 }
 
 // Two memories.
 #[inline(never)]
-fn scan_memories(
-    bytes: &[u8],
-    start: usize,
-    at: usize,
-    limits: &Limits,
-    marks: &mut Vec<u32>,
-) -> Result<usize, AllocError>
-    requires ordered { start ≤ at }
-    ensures scans { Scans (kinds.Memory ∷ kinds.Memory ∷ []) limits.now bytes.now start at
+fn scan_memories(bytes: &[u8], at: usize, limits: &Limits, marks: &mut Vec<u32>) -> usize
+    requires room { HasRoom marks.old bytes.now at }
+    ensures scans { Scans (kinds.Memory ∷ kinds.Memory ∷ []) limits.now bytes.now at
         marks.old.items marks.new.items result }
-    ensures keeps { Keeps marks.old.items marks.new.items }
+    ensures capacity { vec_capacity marks.new ≡ vec_capacity marks.old }
 {
-    let source = scan_index(bytes, start, at, limits.memories, MARK_MEMORY, marks)?;
+    let source = scan_index(bytes, at, limits.memories, MARK_MEMORY, marks);
     if source == NO_PLACE {
-        return Ok(NO_PLACE);
+        return NO_PLACE;
     }
-    scan_index(bytes, start, source, limits.memories, MARK_MEMORY, marks)
+    scan_index(bytes, source, limits.memories, MARK_MEMORY, marks)
 }
 
 // An access to memory 0.
 #[inline]
-fn scan_access(
-    bytes: &[u8],
-    start: usize,
-    at: usize,
-    limits: &Limits,
-    marks: &mut Vec<u32>,
-) -> Result<usize, AllocError>
-    requires ordered { start ≤ at }
-    ensures scans { Scans (kinds.Access ∷ []) limits.now bytes.now start at
+fn scan_access(bytes: &[u8], at: usize, limits: &Limits, marks: &mut Vec<u32>) -> usize
+    requires room { HasRoom marks.old bytes.now at }
+    ensures scans { Scans (kinds.Access ∷ []) limits.now bytes.now at
         marks.old.items marks.new.items result }
-    ensures keeps { Keeps marks.old.items marks.new.items }
+    ensures capacity { vec_capacity marks.new ≡ vec_capacity marks.old }
 {
     let flags = number_at(bytes, at);
     if flags >= 1 << 6 || limits.memories == 0 {
-        return Ok(NO_PLACE);
+        return NO_PLACE;
     }
     let offset = past_number(bytes, at, 5);
     let behind = past_u64(bytes, offset);
-    put_mark(marks, start, at, MARK_ACCESS, behind)
+    put_mark(marks, at, MARK_ACCESS, behind)
 }
 
 // The constant of `i32.const`.
 #[inline]
-fn scan_s32(
-    bytes: &[u8],
-    start: usize,
-    at: usize,
-    limits: &Limits,
-    marks: &mut Vec<u32>,
-) -> Result<usize, AllocError>
-    requires ordered { start ≤ at }
-    ensures scans { Scans (kinds.S32 ∷ []) limits.now bytes.now start at
+fn scan_s32(bytes: &[u8], at: usize, marks: &mut Vec<u32>) -> usize
+    requires room { HasRoom marks.old bytes.now at }
+    ensures scans { (limits : Limited) → Scans (kinds.S32 ∷ []) limits bytes.now at
         marks.old.items marks.new.items result }
-    ensures keeps { Keeps marks.old.items marks.new.items }
+    ensures capacity { vec_capacity marks.new ≡ vec_capacity marks.old }
 {
-    put_mark_if_padded(bytes, marks, start, at, MARK_S32, past_s32(bytes, at))
+    put_mark_if_padded(bytes, marks, at, MARK_S32, past_s32(bytes, at))
 }
 
 // The constant of `i64.const`.
 #[inline]
-fn scan_s64(
-    bytes: &[u8],
-    start: usize,
-    at: usize,
-    limits: &Limits,
-    marks: &mut Vec<u32>,
-) -> Result<usize, AllocError>
-    requires ordered { start ≤ at }
-    ensures scans { Scans (kinds.S64 ∷ []) limits.now bytes.now start at
+fn scan_s64(bytes: &[u8], at: usize, marks: &mut Vec<u32>) -> usize
+    requires room { HasRoom marks.old bytes.now at }
+    ensures scans { (limits : Limited) → Scans (kinds.S64 ∷ []) limits bytes.now at
         marks.old.items marks.new.items result }
-    ensures keeps { Keeps marks.old.items marks.new.items }
+    ensures capacity { vec_capacity marks.new ≡ vec_capacity marks.old }
 {
-    put_mark_if_padded(bytes, marks, start, at, MARK_S64, past_s64(bytes, at))
+    put_mark_if_padded(bytes, marks, at, MARK_S64, past_s64(bytes, at))
 }
 
 // The type of a block that begins with the byte `first` and is the index of a type.
@@ -339,49 +242,42 @@ fn scan_s64(
 fn scan_type_block(
     first: u8,
     bytes: &[u8],
-    start: usize,
     at: usize,
     limits: &Limits,
     marks: &mut Vec<u32>,
-) -> Result<usize, AllocError>
-    requires ordered { start ≤ at }
+) -> usize
+    requires room { HasRoom marks.old bytes.now at }
     requires first { drop at bytes.now ≡ first ∷ drop (at + 1) bytes.now }
     requires index { (first < 64) ⊎ (128 ≤ first) }
-    ensures scans { Scans (kinds.Block ∷ []) limits.now bytes.now start at
+    ensures scans { Scans (kinds.Block ∷ []) limits.now bytes.now at
         marks.old.items marks.new.items result }
-    ensures keeps { Keeps marks.old.items marks.new.items }
+    ensures capacity { vec_capacity marks.new ≡ vec_capacity marks.old }
 {
     match read_index_from(first, rest_from(bytes, at + 1)) {
         Ok((index, after)) if index < limits.types => {
-            put_mark(marks, start, at, MARK_BLOCK, bytes.len() - after.len())
+            put_mark(marks, at, MARK_BLOCK, bytes.len() - after.len())
         }
-        _ => Ok(NO_PLACE),
+        _ => NO_PLACE,
     }
 }
 
 // The type of a block: none, a number or vector type, or the index of a type.
 #[inline]
-fn scan_block(
-    bytes: &[u8],
-    start: usize,
-    at: usize,
-    limits: &Limits,
-    marks: &mut Vec<u32>,
-) -> Result<usize, AllocError>
-    requires ordered { start ≤ at }
-    ensures scans { Scans (kinds.Block ∷ []) limits.now bytes.now start at
+fn scan_block(bytes: &[u8], at: usize, limits: &Limits, marks: &mut Vec<u32>) -> usize
+    requires room { HasRoom marks.old bytes.now at }
+    ensures scans { Scans (kinds.Block ∷ []) limits.now bytes.now at
         marks.old.items marks.new.items result }
-    ensures keeps { Keeps marks.old.items marks.new.items }
+    ensures capacity { vec_capacity marks.new ≡ vec_capacity marks.old }
 {
     let Some(first) = byte_from(bytes, at) else {
-        return Ok(NO_PLACE);
+        return NO_PLACE;
     };
     match first {
-        EMPTY_BLOCK => Ok(at + 1),
-        V128_TYPE..=I32_TYPE => Ok(at + 1),
-        0..=63 => scan_type_block(first, bytes, start, at, limits, marks),
-        128..=255 => scan_type_block(first, bytes, start, at, limits, marks),
-        _ => Ok(NO_PLACE),
+        EMPTY_BLOCK => at + 1,
+        V128_TYPE..=I32_TYPE => at + 1,
+        0..=63 => scan_type_block(first, bytes, at, limits, marks),
+        128..=255 => scan_type_block(first, bytes, at, limits, marks),
+        _ => NO_PLACE,
     }
 }
 
@@ -399,99 +295,210 @@ fn past_bytes(bytes: &[u8], at: usize, count: usize) -> usize
 // What stands behind the byte FC: a number in one byte, and the arguments of saturating truncation, `memory.copy`, `memory.fill`,
 // `table.grow`, `table.size` or `table.fill`.
 #[inline(never)]
-fn scan_prefixed(
-    bytes: &[u8],
-    start: usize,
-    at: usize,
-    limits: &Limits,
-    marks: &mut Vec<u32>,
-) -> Result<usize, AllocError>
-    requires ordered { start ≤ at }
-    ensures scans { IfOk result (λ behind. ScansClass class.Prefix limits.now bytes.now start at
-        marks.old.items marks.new.items behind) }
-    ensures keeps { Keeps marks.old.items marks.new.items }
+fn scan_prefixed(bytes: &[u8], at: usize, limits: &Limits, marks: &mut Vec<u32>) -> usize
+    requires room { HasRoom marks.old bytes.now at }
+    ensures scans { ScansClass class.Prefix limits.now bytes.now at
+        marks.old.items marks.new.items result }
+    ensures capacity { vec_capacity marks.new ≡ vec_capacity marks.old }
 {
     let Some(number) = byte_from(bytes, at) else {
-        return Ok(NO_PLACE);
+        return NO_PLACE;
     };
     match number {
-        0..=I64_TRUNC_SAT_F64_U => Ok(at + 1),
-        MEMORY_COPY => scan_memories(bytes, start, at + 1, limits, marks),
-        MEMORY_FILL => scan_index(bytes, start, at + 1, limits.memories, MARK_MEMORY, marks),
-        TABLE_GROW..=TABLE_FILL => scan_index(
-            bytes,
-            start,
-            at + 1,
-            limits.tables,
-            MARK_TABLE,
-            marks,
-        ),
-        _ => Ok(NO_PLACE),
+        0..=I64_TRUNC_SAT_F64_U => at + 1,
+        MEMORY_COPY => scan_memories(bytes, at + 1, limits, marks),
+        MEMORY_FILL => scan_index(bytes, at + 1, limits.memories, MARK_MEMORY, marks),
+        TABLE_GROW..=TABLE_FILL => scan_index(bytes, at + 1, limits.tables, MARK_TABLE, marks),
+        _ => NO_PLACE,
     }
 }
 
-// What stands behind the first byte of an operator of this class.
+// What stands behind the first byte of an operator of this class. One that opens or closes a block isn't scanned here.
 #[inline]
-fn scan_class(
-    class: Class,
-    bytes: &[u8],
-    start: usize,
-    at: usize,
-    limits: &Limits,
-    marks: &mut Vec<u32>,
-) -> Result<usize, AllocError>
-    requires ordered { start ≤ at }
-    requires within { at ≤ length bytes.now }
-    ensures scans { IfOk result (λ behind. ScansClass class limits.now bytes.now start at
-        marks.old.items marks.new.items behind) }
-    ensures keeps { Keeps marks.old.items marks.new.items }
+fn scan_class(class: Class, bytes: &[u8], at: usize, limits: &Limits, marks: &mut Vec<u32>) -> usize
+    requires room { HasRoom marks.old bytes.now at }
+    ensures scans { ScansClass class limits.now bytes.now at marks.old.items marks.new.items result }
+    ensures capacity { vec_capacity marks.new ≡ vec_capacity marks.old }
 {
     match class {
-        Class::Bare => Ok(at),
-        Class::Local => scan_index(bytes, start, at, limits.locals, MARK_LOCAL, marks),
-        Class::S32 => scan_s32(bytes, start, at, limits, marks),
-        Class::Access => scan_access(bytes, start, at, limits, marks),
-        Class::Block => scan_block(bytes, start, at, limits, marks),
-        Class::Label => scan_label(bytes, start, at, limits, marks),
-        Class::Function => scan_index(bytes, start, at, limits.functions, MARK_FUNCTION, marks),
-        Class::Global => scan_index(bytes, start, at, limits.globals, MARK_GLOBAL, marks),
-        Class::S64 => scan_s64(bytes, start, at, limits, marks),
-        Class::F32 => Ok(past_bytes(bytes, at, 4)),
-        Class::F64 => Ok(past_bytes(bytes, at, 8)),
-        Class::Labels => scan_labels(bytes, start, at, limits, marks),
-        Class::Type => scan_index(bytes, start, at, limits.types, MARK_TYPE, marks),
-        Class::TypeTable => scan_type_table(bytes, start, at, limits, marks),
-        Class::Table => scan_index(bytes, start, at, limits.tables, MARK_TABLE, marks),
-        Class::Memory => scan_index(bytes, start, at, limits.memories, MARK_MEMORY, marks),
-        Class::Prefix => scan_prefixed(bytes, start, at, limits, marks),
-        Class::Other => Ok(NO_PLACE),
+        Class::Bare => at,
+        Class::Local => scan_index(bytes, at, limits.locals, MARK_LOCAL, marks),
+        Class::S32 => scan_s32(bytes, at, marks),
+        Class::Access => scan_access(bytes, at, limits, marks),
+        Class::Label => scan_label(bytes, at, limits, marks),
+        Class::Function => scan_index(bytes, at, limits.functions, MARK_FUNCTION, marks),
+        Class::Global => scan_index(bytes, at, limits.globals, MARK_GLOBAL, marks),
+        Class::S64 => scan_s64(bytes, at, marks),
+        Class::F32 => past_bytes(bytes, at, 4),
+        Class::F64 => past_bytes(bytes, at, 8),
+        Class::Labels => scan_labels(bytes, at, limits, marks),
+        Class::Type => scan_index(bytes, at, limits.types, MARK_TYPE, marks),
+        Class::TypeTable => scan_type_table(bytes, at, limits, marks),
+        Class::Table => scan_index(bytes, at, limits.tables, MARK_TABLE, marks),
+        Class::Memory => scan_index(bytes, at, limits.memories, MARK_MEMORY, marks),
+        Class::Prefix => scan_prefixed(bytes, at, limits, marks),
+        Class::Block | Class::Else | Class::End | Class::Other => NO_PLACE,
     }
 }
 
-/// The place behind the plain operator that begins at `at` (Binary Format > Instructions), where its marks are put behind `marks`, with
-/// offsets counted from `start`. [`NO_PLACE`] where no operator stands there, or none that is scanned, or one with an argument that isn't
-/// within the limits; there may be further marks then, behind those that were there.
-///
-/// Blocks are the caller's: whether they nest isn't looked at, nor whether the type of a block is a function type.
-///
-/// # Errors
-///
-/// `AllocError` where no memory is left for the marks.
+// A block opens in the innermost one.
 #[inline]
-pub fn scan_operator(
+fn open_block(opened: &mut Vec<bool>, is_if: bool) -> Result<(), AllocError>
+    ensures opens { OnOk result (blocks_of opened.new ≡ is_if ∷ blocks_of opened.old) }
+    ensures some { OnOk result (0 < vec_len opened.new) }
+{
+    opened.push(is_if)?;
+    Ok(())
+}
+
+// The place behind an `else` that begins at `at`, where the innermost block is an `if` without one.
+#[inline]
+fn turn_to_else(opened: &mut Vec<bool>, at: usize) -> usize
+    requires { at < 2 ^ 28 }
+    ensures turns { IfPlace result
+        ((result ≡ at + 1) × (behind_else (blocks_of opened.old) ≡ Some (blocks_of opened.new))) }
+    ensures as_many { IfPlace result (vec_len opened.new ≡ vec_len opened.old) }
+{
+    match opened.pop() {
+        Some(true) => {
+            opened.push_reserved(false);
+            at + 1
+        }
+        _ => NO_PLACE,
+    }
+}
+
+// The place behind an `end` that begins at `at`, where the innermost block isn't the function itself.
+#[inline]
+fn close(opened: &mut Vec<bool>, at: usize) -> usize
+    requires { at < 2 ^ 28 }
+    ensures closes { IfPlace result
+        ((result ≡ at + 1) × (behind_end (blocks_of opened.old) ≡ Some (blocks_of opened.new))) }
+    ensures some { IfPlace result (0 < vec_len opened.new) }
+{
+    if opened.len() <= 1 {
+        return NO_PLACE;
+    }
+    match opened.pop() {
+        Some(_closed) => at + 1,
+        None => NO_PLACE,
+    }
+}
+
+// The place behind the plain operator that begins at `at`, in the blocks that are open, if it isn't the `end` of the function. Its marks are put behind
+// the others. The limits hold how many blocks are open, then and now.
+#[inline]
+fn scan_operator(
     bytes: &[u8],
-    start: usize,
     at: usize,
-    limits: &Limits,
+    limits: &mut Limits,
+    opened: &mut Vec<bool>,
     marks: &mut Vec<u32>,
 ) -> Result<usize, AllocError>
-    requires ordered { start ≤ at }
-    ensures scans { IfOk result (λ behind. ScansOperator limits.now bytes.now start at
-        marks.old.items marks.new.items behind) }
-    ensures keeps { Keeps marks.old.items marks.new.items }
+    requires there { at < length bytes.now }
+    requires room { HasRoom marks.old bytes.now (at + 1) }
+    requires some { 0 < vec_len opened.old }
+    requires labels { limits.old.labels ≡ vec_len opened.old }
+    ensures scans { IfOk result (λ behind. IfPlace behind (IsNext limits.old bytes.now at behind
+        (blocks_of opened.old) (blocks_of opened.new) marks.old.items marks.new.items)) }
+    ensures some { IfOk result (λ behind. IfPlace behind (0 < vec_len opened.new)) }
+    ensures labels { IfOk result (λ behind. IfPlace behind
+        (limits.new ≡ record limits.old { labels = vec_len opened.new })) }
+    ensures capacity { vec_capacity marks.new ≡ vec_capacity marks.old }
 {
     let Some(first) = byte_from(bytes, at) else {
         return Ok(NO_PLACE);
     };
-    scan_class(class_of(first), bytes, start, at + 1, limits, marks)
+    let class = class_of(first);
+    match class {
+        Class::Block => {
+            let behind = scan_block(bytes, at + 1, limits, marks);
+            open_block(opened, u32::from(first) == IF)?;
+            limits.labels = opened.len();
+            Ok(behind)
+        }
+        Class::Else => Ok(turn_to_else(opened, at)),
+        Class::End => {
+            let behind = close(opened, at);
+            limits.labels = opened.len();
+            Ok(behind)
+        }
+        _ => Ok(scan_class(class, bytes, at + 1, limits, marks)),
+    }
+}
+
+// The place behind the byte at `at`, if it is an `end` and the last one.
+#[inline]
+fn past_last_end(bytes: &[u8], at: usize) -> usize
+    ensures { IfPlace result ((drop at bytes.now ≡ END ∷ drop (at + 1) bytes.now)
+        × (at + 1 ≡ length bytes.now)) }
+{
+    match byte_from(bytes, at) {
+        Some(byte) if u32::from(byte) == END && at + 1 == bytes.len() => at + 1,
+        _ => NO_PLACE,
+    }
+}
+
+// How many operators the bytes are, if they are a plain body that names only what is within the limits. Then its marks stand in `marks`. The function
+// itself is open, and there are no marks yet.
+#[inline(never)]
+fn scan_operators(
+    bytes: &[u8],
+    limits: &Limits,
+    opened: &mut Vec<bool>,
+    marks: &mut Vec<u32>,
+) -> Result<Option<usize>, AllocError>
+    requires room { HasRoom marks.old bytes.now 0 }
+    requires none { marks.old.items ≡ [] }
+    requires alone { opened.old.items ≡ false ∷ [] }
+    ensures { IfOk result (λ found. IfSome found (IsBody limits.now bytes.now marks.new.items)) }
+{
+    let mut here = *limits;
+    here.labels = opened.len();
+    let mut count: usize = 0;
+    let mut at: usize = 0;
+    'operators: while at + 1 < bytes.len() {
+        let behind = scan_operator(bytes, at, &mut here, opened, marks)?;
+        if behind == NO_PLACE {
+            return Ok(None);
+        }
+        count += 1;
+        at = behind;
+    }
+    if here.labels != 1 {
+        return Ok(None);
+    }
+    let last = past_last_end(bytes, at);
+    if last == NO_PLACE {
+        return Ok(None);
+    }
+    Ok(Some(count + 1))
+}
+
+/// How many operators the bytes are, if they are a plain body (Binary Format > Instructions > Expressions) that names only what is within the
+/// limits: its operators nest up to the `end` of the function, and no byte stands behind that. Then its marks stand in `marks`, with offsets counted
+/// from the first byte. `opened` is room for a flag of each open block. Both may hold anything before.
+///
+/// How many blocks the limits say are open counts for nothing, and whether the type of a block is a function type isn't looked at. None is answered
+/// of 2^28 bytes and more.
+///
+/// # Errors
+///
+/// `AllocError` where no memory is left.
+pub fn scan_body(
+    bytes: &[u8],
+    limits: &Limits,
+    opened: &mut Vec<bool>,
+    marks: &mut Vec<u32>,
+) -> Result<Option<usize>, AllocError>
+    ensures { IfOk result (λ found. IfSome found (IsBody limits.now bytes.now marks.new.items)) }
+{
+    if bytes.len() >= 1 << 28 {
+        return Ok(None);
+    }
+    marks.clear();
+    marks.reserve(bytes.len() + 1)?;
+    opened.clear();
+    opened.push(false)?;
+    scan_operators(bytes, limits, opened, marks)
 }

@@ -2,6 +2,7 @@ pub mod Checked
 pub mod NamedRules
 pub mod Gathered
 pub mod Order
+pub mod Keys
 pub mod Names
 pub mod Totals
 pub mod ModuleFramed

@@ -1,7 +1,7 @@
 -- Names that differ, and their neighbours where they stand in order.
 use Rattle.std.specs.Borrow.{Bor}
 use Rattle.std.proofs.Common.{◌≡◌, ℕ, ◌+◌, ◌-◌, ◌<◌, Bool, false, true, List, [], ◌∷◌, length, get_or, map, not, refl, sym, ap, ◌∙◌, subst, arith}
-use Rattle.std.specs.Prelude.{◌≢◌, AllPairs, IsPermutation, IsSorted}
+use Rattle.std.specs.Prelude.{◌≢◌, IsPermutation, IsSorted}
 use Rattle.std.specs.Bool.{Decides}
 use Rattle.std.specs.Cmp.{IsTotalOrder}
 use Rattle.std.specs.List.{AllAdjacentBelow, AllByRecursion, IsDistinct}
@@ -20,6 +20,7 @@ use Rattle.std.proofs.lemmas.Map.Text.{is_eq-slice_cmp}
 use Rattle.std.proofs.lemmas.Slice.Eq.{bytes_eq-Decides}
 use Rattle.wasm_entries.specs.declared.record.RawExport.{RawExport}
 use Rattle.wasm_entries.specs.Record.{Export, export_entry}
+use Rattle.wasm_wire.specs.Keys.{AllDiffer}
 use Rattle.wasm_wire.specs.Names.{NeighboursDiffer, by_bytes}
 use Rattle.wasm_wire.specs.Rules.{NamesDiffer}
 
@@ -31,12 +32,6 @@ bytes_of n = n.now
 
 abbrev texts : List Text → List (List ℕ)
 texts names = map bytes_of names
-
-abbrev names_in : List RawExport → List Text
-names_in xs = map (λ e. e.name) xs
-
-abbrev AllDiffer : List (List ℕ) → Type 0
-AllDiffer ts = AllPairs (λ x y. x ≢ y) ts
 
 -- ---- the comparison of neighbours
 
@@ -84,10 +79,43 @@ distinct_texts (n ∷ names) h = (go names h.0, distinct_texts names h.1)
 
 -- ---- all of them
 
+-- names that differ do so in any order
+pub differ_moved : (old new : List (List ℕ)) → IsPermutation old new → AllDiffer old → AllDiffer new
+differ_moved old new moved differ =
+    let distinct = IsDistinct-from_AllPairs bytes_eq-Decides old differ in
+    AllPairs-from_IsDistinct bytes_eq-Decides new (IsDistinct-IsPermutation bytes_eq nat_list_eq_equiv.symm old new moved distinct)
+
+-- where neighbours differ in order, all do
+by_neighbours : (names : List Text) → IsSorted by_bytes names → NeighboursDiffer names → AllDiffer (texts names)
+by_neighbours names sorted differ =
+    let distinct = distinct_texts names (IsDistinct-from_sorted by_bytes names (all_rising names sorted differ)) in
+    AllPairs-from_IsDistinct bytes_eq-Decides (texts names) distinct
+
+-- where all differ, neighbours do
+neighbours_differ : (names : List Text) → AllDiffer (texts names) → NeighboursDiffer names
+neighbours_differ names there k d within same =
+    there k (k + 1) d.now (omega arith) (rw (length-map names bytes_of) within)
+    (get_or-map bytes_of names k d d.now (omega arith) ∙ same ∙ sym (get_or-map bytes_of names (k + 1) d d.now within))
+
+-- what the comparison of neighbours answered, and the names that it was given in order
+pub told_by_neighbours : (old new given : List Text) (apart : Bool) → IsPermutation old new → IsSorted by_bytes new → given ≡ new
+    → Decides apart (NeighboursDiffer given) → Decides apart (AllDiffer (texts old))
+told_by_neighbours old new given apart moved sorted same decides =
+    let there = IsPermutation-map bytes_of old new moved in (
+      λ was. differ_moved (texts new) (texts old) (IsPermutation-sym (texts old) (texts new) there)
+          (by_neighbours new sorted (subst NeighboursDiffer same (decides.0 was))),
+      λ differ. decides.1 (subst NeighboursDiffer (sym same) (neighbours_differ new (differ_moved (texts old) (texts new) there differ))),
+    )
+
+-- ---- of exports
+
 abbrev name_of : Export → List ℕ
 name_of e = e.name
 
-names_of : (xs : List RawExport) → map name_of (map export_entry xs) ≡ texts (names_in xs)
+abbrev names_in : List RawExport → List (List ℕ)
+names_in xs = map (λ e. e.name.now) xs
+
+names_of : (xs : List RawExport) → map name_of (map export_entry xs) ≡ names_in xs
 names_of [] = refl
 names_of (x ∷ xs) = ap (λ (rest : List (List ℕ)). x.name.now ∷ rest) (names_of xs)
 
@@ -103,39 +131,13 @@ names_differ (e ∷ es) h i j d less within same =
     let far : j < length all = rw (sym (length-map all name_of)) within in
     h i j e less far (sym (get_or-map name_of all i e d (omega arith)) ∙ same ∙ get_or-map name_of all j e d far)
 
--- names that differ do so in any order
-differ_moved : (old new : List Text) → IsPermutation old new → IsDistinct bytes_eq (texts old) → AllDiffer (texts new)
-differ_moved old new moved distinct =
-    let there = IsPermutation-map bytes_of old new moved in
-    AllPairs-from_IsDistinct bytes_eq-Decides (texts new)
-    (IsDistinct-IsPermutation bytes_eq nat_list_eq_equiv.symm (texts old) (texts new) there distinct)
+-- what was told of the names of exports
 
--- where neighbours differ in order, all do
-by_neighbours : (xs : List RawExport) (names : List Text) → IsPermutation (names_in xs) names → IsSorted by_bytes names → NeighboursDiffer names
+pub exports_differ : (xs : List RawExport) (differ : Bool) → Decides differ (AllDiffer (names_in xs)) → differ ≡ true
     → NamesDiffer (map export_entry xs)
-by_neighbours xs names moved sorted differ =
-    let distinct = distinct_texts names (IsDistinct-from_sorted by_bytes names (all_rising names sorted differ)) in
-    let apart = differ_moved names (names_in xs) (IsPermutation-sym (names_in xs) names moved) distinct in
-    differ_by_names (map export_entry xs) (subst AllDiffer (sym (names_of xs)) apart)
+exports_differ xs differ decides was = differ_by_names (map export_entry xs) (subst AllDiffer (sym (names_of xs)) (decides.0 was))
 
--- where all differ, neighbours do in any order
-neighbours_differ : (xs : List RawExport) (names : List Text) → IsPermutation (names_in xs) names → NamesDiffer (map export_entry xs)
-    → NeighboursDiffer names
-neighbours_differ xs names moved differ k d within same =
-    let apart = subst AllDiffer (names_of xs) (names_differ (map export_entry xs) differ) in
-    let there = differ_moved (names_in xs) names moved (IsDistinct-from_AllPairs bytes_eq-Decides (texts (names_in xs)) apart) in
-    there k (k + 1) d.now (omega arith) (rw (length-map names bytes_of) within)
-    (get_or-map bytes_of names k d d.now (omega arith) ∙ same ∙ sym (get_or-map bytes_of names (k + 1) d d.now within))
-
--- what the comparison of neighbours answered, and the names that it was given
-
-pub all_differ : (xs : List RawExport) (given names : List Text) (alike : Bool) → IsPermutation (names_in xs) names → IsSorted by_bytes names
-    → given ≡ names → Decides (not alike) (NeighboursDiffer given) → alike ≡ false → NamesDiffer (map export_entry xs)
-all_differ xs given names alike moved sorted same decides was =
-    by_neighbours xs names moved sorted (subst NeighboursDiffer same (decides.0 (ap not was)))
-
-pub alike_not : (xs : List RawExport) (given names : List Text) (alike : Bool) → IsPermutation (names_in xs) names → given ≡ names
-    → Decides (not alike) (NeighboursDiffer given) → alike ≡ true → NamesDiffer (map export_entry xs) → ⊥
-alike_not xs given names alike moved same decides was differ =
-    let neighbours = subst NeighboursDiffer (sym same) (neighbours_differ xs names moved differ) in
-    false≢true (sym (ap not was) ∙ decides.1 neighbours)
+pub exports_alike : (xs : List RawExport) (differ : Bool) → Decides differ (AllDiffer (names_in xs)) → differ ≡ false
+    → NamesDiffer (map export_entry xs) → ⊥
+exports_alike xs differ decides was apart =
+    false≢true (sym was ∙ decides.1 (subst AllDiffer (names_of xs) (names_differ (map export_entry xs) apart)))

@@ -5,6 +5,7 @@ pub mod Locals
 pub mod Gathering
 pub mod Rules
 pub mod Broken
+pub mod Keys
 pub mod Names
 pub mod ModuleSpelling
 pub mod ModuleWriting

@@ -99,7 +99,13 @@ impl<'a> Differ<'a> {
                 Ok(None)
             }
             (FunctionKind::Local(_), FunctionKind::Import(import)) => Ok(Some(*import)),
-            (FunctionKind::Local(_), FunctionKind::Local(_)) => Ok(None),
+            (FunctionKind::Local(old), FunctionKind::Local(new)) => {
+                let stays = new.is_still(old) || new.in_front_of(old).is_some();
+                if stays && was.locals != is.locals {
+                    return refused(item, "the names of its locals can't be changed");
+                }
+                Ok(None)
+            }
         }
     }
 
@@ -218,16 +224,15 @@ impl<'a> Differ<'a> {
     /// Whether what was read of a global comes anew.
     fn is_set(&mut self, id: GlobalId, was: &Global, is: &Global) -> Result<bool, Error> {
         let item = Item::Global(id.index());
-        let has_type_of = was.has_type_of(is);
+        let differs = was.differs_in(is);
         match (&was.kind, &is.kind) {
-            (GlobalKind::Local(old), GlobalKind::Local(new)) => Ok(!has_type_of || old != new),
+            (GlobalKind::Local(old), GlobalKind::Local(new)) => Ok(differs.is_some() || old != new),
             (GlobalKind::Import(old), GlobalKind::Import(new)) if old != new => {
                 refused(item, "its import can't be changed")
             }
-            (GlobalKind::Import(_), GlobalKind::Import(_)) if !has_type_of => {
-                refused(item, "its type can't be changed, since an import brings it")
+            (GlobalKind::Import(_), GlobalKind::Import(_)) => {
+                differs.map_or(Ok(false), |why| refused(item, why))
             }
-            (GlobalKind::Import(_), GlobalKind::Import(_)) => Ok(false),
             (GlobalKind::Import(import), GlobalKind::Local(_)) => {
                 self.done.insert(*import);
                 Ok(true)

@@ -255,9 +255,18 @@ pub struct Global {
 }
 
 impl Global {
-    /// Whether the other one has the same type.
-    pub(super) fn has_type_of(&self, other: &Global) -> bool {
-        (self.ty, self.mutable, self.shared) == (other.ty, other.mutable, other.shared)
+    /// Why the other one can't come in its place where an import brings both: the first field of
+    /// its type that differs.
+    pub(super) fn differs_in(&self, other: &Global) -> Option<&'static str> {
+        if self.ty != other.ty {
+            Some("its `ty` can't be changed, since an import brings it")
+        } else if self.mutable != other.mutable {
+            Some("its `mutable` can't be changed, since an import brings it")
+        } else if self.shared != other.shared {
+            Some("its `shared` can't be changed, since an import brings it")
+        } else {
+            None
+        }
     }
 }
 

@@ -1,4 +1,4 @@
-use Rattle.std.proofs.Common.{option_map, refl, subst, IsSome, Some, ◌≡◌}
+use Rattle.std.proofs.Common.{option_map, refl, subst, sym, IsSome, Some, ◌≡◌}
 use Rattle.std.proofs.lemmas.List.{map-set}
 use Rattle.std.proofs.lemmas.Result.{err_from_is_err_and}
 use Rattle.walrus_base.specs.Arena.{item_at}
@@ -6,8 +6,10 @@ use Rattle.walrus_base.specs.Id.{place}
 use Rattle.walrus_code.specs.Indices.{ids_at}
 use Rattle.walrus_items.specs.Functions.{function_value, functions}
 use Rattle.walrus_module.specs.View.{contents_of}
+use Rattle.walrus_edit_list.specs.Joined.{LeadsToItself}
 use Rattle.walrus_edit_list.proofs.FunctionEdits.{fronts_so}
 use Rattle.walrus_edit_list.proofs.FunctionRefusals.{front_refuses, front_uncounted}
+use Rattle.walrus_edit_list.proofs.Numbered.{given_itself}
 use Rattle.walrus_edit_list.proofs.front.front_function.Goals as goal
 
 pub returns-in_err-ids : goal.returns-in_err-ids
@@ -30,3 +32,6 @@ returns g c =
     fronts_so c.args.number (place c.at-id.result) c.at-id.ensures (contents_of c.args.module.now) _ c.args.features.now c.args.bytes.now (function_value c.get_mut.result.now) c.get_mut.ensures.value
     c.front_kind.new.kind (ids_at c.in_ok-ids.ids) c.in_ok-ids.ensures c.in_ok-front_kind.ensures
     (map-set (option_map function_value) c.args.module.now.funcs.arena.places.items (place c.at-id.result) _) refl
+
+pub front_kind-requires-clause-ids : goal.front_kind-requires-clause-ids
+front_kind-requires-clause-ids g c = subst LeadsToItself (sym c.in_ok-ids.ensures) (given_itself (contents_of c.args.module.now))

@@ -15,6 +15,9 @@ edits-preserved g c =
 pub returns-in-Err : goal.returns-in-Err
 returns-in-Err g c = refused_first _ _ _ _ c.in-Err.ensures.fails
 
+pub returns-in-Err-places_of_items : goal.returns-in-Err-places_of_items
+returns-in-Err-places_of_items g c = refused_first _ _ _ _ c.in-Err-places_of_items.ensures.fails
+
 pub returns-in-Err-apply_first : goal.returns-in-Err-apply_first
 returns-in-Err-apply_first g c =
     let some : length c.edits.rest.now ≡ 0 → ⊥ = λ none. absurd (grind (arith, nat_tests)) in

@@ -100,3 +100,15 @@ returns-clause-counted g c =
 
 pub returns-clause-numbered : goal.returns-clause-numbered
 returns-clause-numbered g c = c.in_ok-contents.ensures.numbered
+
+pub returns-clause-rest : goal.returns-clause-rest
+returns-clause-rest g c = record {
+  tables = refl;
+  memories = refl;
+  globals = refl;
+  exports = refl;
+  start = refl;
+  elements = refl;
+  segments = refl;
+  customs = refl;
+}

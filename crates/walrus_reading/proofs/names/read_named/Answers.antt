@@ -1,4 +1,5 @@
-use Rattle.std.proofs.Common.{List, refl, subst, map}
+use Rattle.std.proofs.Common.{List, refl, subst, map, ap, ◌∙◌}
+use Rattle.std.specs.Global.{Vec}
 use Rattle.std.specs.Fn.{FnReturnsAt}
 use Rattle.walrus_functions.specs.ReadFunction.{GivenIf}
 use Rattle.std.proofs.lemmas.Result.{err_from_is_err_and}
@@ -27,7 +28,7 @@ returns-clause-taken g c =
     let contents = c.in_ok-contents.contents in
     let b : Bounds = record { types = c.in_ok-contents.types; starts = c.in_ok-contents.starts.items; synthetic = c.args.synthetic } in
     let named : AreNamed b (sections c.args.raw.now).customs (shown contents) (shown c.in_ok-named.named) =
-    subst (λ (l : List RawCustom). AreNamed b (map custom_record l) (shown contents) (shown c.in_ok-named.named)) c.deref.ensures.value c.in_ok-named.ensures.named in
+    subst (λ (l : List RawCustom). AreNamed b (map custom_record l) (shown contents) (shown c.in_ok-named.named)) (c.deref.ensures.value ∙ ap (λ (v : Vec RawCustom). v.items) c.in_ok-contents.ensures.customs) c.in_ok-named.ensures.named in
     record {
       before = contents;
       starts = c.in_ok-contents.starts.items;
@@ -43,7 +44,7 @@ returns-clause-own_ids g c =
     let contents = c.in_ok-contents.contents in
     let b : Bounds = record { types = c.in_ok-contents.types; starts = c.in_ok-contents.starts.items; synthetic = c.args.synthetic } in
     let named : AreNamed b (sections c.args.raw.now).customs (shown contents) (shown c.in_ok-named.named) =
-    subst (λ (l : List RawCustom). AreNamed b (map custom_record l) (shown contents) (shown c.in_ok-named.named)) c.deref.ensures.value c.in_ok-named.ensures.named in
+    subst (λ (l : List RawCustom). AreNamed b (map custom_record l) (shown contents) (shown c.in_ok-named.named)) (c.deref.ensures.value ∙ ap (λ (v : Vec RawCustom). v.items) c.in_ok-contents.ensures.customs) c.in_ok-named.ensures.named in
     ids_still contents c.in_ok-named.named (renamed_by_names b (sections c.args.raw.now).customs contents c.in_ok-named.named named) (own_ids c.args.features.now (sections c.args.raw.now) contents c.in_ok-contents.ensures.taken.taken)
 
 pub returns-clause-located : goal.returns-clause-located
@@ -51,7 +52,7 @@ returns-clause-located g c =
     let contents = c.in_ok-contents.contents in
     let b : Bounds = record { types = c.in_ok-contents.types; starts = c.in_ok-contents.starts.items; synthetic = c.args.synthetic } in
     let named : AreNamed b (sections c.args.raw.now).customs (shown contents) (shown c.in_ok-named.named) =
-    subst (λ (l : List RawCustom). AreNamed b (map custom_record l) (shown contents) (shown c.in_ok-named.named)) c.deref.ensures.value c.in_ok-named.ensures.named in
+    subst (λ (l : List RawCustom). AreNamed b (map custom_record l) (shown contents) (shown c.in_ok-named.named)) (c.deref.ensures.value ∙ ap (λ (v : Vec RawCustom). v.items) c.in_ok-contents.ensures.customs) c.in_ok-named.ensures.named in
     located_still (GivenIf c.args.as_texts (FnReturnsAt g.L.Fn c.args.locate.now)) (sections c.args.raw.now) contents c.in_ok-named.named (renamed_by_names b (sections c.args.raw.now).customs contents c.in_ok-named.named named) c.in_ok-contents.ensures.located
 
 pub returns-clause-produced : goal.returns-clause-produced
@@ -59,5 +60,5 @@ returns-clause-produced g c =
     let contents = c.in_ok-contents.contents in
     let b : Bounds = record { types = c.in_ok-contents.types; starts = c.in_ok-contents.starts.items; synthetic = c.args.synthetic } in
     let named : AreNamed b (sections c.args.raw.now).customs (shown contents) (shown c.in_ok-named.named) =
-    subst (λ (l : List RawCustom). AreNamed b (map custom_record l) (shown contents) (shown c.in_ok-named.named)) c.deref.ensures.value c.in_ok-named.ensures.named in
+    subst (λ (l : List RawCustom). AreNamed b (map custom_record l) (shown contents) (shown c.in_ok-named.named)) (c.deref.ensures.value ∙ ap (λ (v : Vec RawCustom). v.items) c.in_ok-contents.ensures.customs) c.in_ok-named.ensures.named in
     produced_still (sections c.args.raw.now) contents c.in_ok-named.named (renamed_by_names b (sections c.args.raw.now).customs contents c.in_ok-named.named named) c.in_ok-contents.ensures.produced
