@@ -1,15 +1,11 @@
 -- Names of exports that differ, by their neighbours in order.
 use Rattle.std.specs.Borrow.{Bor}
-use Rattle.std.proofs.Common.{◌≡◌, ℕ, ◌<◌, Bool, false, true, List, [], ◌∷◌, length, get_or, map, not, refl, sym, ap, subst, arith}
+use Rattle.std.proofs.Common.{◌≡◌, ℕ, ◌<◌, Bool, List, [], ◌∷◌, length, get_or, map, not, sym, subst, arith}
 use Rattle.std.specs.Prelude.{◌≢◌, AllPairs, IsPermutation, IsSorted}
 use Rattle.std.specs.Bool.{Decides}
 use Rattle.std.proofs.lemmas.List.{get_or-map, length-map}
-use Rattle.wasm_entries.specs.declared.record.RawExport.{RawExport}
-use Rattle.wasm_entries.specs.declared.record.RawExportKind.TheVariants.{Function}
-use Rattle.wasm_entries.specs.Record.{Export, export_entry}
 use Rattle.wasm_wire.specs.Names.{NeighboursDiffer, by_bytes}
-use Rattle.wasm_wire.specs.Rules.{NamesDiffer}
-use Rattle.wasm_wire.proofs.Names.{all_differ, alike_not}
+use Rattle.wasm_wire.proofs.Names.{told_by_neighbours}
 use Rattle.walrus_items.specs.Exports.{ExportValue}
 use Rattle.walrus_module.specs.Tested.{AreApart, AreNamedApart}
 
@@ -35,42 +31,25 @@ module _ {A B : Type 0} (g : A → B) (R : B → B → Type 0) where
       subst (λ (u : B). R u (get_or (map g all) j e)) (sym (get_or-map g all i x e near))
       (subst (λ (v : B). R (g (get_or all i x)) v) (sym (get_or-map g all j x e far)) (h i j x less far))
 
--- ---- texts, as if each were the name of an export
-
-abbrev raw : Text → RawExport
-raw n = record { name = n; kind = Function; index = 0 }
-
-named : (given : List Text) → map (λ (e : RawExport). e.name) (map raw given) ≡ given
-named [] = refl
-named (n ∷ given) = ap (λ (rest : List Text). n ∷ rest) (named given)
-
-abbrev Differ : Export → Export → Type 0
-Differ a b = a.name ≢ b.name
-
-to_exports : (given : List Text) → AreApart given → NamesDiffer (map export_entry (map raw given))
-to_exports given h = mapped_pairs export_entry Differ (map raw given) (mapped_pairs raw (λ (x : RawExport) (y : RawExport). Differ (export_entry x) (export_entry y)) given h)
-
-from_exports : (given : List Text) → NamesDiffer (map export_entry (map raw given)) → AreApart given
-from_exports given h = unmapped_pairs raw (λ (x : RawExport) (y : RawExport). Differ (export_entry x) (export_entry y)) given (unmapped_pairs export_entry Differ (map raw given) h)
-
--- what the comparison of neighbours answered of texts in order
-pub apart : (given sorted lent : List Text) (alike : Bool) → IsPermutation given sorted → IsSorted by_bytes sorted → lent ≡ sorted
-    → Decides (not alike) (NeighboursDiffer lent) → Decides (not alike) (AreApart given)
-apart given sorted lent false moved rising same decides =
-    ((λ e. from_exports given (all_differ (map raw given) lent sorted false (subst (λ (xs : List Text). IsPermutation xs sorted) (sym (named given)) moved) rising same decides refl)), λ h. refl)
-apart given sorted lent true moved rising same decides =
-    ((λ e. absurd (cc)), λ h. absurd (alike_not (map raw given) lent sorted true (subst (λ (xs : List Text). IsPermutation xs sorted) (sym (named given)) moved) same decides refl (to_exports given h)))
-
--- ---- exports of these names
+-- ---- texts
 
 abbrev now : Text → List ℕ
 now n = n.now
 
-abbrev own : ExportValue → List ℕ
-own e = e.name
-
 abbrev Other : List ℕ → List ℕ → Type 0
 Other x y = x ≢ y
+
+-- what the comparison of neighbours answered of texts in order
+pub apart : (given sorted lent : List Text) (alike : Bool) → IsPermutation given sorted → IsSorted by_bytes sorted → lent ≡ sorted
+    → Decides (not alike) (NeighboursDiffer lent) → Decides (not alike) (AreApart given)
+apart given sorted lent alike moved rising same decides =
+    let told = told_by_neighbours given sorted lent (not alike) moved rising same decides in
+    (λ was. unmapped_pairs now Other given (told.0 was), λ differ. told.1 (mapped_pairs now Other given differ))
+
+-- ---- exports of these names
+
+abbrev own : ExportValue → List ℕ
+own e = e.name
 
 pub named_apart : (all : List ExportValue) (names : List Text) (b : Bool) → map now names ≡ map own all → Decides b (AreApart names) → Decides b (AreNamedApart all)
 named_apart all names b same decides = (
