@@ -5,7 +5,7 @@ use Rattle.std.specs.List.{position_from}
 use Rattle.std.proofs.lemmas.List.{map-set, set-get_or, map-append}
 use Rattle.std.proofs.lemmas.Iterator.Adapters.{position_from-zero}
 use Rattle.walrus_producers.specs.Producers.{ProducerValue, ProducerField, with_value, with_field}
-use Rattle.walrus_producers.specs.Seen.{value_seen, field_seen, fields_seen, producers, is_field_of, Adds}
+use Rattle.walrus_producers.specs.Seen.{value_seen, values_seen, field_seen, fields_seen, producers, is_field_of, Adds}
 use Rattle.walrus_producers.specs.Values.{is_named}
 use Rattle.walrus_producers.specs.declared.producers.ProducerValue.{ProducerValue as HeldValue}
 use Rattle.walrus_producers.specs.declared.producers.ProducerField.{ProducerField as HeldField}
@@ -89,11 +89,11 @@ module _ (new : ProducerValue) (vs : List ProducerValue) where
   pub value_none : position the_test vs ≡ None → vs ++ new ∷ [] ≡ with_value new vs
   value_none h = ap (λ l. l ++ new ∷ []) (sym (same_values vs)) ∙ none_first (λ v. v) the_test (λ v. new) new vs h ∙ firsts
 
-  -- what pushing it answered
-  pub value_pushed : {E : Type 0} (after : List ProducerValue) (r : Result Unit E) → position the_test vs ≡ None
-      → MatchResult r (λ x. after ≡ vs ++ new ∷ []) (λ e. after ≡ vs) → MatchResult r (λ x. after ≡ with_value new vs) (λ e. after ≡ vs)
-  value_pushed after (Ok u) none h = h ∙ value_none none
-  value_pushed after (Err e) none h = h
+-- what pushing it answered
+pub value_pushed : {E : Type 0} (new : HeldValue) (old after : List HeldValue) (r : Result Unit E) → position (is_named (string_bytes new.name)) (values_seen old) ≡ None
+    → MatchResult r (λ x. after ≡ old ++ new ∷ []) (λ e. after ≡ old) → MatchResult r (λ x. values_seen after ≡ with_value (value_seen new) (values_seen old)) (λ e. after ≡ old)
+value_pushed new old after (Ok u) none h = ap values_seen h ∙ map-append value_seen old (new ∷ []) ∙ value_none (value_seen new) (values_seen old) none
+value_pushed new old after (Err e) none h = h
 
 -- ---- fields
 

@@ -6,7 +6,7 @@ use Rattle.walrus_producers.specs.declared.producers.ProducerField.{ProducerFiel
 use Rattle.walrus_producers.specs.declared.producers.ModuleProducers.{ModuleProducers}
 
 abbrev pub field_seen : HeldField → ProducerField
-field_seen f = record { name = string_bytes f.name; values = f.values }
+field_seen f = record { name = string_bytes f.name; values = values_seen f.values }
 
 abbrev pub fields_seen : List HeldField → List ProducerField
 fields_seen fs = map field_seen fs

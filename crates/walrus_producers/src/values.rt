@@ -19,12 +19,12 @@ pub(crate) struct NamedValues {
 
 impl Model for NamedValues {
     ghost use Rattle.std.specs.Prelude.{List};
-    ghost use Rattle.walrus_producers.specs.Producers.{ProducerValue};
     ghost use Rattle.walrus_producers.specs.Values.{IsIndex, values_seen};
+    ghost use Rattle.walrus_producers.specs.declared.producers.ProducerValue.{ProducerValue};
 
     ghost Value = { List ProducerValue };
 
-    ghost view = { λ v. values_seen v.values.items };
+    ghost view = { λ v. v.values.items };
 
     ghost invariant = { λ v. IsIndex v.places (values_seen v.values.items) };
 }
@@ -48,7 +48,7 @@ impl NamedValues {
 
     /// These, each a name and a version.
     pub(crate) fn of(alloc: Global, values: &[(&str, &str)]) -> Result<NamedValues, AllocError>
-        ensures { IfOk result (λ held. held ≡ map pair_value values.now) }
+        ensures { IfOk result (λ held. values_seen held ≡ map pair_value values.now) }
     {
         let mut held = NamedValues::new(alloc);
         'values: for (name, version) in values {
@@ -59,14 +59,14 @@ impl NamedValues {
 
     /// In order.
     pub(crate) fn as_slice(&self) -> &[ProducerValue]
-        ensures { values_seen result.now ≡ self.now }
+        ensures { result.now ≡ self.now }
     {
         self.values.as_slice()
     }
 
     // The place of the first value of this name.
     fn place_of(&self, name: &str) -> Option<usize>
-        ensures { result ≡ position (is_named name.now) self.now }
+        ensures { result ≡ position (is_named name.now) (values_seen self.now) }
     {
         self.places.get(name).copied()
     }
@@ -74,7 +74,7 @@ impl NamedValues {
     /// Puts a value behind all. Refused, nothing changes.
     pub(crate) fn push(&mut self, alloc: Global, value: ProducerValue) -> Result<(), AllocError>
         ensures { MatchResult result
-            (λ _. self.new ≡ self.old ++ value_seen value ∷ [])
+            (λ _. self.new ≡ self.old ++ value ∷ [])
             (λ _. self.new ≡ self.old) }
     {
         self.values.reserve(1)?;
@@ -89,7 +89,7 @@ impl NamedValues {
     /// Puts a value in the place of the first one of its name, or behind all where there is none. Refused, nothing changes.
     pub(crate) fn put(&mut self, alloc: Global, value: ProducerValue) -> Result<(), AllocError>
         ensures { MatchResult result
-            (λ _. self.new ≡ with_value (value_seen value) self.old)
+            (λ _. values_seen self.new ≡ with_value (value_seen value) (values_seen self.old))
             (λ _. self.new ≡ self.old) }
     {
         match self.place_of(value.name()) {

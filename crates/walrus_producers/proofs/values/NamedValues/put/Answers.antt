@@ -11,20 +11,19 @@ invariant_of-self c =
     let values = values_seen c.self.inside.values.items in
     let new = value_seen c.args.value in
     let at : position (is_named new.name) values ≡ Some c.in-Some.place =
-    ap (λ n. position (is_named n) values) (sym c.name.ensures) ∙ ap (position (is_named c.name.result.now)) c.self.view_is ∙ sym c.place_of.ensures ∙ c.in-Some.is in
+    ap (λ n. position (is_named n) values) (sym c.name.ensures) ∙ ap (λ l. position (is_named c.name.result.now) (values_seen l)) c.self.view_is ∙ sym c.place_of.ensures ∙ c.in-Some.is in
     subst (IsIndex c.self.inside.places) (sym (map-set value_seen c.self.inside.values.items c.in-Some.place c.args.value))
     (index_put c.self.inside.places values c.self.invariant new c.in-Some.place at)
 
 pub returns-in-Some : goal.returns-in-Some
 returns-in-Some c =
     let new = value_seen c.args.value in
-    let at : position (is_named new.name) c.args.self.now ≡ Some c.in-Some.place =
-    ap (λ n. position (is_named n) c.args.self.now) (sym c.name.ensures) ∙ sym c.place_of.ensures ∙ c.in-Some.is in
-    map-set value_seen c.self.inside.values.items c.in-Some.place c.args.value ∙ ap (λ l. slice_set l c.in-Some.place new) c.self.view_is ∙ value_found new c.args.self.now c.in-Some.place at
+    let at : position (is_named new.name) (values_seen c.args.self.now) ≡ Some c.in-Some.place =
+    ap (λ n. position (is_named n) (values_seen c.args.self.now)) (sym c.name.ensures) ∙ sym c.place_of.ensures ∙ c.in-Some.is in
+    map-set value_seen c.self.inside.values.items c.in-Some.place c.args.value ∙ ap (λ l. slice_set (values_seen l) c.in-Some.place new) c.self.view_is ∙ value_found new (values_seen c.args.self.now) c.in-Some.place at
 
 pub returns-in-None : goal.returns-in-None
 returns-in-None c =
-    let new = value_seen c.args.value in
-    let none : position (is_named new.name) c.args.self.now ≡ None =
-    ap (λ n. position (is_named n) c.args.self.now) (sym c.name.ensures) ∙ sym c.place_of.ensures ∙ c.in-None.is in
-    value_pushed new c.args.self.now c.push.new.self c.push.result none c.push.ensures
+    let none : position (is_named (value_seen c.args.value).name) (values_seen c.args.self.now) ≡ None =
+    ap (λ n. position (is_named n) (values_seen c.args.self.now)) (sym c.name.ensures) ∙ sym c.place_of.ensures ∙ c.in-None.is in
+    value_pushed c.args.value c.args.self.now c.push.new.self c.push.result none c.push.ensures
