@@ -16,7 +16,7 @@ A shape is flagged where one of these doesn't hold:
 
 - The program ends with status 0 and tells nothing; on the two shapes that are no modules with status 1, the line that says so, and nothing written.
   It is given so many seconds by the clock (120), behind which SIGALRM ends it, and so many gigabytes of address space (half of the machine's memory).
-- The larger module takes at most 16 times the processor seconds of the smaller one, or 13 times where that has 3 MB or more and of lists of edits: for
+- The larger module takes at most 16 times the processor seconds of the smaller one, or 13 times where that has 3 MB or more: for
   ten times the bytes, and in proportion where they aren't quite that. Some shapes have a figure of their own. The least seconds of some runs count,
   without those that an empty module takes; of a list those of the call alone. Where the larger one takes less than a tenth of a second that isn't
   judged, nor of shapes that are dear by what they say: 50,000 locals in a few bytes, each of many things for each of many others, or a body that is
