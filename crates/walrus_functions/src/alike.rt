@@ -12,11 +12,11 @@ use walrus_base::{TypeId, ValType};
 
 /// For each type that was met, the first one that is like it on one side: that takes, or gives back, the same.
 ///
-/// The values of a type are walked over when it is met, and not again.
+/// The values of a type are walked over when it's met first, and not again.
 #[derive(Drop)]
 pub(crate) struct Alike {
     first: BTreeMap<TypeId, TypeId>,
-    // The first type with these values. It is compared before it's believed.
+    // A type that was met with these values. It's compared before it's believed.
     by_values: BTreeMap<Vec<ValType>, TypeId>,
 }
 
@@ -31,7 +31,7 @@ impl Alike {
         }
     }
 
-    // The first type that was met and is like this one on a side, or this one.
+    // The first type met that is like this one on a side, or this one. Where no type stands yet, one that is added may be like another.
     pub(crate) fn first_like(
         &mut self,
         alloc: Global,
@@ -42,7 +42,8 @@ impl Alike {
         requires { AreAlike side signatures.now.bound (types_in signatures.now) self.old }
         ensures alike { IfOk result (λ first. values_in side (types_in signatures.now) (place first)
             ≡ values_in side (types_in signatures.now) (place id)) }
-        ensures kept { IfOk result (λ _. AreAlike side signatures.now.bound (types_in signatures.now) self.new) }
+        ensures kept { IfOk result (λ _. AreAlike side signatures.now.bound (types_in signatures.now)
+            self.new) }
     {
         if let Some(first) = self.first.get(&id) {
             return Ok(*first);
@@ -56,7 +57,7 @@ impl Alike {
     }
 }
 
-// The type that was met first with the values of this one, or this one, which is met now.
+// The first type met with the values of this one, or this one, which is noted then.
 fn met(
     alloc: Global,
     by_values: &mut BTreeMap<Vec<ValType>, TypeId>,
@@ -65,7 +66,8 @@ fn met(
     id: TypeId,
 ) -> Result<TypeId, AllocError>
     requires { place id < signatures.now.bound }
-    ensures { IfOk result (λ met. AreLike side signatures.now.bound (types_in signatures.now) (place id) (place met)) }
+    ensures { IfOk result (λ met. AreLike side signatures.now.bound (types_in signatures.now)
+        (place id) (place met)) }
 {
     let values = signatures.values(side, id);
     if let Some(met) = by_values.get(values) {

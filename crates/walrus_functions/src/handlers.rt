@@ -28,8 +28,9 @@ use wasm_opcodes::one_byte::{CATCH, CATCH_ALL};
 
 /// The types of legacy exception handlers that were found: their ids, by the types of their tags and of their tries.
 ///
-/// Where many bodies of a module are read with one of these, the type of each pair is looked up once or twice, whatever their number. What it
-/// knows is so of the types that it was used with, and stays so as types are added behind them.
+/// Of types of tags that take the same, the first one met stands for all, and so does it of types of tries that give back the same. Where many bodies
+/// of a module are read with one of these, the type of each such pair is looked up once or twice, whatever their number. What it knows is so of the
+/// types that it was used with, and stays so as types are added behind them.
 #[derive(Drop)]
 pub struct HandlerTypes {
     known: BTreeMap<TagAndTry, TypeId>,
@@ -49,7 +50,7 @@ impl HandlerTypes {
         }
     }
 
-    // A handler that needs the same type as this one: it names the first types that were met and are like those of this one.
+    // The handler of the first types met that are like those of this one. It needs the same type.
     fn first_like(
         &mut self,
         alloc: Global,
@@ -69,7 +70,7 @@ impl HandlerTypes {
     }
 }
 
-// The first type that takes what the type of a tag takes, if it has one.
+// The first type met that takes what the type of a tag takes, if it has one.
 fn first_tag(
     alloc: Global,
     params: &mut Alike,
@@ -79,7 +80,8 @@ fn first_tag(
     requires { AreAlike Params signatures.now.bound (types_in signatures.now) params.old }
     ensures same { IfOk result (λ first. taken_by (types_in signatures.now) (option_map place first)
         ≡ taken_by (types_in signatures.now) (option_map place tag_type)) }
-    ensures kept { IfOk result (λ _. AreAlike Params signatures.now.bound (types_in signatures.now) params.new) }
+    ensures kept { IfOk result (λ _. AreAlike Params signatures.now.bound (types_in signatures.now)
+        params.new) }
 {
     match tag_type {
         Some(id) => {
@@ -90,7 +92,7 @@ fn first_tag(
     }
 }
 
-// The first type that gives back what that of a try gives back, if it is a function type.
+// The first type met that gives back what the type of a try gives back, if it is a function type.
 fn first_try(
     alloc: Global,
     results: &mut Alike,
@@ -100,7 +102,8 @@ fn first_try(
     requires { AreAlike Results signatures.now.bound (types_in signatures.now) results.old }
     ensures same { IfOk result (λ first. given_by (types_in signatures.now) (try_block first)
         ≡ given_by (types_in signatures.now) (try_block try_type)) }
-    ensures kept { IfOk result (λ _. AreAlike Results signatures.now.bound (types_in signatures.now) results.new) }
+    ensures kept { IfOk result (λ _. AreAlike Results signatures.now.bound (types_in signatures.now)
+        results.new) }
 {
     match try_type {
         TryType::OfType(id) => {
