@@ -84,6 +84,8 @@ def bodies_of(kind, size):
         return [b"\x00\x41\x00\x0E" + unsigned(size) + b"\x00" * (size + 1) + b"\x0B"]
     if kind == "unused":
         return [b"\x01" + unsigned(50_000) + b"\x7F\x0B"] * (size // 16)
+    if kind == "locals":
+        return local_bodies(size)
     if kind == "huge":
         # no declarations, nops, end
         body = b"\x00" + b"\x01" * (size // 4 - 8) + b"\x0B"
@@ -134,6 +136,21 @@ def mixed_bodies(size, first=0):
         total += len(body) + 3
         index += 1
     bodies[-1] = b"\x00\x0B"
+    return bodies
+
+
+def local_bodies(size):
+    # 75 locals of each type; each is read and dropped, one of each type in turn
+    declarations = b"\x04" + b"".join(b"\x4B" + value for value in (b"\x7F", b"\x7E", b"\x7D", b"\x7C"))
+    uses = b"".join(b"\x20" + unsigned(75 * of_type + i) + b"\x1A" for i in range(75) for of_type in range(4))
+    bodies, total, index = [], 0, 0
+    while total < size:
+        # each calls the next one
+        body = declarations + uses + b"\x10" + unsigned(index + 1) + b"\x0B"
+        bodies.append(body)
+        total += len(body) + 3
+        index += 1
+    bodies[-1] = declarations + uses + b"\x0B"
     return bodies
 
 

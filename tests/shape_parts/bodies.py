@@ -1,8 +1,8 @@
 """Shapes of bodies, of what is dear by what it says, of handlers, and of what is refused late."""
 from .spelling import (
-    all_exported, BLOCK, body, BR_TABLE, calls, CATCH, CATCH_ALL, CATCH_ALL_TO_0, declared, DROP, ELSE, EMPTY_BODY, END, export, FIRST, FUNCTION,
-    function_type, I32, I32_CONST, I64, IF, last_digits, last_exported, listed, module, MOST_LOCALS, NO_TYPE, NOP, one_function, ONE_TYPE, PLAIN_TYPE,
-    REF_FUNC, repeated, SHUFFLE, signed, TRY, TRY_TABLE, TYPED_SELECT, UNREACHABLE, unsigned, uses, V128_CONST,
+    all_exported, BLOCK, body, BR_TABLE, calls, CATCH, CATCH_ALL, CATCH_ALL_TO_0, declared, DROP, ELSE, EMPTY_BODY, END, export, F32, F64, FIRST,
+    FUNCTION, function_type, I32, I32_CONST, I64, IF, last_digits, last_exported, listed, module, MOST_LOCALS, NO_TYPE, NOP, one_function,
+    ONE_TYPE, PLAIN_TYPE, REF_FUNC, repeated, SHUFFLE, signed, TRY, TRY_TABLE, TYPED_SELECT, UNREACHABLE, unsigned, uses, V128_CONST,
 )
 from .shape import alike, for_a_byte, gigabytes, KB, operators, REFUSED, shape
 
@@ -62,6 +62,14 @@ def declarations_none(size):
 def declarations_mixed(size):
     count = 5_000
     each = body(uses(range(count)), unsigned(count) + (b"\1" + I32 + b"\1" + I64) * (count // 2))
+    return all_exported([each] * max(1, size // len(each)))
+
+
+@shape("functions of 300 declared locals of four types, 75 of each, all used, one of each type in turn")
+def declarations_four(size):
+    of_each = 75
+    declarations = listed(unsigned(of_each) + value for value in (I32, I64, F32, F64))
+    each = body(uses(of_type * of_each + index for index in range(of_each) for of_type in range(4)), declarations)
     return all_exported([each] * max(1, size // len(each)))
 
 
@@ -136,6 +144,15 @@ def handlers_cross(size):
     catches = b"".join(CATCH + unsigned(index) for index in range(count))
     tries = b"".join(TRY + signed(1 + count + index) + catches + END for index in range(count))
     return one_function(tries, types=types, tags=listed(b"\0" + unsigned(1 + index) for index in range(count)))
+
+
+@shape("equal function types, each that of a try that catches one tag of as many parameters: their handlers need one type")
+def handlers_equal(size):
+    """The types of tag and try are met with other ids each time. The values of each are compared once, so that all handlers are one pair."""
+    count = size // 10
+    types = listed([function_type(I32 * count), *[PLAIN_TYPE] * count])
+    tries = b"".join(TRY + signed(1 + index) + CATCH + FIRST + END for index in range(count))
+    return one_function(tries, types=types, tags=listed([b"\0" + FIRST]))
 
 
 # What is refused late.

@@ -116,7 +116,8 @@ again("brought_again", "one function that comes to be imported, and the module's
 # What stands in front.
 
 of_each("fronts", "functions, each with an operator in front", functions, lambda id_: record(FRONT, id_ + NOP))
-again("front_again", "one function, with an operator in front again and again", record(FRONT, FIRST + NOP))
+# Each time the whole body is made anew (docs/PROMISES.md, "Neither").
+again("front_again", "one function, with an operator in front again and again", record(FRONT, FIRST + NOP), is_timed=False)
 edits("front_long", "one function of many operators, with as many in front", lambda count: (given(functions=ONE_FUNCTION, code=listed([body(NOP * count)])), record(FRONT, FIRST + NOP * count)))
 
 # Names and producers.

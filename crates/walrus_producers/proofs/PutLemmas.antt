@@ -5,7 +5,8 @@ use Rattle.std.specs.List.{position_from}
 use Rattle.std.proofs.lemmas.List.{map-set, set-get_or, map-append}
 use Rattle.std.proofs.lemmas.Iterator.Adapters.{position_from-zero}
 use Rattle.walrus_producers.specs.Producers.{ProducerValue, ProducerField, with_value, with_field}
-use Rattle.walrus_producers.specs.Seen.{value_seen, values_seen, field_seen, fields_seen, producers, is_value_of, is_field_of, Adds}
+use Rattle.walrus_producers.specs.Seen.{value_seen, values_seen, field_seen, fields_seen, producers, is_field_of, Adds}
+use Rattle.walrus_producers.specs.Values.{is_named}
 use Rattle.walrus_producers.specs.declared.producers.ProducerValue.{ProducerValue as HeldValue}
 use Rattle.walrus_producers.specs.declared.producers.ProducerField.{ProducerField as HeldField}
 use Rattle.walrus_producers.specs.declared.producers.ModuleProducers.{ModuleProducers}
@@ -69,15 +70,30 @@ value_first : (new : ProducerValue) (vs : List ProducerValue) → with_first (λ
 value_first new [] = refl
 value_first new (v ∷ vs) = ap (λ rest. if bytes_eq v.name new.name then new ∷ vs else v ∷ rest) (value_first new vs)
 
-module _ (new : HeldValue) (vs : List HeldValue) where
-  abbrev the_test : HeldValue → Bool
-  the_test = is_value_of (string_bytes new.name)
+same_values : (vs : List ProducerValue) → map (λ v. v) vs ≡ vs
+same_values [] = refl
+same_values (v ∷ vs) = ap (λ rest. v ∷ rest) (same_values vs)
 
-  pub value_found : (i : ℕ) → position the_test vs ≡ Some i → values_seen (set vs i new) ≡ with_value (value_seen new) (values_seen vs)
-  value_found i h = found_first value_seen (λ v. bytes_eq v.name (string_bytes new.name)) (λ v. value_seen new) (value_seen new) i vs new new h refl ∙ value_first (value_seen new) (values_seen vs)
+module _ (new : ProducerValue) (vs : List ProducerValue) where
+  abbrev the_test : ProducerValue → Bool
+  the_test = is_named new.name
 
-  pub value_none : position the_test vs ≡ None → values_seen (vs ++ new ∷ []) ≡ with_value (value_seen new) (values_seen vs)
-  value_none h = map-append value_seen vs (new ∷ []) ∙ none_first value_seen (λ v. bytes_eq v.name (string_bytes new.name)) (λ v. value_seen new) (value_seen new) vs h ∙ value_first (value_seen new) (values_seen vs)
+  firsts : with_first the_test (λ v. new) new (map (λ v. v) vs) ≡ with_value new vs
+  firsts = ap (with_first the_test (λ v. new) new) (same_values vs) ∙ value_first new vs
+
+  -- the first value of this name gives its place to the new one
+  pub value_found : (i : ℕ) → position the_test vs ≡ Some i → set vs i new ≡ with_value new vs
+  value_found i h = sym (same_values (set vs i new)) ∙ found_first (λ v. v) the_test (λ v. new) new i vs new new h refl ∙ firsts
+
+  -- the new one goes last
+  pub value_none : position the_test vs ≡ None → vs ++ new ∷ [] ≡ with_value new vs
+  value_none h = ap (λ l. l ++ new ∷ []) (sym (same_values vs)) ∙ none_first (λ v. v) the_test (λ v. new) new vs h ∙ firsts
+
+-- what pushing it answered
+pub value_pushed : {E : Type 0} (new : HeldValue) (old after : List HeldValue) (r : Result Unit E) → position (is_named (string_bytes new.name)) (values_seen old) ≡ None
+    → MatchResult r (λ x. after ≡ old ++ new ∷ []) (λ e. after ≡ old) → MatchResult r (λ x. values_seen after ≡ with_value (value_seen new) (values_seen old)) (λ e. after ≡ old)
+value_pushed new old after (Ok u) none h = ap values_seen h ∙ map-append value_seen old (new ∷ []) ∙ value_none (value_seen new) (values_seen old) none
+value_pushed new old after (Err e) none h = h
 
 -- ---- fields
 

@@ -1,2 +1,3 @@
 pub mod Producers
 pub mod Seen
+pub mod Values

@@ -3,6 +3,7 @@ ghost use Rattle.std.specs.Prelude.{◌≡◌, [], ◌++◌, ◌∷◌, codes, I
 ghost use Rattle.walrus_producers.specs.Producers.{with_value};
 ghost use Rattle.walrus_producers.specs.Seen.{pair_value, values_seen};
 
+use crate::values::NamedValues;
 use std::alloc::{AllocError, Global};
 
 /// A value of a field: the name and the version of what had a part in making the module.
@@ -15,8 +16,8 @@ pub struct ProducerValue {
 impl ProducerValue {
     ghost use Rattle.walrus_producers.specs.Seen.{value_seen};
 
-    // A value of these texts.
-    fn new(alloc: Global, name: &str, version: &str) -> Result<ProducerValue, AllocError>
+    /// A value of these texts.
+    pub(crate) fn new(alloc: Global, name: &str, version: &str) -> Result<ProducerValue, AllocError>
         ensures { IfOk result (λ v. value_seen v ≡ record { name = name.now; version = version.now }) }
     {
         let name = String::from_str(alloc, name)?;
@@ -43,11 +44,11 @@ impl ProducerValue {
 #[derive(Debug, Drop)]
 pub struct ProducerField {
     name: String,
-    values: Vec<ProducerValue>,
+    values: NamedValues,
 }
 
 impl ProducerField {
-    ghost use Rattle.walrus_producers.specs.Seen.{field_seen, is_value_of, value_seen};
+    ghost use Rattle.walrus_producers.specs.Seen.{field_seen, value_seen};
 
     // A field of this one value.
     fn new(alloc: Global, name: &str, value: ProducerValue) -> Result<ProducerField, AllocError>
@@ -55,8 +56,8 @@ impl ProducerField {
             (λ f. field_seen f ≡ record { name = name.now; values = value_seen value ∷ [] }) }
     {
         let name = String::from_str(alloc, name)?;
-        let mut values = Vec::new(alloc);
-        values.push(value)?;
+        let mut values = NamedValues::new(alloc);
+        values.push(alloc, value)?;
         Ok(ProducerField { name, values })
     }
 
@@ -74,17 +75,8 @@ impl ProducerField {
         self.values.as_slice()
     }
 
-    // The place of the first value of this name.
-    fn place_of(&self, name: &str) -> Option<usize>
-        ensures { result ≡ position (is_value_of name.now) self.now.values.items }
-    {
-        self.values
-            .iter()
-            .position(|value| value.name.as_str() == name)
-    }
-
     // Puts a value in the place of the first one of its name, or behind all where there is none. Refused, nothing changes.
-    fn put(&mut self, value: ProducerValue) -> Result<(), AllocError>
+    fn put(&mut self, alloc: Global, value: ProducerValue) -> Result<(), AllocError>
         ensures { MatchResult result
             (λ _. field_seen self.new ≡ record {
               name = (field_seen self.old).name;
@@ -93,13 +85,7 @@ impl ProducerField {
             })
             (λ _. field_seen self.new ≡ field_seen self.old) }
     {
-        match self.place_of(value.name.as_str()) {
-            Some(place) => {
-                self.values[place] = value;
-                Ok(())
-            }
-            None => Ok(self.values.push(value)?),
-        }
+        self.values.put(alloc, value)
     }
 }
 
@@ -162,7 +148,7 @@ impl ModuleProducers {
     {
         let field = ProducerField {
             name: String::from_str(self.alloc, name)?,
-            values: held_values(self.alloc, values)?,
+            values: NamedValues::of(self.alloc, values)?,
         };
         self.fields.push(field)?;
         Ok(())
@@ -190,7 +176,7 @@ impl ModuleProducers {
     {
         let value = ProducerValue::new(self.alloc, name, version)?;
         match self.place_of(field) {
-            Some(place) => self.fields[place].put(value),
+            Some(place) => self.fields[place].put(self.alloc, value),
             None => self.push_new(field, value),
         }
     }
@@ -206,15 +192,4 @@ impl ModuleProducers {
         self.fields.push(field)?;
         Ok(())
     }
-}
-
-// These values, each a name and a version.
-fn held_values(alloc: Global, values: &[(&str, &str)]) -> Result<Vec<ProducerValue>, AllocError>
-    ensures { IfOk result (λ held. values_seen held.items ≡ map pair_value values.now) }
-{
-    let mut held = Vec::new(alloc);
-    'values: for (name, version) in values {
-        held.push(ProducerValue::new(alloc, name, version)?)?;
-    }
-    Ok(held)
 }

@@ -109,7 +109,7 @@ values_text (v ∷ vs) = ((IsUtf8-string_bytes v.name, IsUtf8-string_bytes v.ver
 
 fields_text : (fields : List HeldField) → AllByRecursion FieldIsText (fields_seen fields)
 fields_text [] = tt
-fields_text (f ∷ fs) = ((IsUtf8-string_bytes f.name, All-from_recursion ValueIsText (values_seen f.values.items) (values_text f.values.items)), fields_text fs)
+fields_text (f ∷ fs) = ((IsUtf8-string_bytes f.name, All-from_recursion ValueIsText (values_seen f.values) (values_text f.values)), fields_text fs)
 
 pub chosen_text : (chosen : Bool) (fields : List HeldField) → All FieldIsText (if_written chosen (fields_seen fields))
 chosen_text true fields = All-from_recursion FieldIsText (fields_seen fields) (fields_text fields)

@@ -17,7 +17,7 @@ use std::{error, fmt};
 pub enum Error {
     /// The input is no module that keeps the rules of the format; this is wrong with it, as
     /// [`diagnose`](crate::diagnose) tells it. [`strip`](crate::strip) and
-    /// [`sections`](crate::sections) look at its framing alone. Where there is no memory to find that out, the error
+    /// [`sections`](crate::sections()) look at its framing alone. Where there is no memory to find that out, the error
     /// is [`Error::NoMemory`], and where a place in it passes 32 bits [`Error::TooLarge`].
     Invalid(Fault),
     /// What is to be written, or told, has a count, a size or a place past 32 bits.
