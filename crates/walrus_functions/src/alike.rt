@@ -31,7 +31,8 @@ impl Alike {
         }
     }
 
-    // The first type met that is like this one on a side, or this one. Where no type stands yet, one that is added may be like another.
+    // The first type met that is like this one on a side, or this one. One that doesn't stand below the bound isn't noted: it may come yet, and be
+    // like another.
     pub(crate) fn first_like(
         &mut self,
         alloc: Global,

@@ -1,5 +1,5 @@
 //! The function types of legacy exception handlers (Instructions > Control Instructions of the legacy exception handling proposal).
-ghost use Rattle.std.specs.Prelude.{◌≡◌, ◌<◌, ◌∷◌, [], List, Option, true, IfOk, OnOk, length, map, option_and_then, option_map, option_to_list};
+ghost use Rattle.std.specs.Prelude.{◌≡◌, ◌<◌, ◌∷◌, [], List, Option, true, IfOk, OnOk, length, map, option_and_then, option_map};
 ghost use Rattle.std.specs.List.{list_any};
 ghost use Rattle.walrus_base.specs.Arena.{item_at};
 ghost use Rattle.walrus_base.specs.Id.{place};
@@ -7,7 +7,6 @@ ghost use Rattle.walrus_base.specs.Alone.{StandsFirst};
 ghost use Rattle.walrus_base.specs.Composite.{function_type};
 ghost use Rattle.walrus_base.specs.ModuleTypes.{type_slots};
 ghost use Rattle.walrus_base.specs.TypeDef.{TypeDef};
-ghost use Rattle.walrus_base.specs.Value.{val_type};
 ghost use Rattle.walrus_code.specs.Code.{arg_of, block_of, op_of, ops_of};
 ghost use Rattle.walrus_functions.specs.Alike.{AreAlike};
 ghost use Rattle.walrus_functions.specs.Handlers.{begins_handler, handlers_of};
