@@ -146,12 +146,9 @@ def handlers_cross(size):
     return one_function(tries, types=types, tags=listed(b"\0" + unsigned(1 + index) for index in range(count)))
 
 
-@shape(
-    "equal function types, each that of a try that catches one tag of as many parameters: for each try a type is looked for", size=5 * KB,
-    is_timed=False)
+@shape("equal function types, each that of a try that catches one tag of as many parameters: their handlers need one type")
 def handlers_equal(size):
-    """All handlers need one type. It is kept in mind by the ids of the types of tag and try, and the latter differ: so it is found anew for each
-    try, by all its parameters, and the time grows as the square of the size."""
+    """The types of tag and try are met with other ids each time. The values of each are compared once, so that all handlers are one pair."""
     count = size // 10
     types = listed([function_type(I32 * count), *[PLAIN_TYPE] * count])
     tries = b"".join(TRY + signed(1 + index) + CATCH + FIRST + END for index in range(count))

@@ -213,7 +213,3 @@ known_later old new known stays are = λ handler id at.
     let more : length old ≤ length new = omega (arith, count) in
     let same : pair_type (item_at new) (pair_of handler) ≡ pair_type (item_at old) (pair_of handler) = ap (λ (slots : List (Option TypeDef)). pair_type (item_at slots) (pair_of handler)) under ∙ type_later old stays.0 (pair_of handler) one.0 in
     (below_later (length old) (length new) (pair_of handler) more one.0, (one.1.0, (same ∙ one.1.1.0, one.1.1.1)))
-
--- two ways to say what types indices name
-pub bound_known : (bound other : ℕ) (types under : ℕ → Option TypeDef) (slots : List (Option TypeDef)) (known : Known) → bound ≡ other → types ≡ under → AreKnown other under slots known → AreKnown bound types slots known
-bound_known bound other types under slots known is same are = subst (λ (b : ℕ). AreKnown b types slots known) (sym is) (subst (λ (ts : ℕ → Option TypeDef). AreKnown other ts slots known) (sym same) are)

@@ -1,3 +1,4 @@
+pub mod AlikeLemmas
 mod AmongLemmas
 mod GivenLemmas
 pub mod HandlerLemmas

@@ -9,9 +9,11 @@ use Rattle.walrus_base.specs.Alone.{StandsFirst}
 use Rattle.walrus_base.specs.Composite.{FunctionType}
 use Rattle.walrus_base.specs.Operators.{BlockType, NoResult, OneResult, OfType}
 use Rattle.walrus_base.specs.TypeDef.{TypeDef}
+use Rattle.walrus_functions.specs.Alike.{AreAlike}
 use Rattle.walrus_functions.specs.ReadFunction.{Slots, AddsTypes}
 use Rattle.walrus_functions.specs.Signatures.{pair_of, pair_type}
 use Rattle.walrus_functions.specs.declared.handlers.HandlerTypes.{HandlerTypes}
+use Rattle.walrus_functions.specs.declared.signatures.Side.TheVariants.{Params, Results}
 use Rattle.walrus_functions.specs.declared.tag_and_try.TagAndTry.{TagAndTry}
 use Rattle.walrus_functions.specs.contracts.tag_and_try.TagAndTryOrd.TheImpl as order
 
@@ -49,9 +51,15 @@ IsKnown bound types slots pair p = (are_below bound pair ≡ true) × IsFirst ty
 abbrev pub AreKnown : ℕ → (types : ℕ → Option TypeDef) (slots : List (Option TypeDef)) → Known → Type 0
 AreKnown bound types slots known = (handler : TagAndTry) (id : Id TypeKey) → id_at known handler ≡ Some id → IsKnown bound types slots (pair_of handler) (place id)
 
--- what is known is so of these types
+-- all that is held of types is so
+pub record AreOf (bound : ℕ) (types : ℕ → Option TypeDef) (slots : List (Option TypeDef)) (handlers : HandlerTypes) : Type 0 where
+  pub known : AreKnown bound types slots handlers.known
+  pub params : AreAlike Params bound types handlers.params
+  pub results : AreAlike Results bound types handlers.results
+
+-- what is held of types is so of these
 unfoldable pub IsOfTypes : List (Option TypeDef) → HandlerTypes → Type 0
-IsOfTypes slots handlers = AreKnown (length slots) (item_at slots) slots handlers.known
+IsOfTypes slots handlers = AreOf (length slots) (item_at slots) slots handlers
 
 -- an id was found for a handler, of which this is told, and is known of one of the same tag and try
 pub record IsNoted (Tells : ℕ → Type 0) (handler other : TagAndTry) (known : Option (Id TypeKey)) : Type 0 where

@@ -1,3 +1,4 @@
+pub mod Alike
 pub mod Code
 pub mod DeclaredLocals
 pub mod Declaring

@@ -20,7 +20,7 @@ use Rattle.walrus_functions.specs.ReadFunction.{Slots}
 use Rattle.walrus_functions.specs.declared.blocks.Opened.{Opened}
 use Rattle.walrus_functions.specs.declared.blocks.Opened.TheVariants as declared
 use Rattle.walrus_functions.specs.declared.blocks.OpenBlocks.{OpenBlocks}
-use Rattle.walrus_functions.specs.declared.handlers.Signatures.{Signatures}
+use Rattle.walrus_functions.specs.declared.signatures.Signatures.{Signatures}
 use Rattle.walrus_functions.specs.declared.tag_and_try.TagAndTry.{TagAndTry}
 use Rattle.walrus_functions.specs.declared.tag_and_try.TryType.{TryType}
 use Rattle.walrus_functions.specs.declared.tag_and_try.TryType.TheVariants as declared_try

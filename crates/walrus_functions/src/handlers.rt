@@ -1,5 +1,5 @@
 //! The function types of legacy exception handlers (Instructions > Control Instructions of the legacy exception handling proposal).
-ghost use Rattle.std.specs.Prelude.{◌≡◌, ◌<◌, ◌∷◌, [], List, Option, true, IfOk, OnOk, length, map, option_and_then, option_map, option_to_list};
+ghost use Rattle.std.specs.Prelude.{◌≡◌, ◌<◌, ◌∷◌, [], List, Option, true, IfOk, OnOk, length, map, option_and_then, option_map};
 ghost use Rattle.std.specs.List.{list_any};
 ghost use Rattle.walrus_base.specs.Arena.{item_at};
 ghost use Rattle.walrus_base.specs.Id.{place};
@@ -7,29 +7,34 @@ ghost use Rattle.walrus_base.specs.Alone.{StandsFirst};
 ghost use Rattle.walrus_base.specs.Composite.{function_type};
 ghost use Rattle.walrus_base.specs.ModuleTypes.{type_slots};
 ghost use Rattle.walrus_base.specs.TypeDef.{TypeDef};
-ghost use Rattle.walrus_base.specs.Value.{val_type};
 ghost use Rattle.walrus_code.specs.Code.{arg_of, block_of, op_of, ops_of};
-ghost use Rattle.walrus_functions.specs.Handlers.{begins_handler, params_of, results_of, catch_type, handlers_of};
-ghost use Rattle.walrus_functions.specs.Known.{AddsIds, AreKnown, IsOfTypes, NotesOnly, are_below};
+ghost use Rattle.walrus_functions.specs.Alike.{AreAlike};
+ghost use Rattle.walrus_functions.specs.Handlers.{begins_handler, handlers_of};
+ghost use Rattle.walrus_functions.specs.Known.{AddsIds, AreKnown, AreOf, IsOfTypes, NotesOnly, are_below};
 ghost use Rattle.walrus_functions.specs.ReadFunction.{AddsTypes, StaysInFront};
-ghost use Rattle.walrus_functions.specs.Signatures.{IsFunctionOf, arg_place, first_place, given_by, needed_by, pair_in, pair_of, pair_type, slots_of, tag_places, taken_by, try_block, types_in, types_below};
+ghost use Rattle.walrus_functions.specs.declared.signatures.Side.TheVariants.{Params, Results};
+ghost use Rattle.walrus_functions.specs.Signatures.{arg_place, first_place, given_by, needed_by, pair_in, pair_of, pair_type, slots_of, tag_places, taken_by, try_block, types_in, types_below};
 
+use crate::alike::Alike;
 use crate::blocks::OpenBlocks;
+use crate::signatures::{Side, Signatures};
 use crate::tag_and_try::{TagAndTry, TryType};
 use std::alloc::{AllocError, Global};
 use std::collections::BTreeMap;
-use std::slice;
-use walrus_base::{FunctionType, ModuleTypes, TypeId, ValType};
+use walrus_base::{FunctionType, ModuleTypes, TypeId};
 use walrus_code::{Arg, BlockType, Operator};
 use wasm_opcodes::one_byte::{CATCH, CATCH_ALL};
 
 /// The types of legacy exception handlers that were found: their ids, by the types of their tags and of their tries.
 ///
-/// Where many bodies of a module are read with one of these, the type of each pair is looked up once or twice, whatever their number. What it
-/// knows is so of the types that it was used with, and stays so as types are added behind them.
+/// Of types of tags that take the same, the first one met stands for all, and so does it of types of tries that give back the same. Where many bodies
+/// of a module are read with one of these, the type of each such pair is looked up once or twice, whatever their number. What it knows is so of the
+/// types that it was used with, and stays so as types are added behind them.
 #[derive(Drop)]
 pub struct HandlerTypes {
     known: BTreeMap<TagAndTry, TypeId>,
+    params: Alike,
+    results: Alike,
 }
 
 impl HandlerTypes {
@@ -39,78 +44,72 @@ impl HandlerTypes {
     {
         HandlerTypes {
             known: BTreeMap::new(alloc),
+            params: Alike::new(alloc),
+            results: Alike::new(alloc),
         }
+    }
+
+    // The handler of the first types met that are like those of this one. It needs the same type.
+    fn first_like(
+        &mut self,
+        alloc: Global,
+        signatures: &Signatures,
+        handler: TagAndTry,
+    ) -> Result<TagAndTry, AllocError>
+        requires { AreOf signatures.now.bound (types_in signatures.now) (type_slots signatures.now.types.now)
+            self.old }
+        ensures kept { IfOk result (λ _. AreOf signatures.now.bound (types_in signatures.now)
+            (type_slots signatures.now.types.now) self.new) }
+        ensures same { IfOk result (λ first. pair_type (types_in signatures.now) (pair_of first)
+            ≡ pair_type (types_in signatures.now) (pair_of handler)) }
+    {
+        let tag_type = first_tag(alloc, &mut self.params, signatures, handler.tag_type)?;
+        let try_type = first_try(alloc, &mut self.results, signatures, handler.try_type)?;
+        Ok(TagAndTry { tag_type, try_type })
     }
 }
 
-/// The types of functions at the places below a bound.
-#[derive(Clone, Copy)]
-pub(crate) struct Signatures<'a> {
-    types: &'a ModuleTypes,
-    bound: usize,
+// The first type met that takes what the type of a tag takes, if it has one.
+fn first_tag(
+    alloc: Global,
+    params: &mut Alike,
+    signatures: &Signatures,
+    tag_type: Option<TypeId>,
+) -> Result<Option<TypeId>, AllocError>
+    requires { AreAlike Params signatures.now.bound (types_in signatures.now) params.old }
+    ensures same { IfOk result (λ first. taken_by (types_in signatures.now) (option_map place first)
+        ≡ taken_by (types_in signatures.now) (option_map place tag_type)) }
+    ensures kept { IfOk result (λ _. AreAlike Params signatures.now.bound (types_in signatures.now)
+        params.new) }
+{
+    match tag_type {
+        Some(id) => {
+            let first = params.first_like(alloc, signatures, Side::Params, id)?;
+            Ok(Some(first))
+        }
+        None => Ok(None),
+    }
 }
 
-impl<'a> Signatures<'a> {
-    // The function type of the id, if it is one.
-    fn function(&self, id: TypeId) -> Option<&FunctionType>
-        ensures { IsFunctionOf (types_in self.now (place id)) result }
-    {
-        if id.index() < self.bound && self.types.contains(id) {
-            self.types.get(id).as_function()
-        } else {
-            None
+// The first type met that gives back what the type of a try gives back, if it is a function type.
+fn first_try(
+    alloc: Global,
+    results: &mut Alike,
+    signatures: &Signatures,
+    try_type: TryType,
+) -> Result<TryType, AllocError>
+    requires { AreAlike Results signatures.now.bound (types_in signatures.now) results.old }
+    ensures same { IfOk result (λ first. given_by (types_in signatures.now) (try_block first)
+        ≡ given_by (types_in signatures.now) (try_block try_type)) }
+    ensures kept { IfOk result (λ _. AreAlike Results signatures.now.bound (types_in signatures.now)
+        results.new) }
+{
+    match try_type {
+        TryType::OfType(id) => {
+            let first = results.first_like(alloc, signatures, Side::Results, id)?;
+            Ok(TryType::OfType(first))
         }
-    }
-
-    // What a function of the type takes.
-    fn params(&self, id: TypeId) -> &[ValType]
-        ensures { map val_type result.now ≡ params_of (types_in self.now (place id)) }
-    {
-        match self.function(id) {
-            Some(function) => function.params(),
-            None => &[],
-        }
-    }
-
-    // What a function of the type gives back.
-    fn results(&self, id: TypeId) -> &[ValType]
-        ensures { map val_type result.now ≡ results_of (types_in self.now (place id)) }
-    {
-        match self.function(id) {
-            Some(function) => function.results(),
-            None => &[],
-        }
-    }
-
-    // What a handler takes whose tag has the type, if it has one.
-    fn taken_by(&self, tag_type: Option<TypeId>) -> &[ValType]
-        ensures { map val_type result.now ≡ taken_by (types_in self.now) (option_map place tag_type) }
-    {
-        match tag_type {
-            Some(id) => self.params(id),
-            None => &[],
-        }
-    }
-
-    // What a try of the type gives back.
-    fn given_by<'b>(&'b self, try_type: &'b TryType) -> &'b [ValType]
-        ensures { map val_type result.now ≡ given_by (types_in self.now) (try_block try_type.now) }
-    {
-        match try_type {
-            TryType::NoResult => &[],
-            TryType::OneResult(value) => slice::from_ref(value),
-            TryType::OfType(id) => self.results(*id),
-        }
-    }
-
-    // The type that a handler needs, if it needs one.
-    fn needed(&self, alloc: Global, handler: &TagAndTry) -> Result<Option<FunctionType>, AllocError>
-        ensures { IfOk result (λ needed. map function_type (option_to_list needed)
-            ≡ pair_type (types_in self.now) (pair_of handler.now)) }
-    {
-        let params = self.taken_by(handler.tag_type);
-        let results = self.given_by(&handler.try_type);
-        handler_type(alloc, params, results)
+        other => Ok(other),
     }
 }
 
@@ -167,23 +166,6 @@ fn handler_begun(
         CATCH_ALL => Some(TagAndTry::new(None, block)),
         _ => None,
     }
-}
-
-// The type of a handler that takes these parameters in a try with these results, unless it takes nothing and the try has at most one.
-fn handler_type(
-    alloc: Global,
-    params: &[ValType],
-    results: &[ValType],
-) -> Result<Option<FunctionType>, AllocError>
-    ensures { IfOk result (λ needed. map function_type (option_to_list needed)
-        ≡ catch_type (map val_type params.now) (map val_type results.now)) }
-{
-    if params.is_empty() && results.len() <= 1 {
-        return Ok(None);
-    }
-    let params = params.to_vec(alloc)?;
-    let results = results.to_vec(alloc)?;
-    Ok(Some(FunctionType::new(params, results)))
 }
 
 // How many places of types there are.
@@ -279,26 +261,22 @@ fn add_unknown(
     }
 }
 
-// Puts the id of the type of a handler behind the others, if an operator begins one and it needs a type: the id that is known, or that of a type
-// that is found or added.
-fn add_needed(
+// Puts the id of the type of a handler behind the others, if it needs one: the id that is known, or that of a type that is found or added.
+fn add_handler(
     alloc: Global,
     types: &mut ModuleTypes,
     bound: usize,
-    begun: Option<TagAndTry>,
+    handler: TagAndTry,
     known: &mut BTreeMap<TagAndTry, TypeId>,
     ids: &mut Vec<TypeId>,
 ) -> Result<(), AllocError>
     requires { AreKnown bound (types_below bound (type_slots types.old)) (type_slots types.old) known.old }
-    ensures added { IfOk result (λ _. AddsIds (needed_by (types_below bound (type_slots types.old))
-        (option_map pair_of begun)) (slots_of types.old) (slots_of types.new) ids.old.items ids.new.items) }
+    ensures added { IfOk result (λ _. AddsIds (pair_type (types_below bound (type_slots types.old))
+        (pair_of handler)) (slots_of types.old) (slots_of types.new) ids.old.items ids.new.items) }
     ensures kept { IfOk result (λ _. AreKnown bound (types_below bound (type_slots types.old))
         (type_slots types.new) known.new) }
     ensures stays { StaysInFront (type_slots types.old) (type_slots types.new) }
 {
-    let Some(handler) = begun else {
-        return Ok(());
-    };
     match known.get(&handler) {
         Some(id) => {
             ids.push(*id)?;
@@ -306,6 +284,31 @@ fn add_needed(
         }
         None => add_unknown(alloc, types, bound, handler, known, ids),
     }
+}
+
+// The same for the handler that an operator begins, if it begins one.
+fn add_needed(
+    alloc: Global,
+    types: &mut ModuleTypes,
+    bound: usize,
+    begun: Option<TagAndTry>,
+    handlers: &mut HandlerTypes,
+    ids: &mut Vec<TypeId>,
+) -> Result<(), AllocError>
+    requires { AreOf bound (types_below bound (type_slots types.old)) (type_slots types.old) handlers.old }
+    ensures added { IfOk result (λ _. AddsIds (needed_by (types_below bound (type_slots types.old))
+        (option_map pair_of begun)) (slots_of types.old) (slots_of types.new) ids.old.items ids.new.items) }
+    ensures kept { IfOk result (λ _. AreOf bound (types_below bound (type_slots types.old))
+        (type_slots types.new) handlers.new) }
+    ensures stays { StaysInFront (type_slots types.old) (type_slots types.new) }
+{
+    let Some(handler) = begun else {
+        return Ok(());
+    };
+    let signatures = Signatures { types, bound };
+    let first = handlers.first_like(alloc, &signatures, handler)?;
+    add_handler(alloc, types, bound, first, &mut handlers.known, ids)?;
+    Ok(())
 }
 
 // Whether one of the operators begins a handler.
@@ -339,7 +342,7 @@ pub(crate) fn add_handler_types(
     for operator in operators {
         let block = blocks.innermost_try();
         let handler = handler_begun(tag_types, block, operator);
-        add_needed(alloc, types, bound, handler, &mut handlers.known, &mut ids)?;
+        add_needed(alloc, types, bound, handler, handlers, &mut ids)?;
         blocks.step(operator)?;
     }
     Ok(ids)

@@ -6,6 +6,7 @@
 //! Its parameters and declared locals are added to the module's. It answers `Malformed` only where the bytes are no body.
 #![tactic(auto)]
 
+mod alike;
 mod append;
 mod blocks;
 mod code;
@@ -19,6 +20,7 @@ mod lowest;
 mod marks;
 mod plain;
 mod read;
+mod signatures;
 mod tag_and_try;
 mod taken;
 

@@ -12,7 +12,8 @@ use Rattle.walrus_functions.specs.Known.{IsOfTypes}
 use Rattle.walrus_functions.specs.ReadFunction.{AddsTypes}
 use Rattle.walrus_functions.specs.Signatures.{first_opened, handler_in, needed_by, opened, pair_of, slots_of, tag_places, types_below}
 use Rattle.walrus_functions.proofs.HandlerLemmas.{SoFar, next_op, none_needed, so_far_all, so_far_none, so_far_more, stays_same, stays_trans, types_are}
-use Rattle.walrus_functions.proofs.KnownLemmas.{bound_known, handler_is, known_later}
+use Rattle.walrus_functions.proofs.AlikeLemmas.{bound_held, held_later}
+use Rattle.walrus_functions.proofs.KnownLemmas.{handler_is}
 use Rattle.walrus_functions.proofs.handlers.add_handler_types.Goals as goal
 
 pub loop-operator-init : goal.loop-operator-init
@@ -39,7 +40,7 @@ add_needed-requires c =
     let old = type_slots c.args.types.now in
     let now = type_slots c.loop-operator.types in
     let under = types_are c.in_ok-bound.bound old now c.in_ok-bound.ensures c.loop-operator.invariant.0.stays in
-    bound_known c.in_ok-bound.bound (length old) (types_below c.in_ok-bound.bound now) (item_at old) now c.loop-operator.handlers.known c.in_ok-bound.ensures under c.loop-operator.invariant.1
+    bound_held c.in_ok-bound.bound (length old) (types_below c.in_ok-bound.bound now) (item_at old) now c.loop-operator.handlers c.in_ok-bound.ensures under c.loop-operator.invariant.1
 
 pub loop-operator-preserved : goal.loop-operator-preserved
 loop-operator-preserved c =
@@ -64,7 +65,7 @@ loop-operator-preserved c =
     let added = c.in_ok-add_needed.ensures.added in
     let adds = subst (λ (fs : List FunctionType). AddsTypes fs now next added.0) needed added.1.1 in (
       so_far_more types tags old now next blocks (opened c.step.new.self) (op_of x) left (ops_of xs) (map place c.loop-operator.ids.items) added.0 (map place c.add_needed.new.ids.items) so_far adds c.in_ok-add_needed.ensures.stays c.in_ok-step.ensures added.1.0,
-      bound_known (length (type_slots c.args.types.now)) c.in_ok-bound.bound types (types_below c.in_ok-bound.bound (type_slots c.loop-operator.types)) (type_slots c.add_needed.new.types) c.add_needed.new.known (sym c.in_ok-bound.ensures) (sym under) c.in_ok-add_needed.ensures.kept,
+      bound_held (length (type_slots c.args.types.now)) c.in_ok-bound.bound types (types_below c.in_ok-bound.bound (type_slots c.loop-operator.types)) (type_slots c.add_needed.new.types) c.add_needed.new.handlers (sym c.in_ok-bound.ensures) (sym under) c.in_ok-add_needed.ensures.kept,
     )
 
 pub returns-in_err-bound-clause-added : goal.returns-in_err-bound-clause-added
@@ -103,4 +104,4 @@ returns-clause-stays c = c.loop-operator.invariant.0.stays
 
 pub returns-clause-kept : goal.returns-clause-kept
 unfolding IsOfTypes
-returns-clause-kept c = known_later (type_slots c.args.types.now) (type_slots c.loop-operator.types) c.loop-operator.handlers.known c.loop-operator.invariant.0.stays c.loop-operator.invariant.1
+returns-clause-kept c = held_later (type_slots c.args.types.now) (type_slots c.loop-operator.types) c.loop-operator.handlers c.loop-operator.invariant.0.stays c.loop-operator.invariant.1
