@@ -1,4 +1,4 @@
-use Rattle.std.proofs.Common.{sym, subst, ◌∙◌}
+use Rattle.std.proofs.Common.{sym, ◌∙◌}
 use Rattle.std.proofs.lemmas.Result.{err_from_is_err_and}
 use Rattle.walrus_contents.specs.View.{lent, parts_view}
 use Rattle.walrus_module.proofs.Checked.{all_pass, live_refused, plan_refused}
