@@ -1,4 +1,4 @@
--- The places of values by their names, as values come.
+-- The places of what has a name, as it comes.
 use Rattle.std.proofs.Common.{◌≡◌, ℕ, ◌≤◌, Bool, not, true, false, cond, List, [], ◌∷◌, ◌++◌, length, set, get_or, nat_lt, Option, Some, None, refl, sym, ap, subst, ◌∙◌, arith}
 use Rattle.std.specs.Prelude.{bytes_eq, is_some, position, string_bytes}
 use Rattle.std.specs.List.{position_or_len}
@@ -12,8 +12,7 @@ use Rattle.std.proofs.lemmas.List.Quantifiers.{position-Some}
 use Rattle.std.proofs.lemmas.Grind.{common_steps}
 use Rattle.std.proofs.lemmas.Map.Text.{btree_map_updates_text}
 use Rattle.std.proofs.lemmas.Slice.Eq.{bytes_eq-Decides}
-use Rattle.walrus_producers.specs.Producers.{ProducerValue}
-use Rattle.walrus_producers.specs.Values.{IsIndex, is_named}
+use Rattle.walrus_producers.specs.Values.{IsIndex}
 
 -- ---- the first place that passes
 
@@ -38,50 +37,56 @@ module _ {X : Type 0} (p : X → Bool) where
 
 -- ---- the index
 
-module _ {Y : Type 0} (places : BTreeMap (String Y) ℕ) (values : List ProducerValue) (is : IsIndex places values) (new : ProducerValue) where
-  -- a value comes in the place of the first one of its name
-  pub index_put : (i : ℕ) → position (is_named new.name) values ≡ Some i → IsIndex places (set values i new)
-  index_put i found name =
-      let at = position-Some (is_named new.name) values i new found in
-      let named : (get_or values i new).name ≡ new.name = (bytes_eq-Decides (get_or values i new).name new.name).0 at.1 in
-      is name ∙ sym (set_alike (is_named name) values i new new (ap (λ n. bytes_eq n name) (sym named)))
+module _ {Y Z : Type 0} (name_of : Z → List ℕ) (places : BTreeMap (String Y) ℕ) (values : List Z) (is : IsIndex name_of places values) (new : Z) where
+  abbrev is_called : List ℕ → Z → Bool
+  is_called name z = bytes_eq (name_of z) name
 
-  -- a value goes last, and isn't the first one of its name
-  pub index_again : (i : ℕ) → position (is_named new.name) values ≡ Some i → IsIndex places (values ++ new ∷ [])
-  index_again i found name = by_name (bytes_eq new.name name) refl
+  -- one comes in the place of one of its name
+  pub index_kept : (i : ℕ) (was : Z) → name_of new ≡ name_of (get_or values i was) → IsIndex name_of places (set values i new)
+  index_kept i was same name = is name ∙ sym (set_alike (is_called name) values i new was (ap (λ n. bytes_eq n name) same))
+
+  -- the same of the first one of its name, which was looked for
+  pub index_put : (i : ℕ) → position (is_called (name_of new)) values ≡ Some i → IsIndex name_of places (set values i new)
+  index_put i found =
+      let at = position-Some (is_called (name_of new)) values i new found in
+      index_kept i new (sym ((bytes_eq-Decides (name_of (get_or values i new)) (name_of new)).0 at.1))
+
+  -- one goes last, and isn't the first one of its name
+  pub index_again : (i : ℕ) → position (is_called (name_of new)) values ≡ Some i → IsIndex name_of places (values ++ new ∷ [])
+  index_again i found name = by_name (bytes_eq (name_of new) name) refl
     where
-      by_name : (b : Bool) → bytes_eq new.name name ≡ b → get_by_text places name ≡ position (is_named name) (values ++ new ∷ [])
+      by_name : (b : Bool) → bytes_eq (name_of new) name ≡ b → get_by_text places name ≡ position (is_called name) (values ++ new ∷ [])
       by_name true same =
-          let one : new.name ≡ name = (bytes_eq-Decides new.name name).0 same in
-          let there : position (is_named name) values ≡ Some i = ap (λ n. position (is_named n) values) (sym one) ∙ found in
-          is name ∙ there ∙ sym (push_behind (is_named name) values new i there)
-      by_name false other = is name ∙ sym (push_other (is_named name) values new other)
+          let one : name_of new ≡ name = (bytes_eq-Decides (name_of new) name).0 same in
+          let there : position (is_called name) values ≡ Some i = ap (λ n. position (is_called n) values) (sym one) ∙ found in
+          is name ∙ there ∙ sym (push_behind (is_called name) values new i there)
+      by_name false other = is name ∙ sym (push_other (is_called name) values new other)
 
   -- the same of a place that was looked for
-  pub index_told : (name : List ℕ) (found : Option ℕ) → name ≡ new.name → found ≡ position (is_named name) values → is_some found ≡ true → IsIndex places (values ++ new ∷ [])
-  index_told name (Some i) same told there = index_again i (ap (λ n. position (is_named n) values) (sym same) ∙ sym told)
+  pub index_told : (name : List ℕ) (found : Option ℕ) → name ≡ name_of new → found ≡ position (is_called name) values → is_some found ≡ true → IsIndex name_of places (values ++ new ∷ [])
+  index_told name (Some i) same told there = index_again i (ap (λ n. position (is_called n) values) (sym same) ∙ sym told)
   index_told name None same told there = absurd cc
 
-  -- a value goes last, the first one of its name
-  pub index_first : (key : String Y) (after : BTreeMap (String Y) ℕ) → string_bytes key ≡ new.name → position (is_named new.name) values ≡ None
-      → Updates string_cmp places after key (Some (length values)) → IsIndex after (values ++ new ∷ [])
-  index_first key after key_is none updates name = by_name (bytes_eq new.name name) refl
+  -- one goes last, the first one of its name
+  pub index_first : (key : String Y) (after : BTreeMap (String Y) ℕ) → string_bytes key ≡ name_of new → position (is_called (name_of new)) values ≡ None
+      → Updates string_cmp places after key (Some (length values)) → IsIndex name_of after (values ++ new ∷ [])
+  index_first key after key_is none updates name = by_name (bytes_eq (name_of new) name) refl
     where
-      told : get_by_text after name ≡ cond (bytes_eq new.name name) (Some (length values)) (get_by_text places name)
+      told : get_by_text after name ≡ cond (bytes_eq (name_of new) name) (Some (length values)) (get_by_text places name)
       told = btree_map_updates_text (string_bytes key) places after (Some (length values)) updates name
           ∙ ap (λ n. cond (bytes_eq n name) (Some (length values)) (get_by_text places name)) key_is
 
-      by_name : (b : Bool) → bytes_eq new.name name ≡ b → get_by_text after name ≡ position (is_named name) (values ++ new ∷ [])
+      by_name : (b : Bool) → bytes_eq (name_of new) name ≡ b → get_by_text after name ≡ position (is_called name) (values ++ new ∷ [])
       by_name true same =
-          let one : new.name ≡ name = (bytes_eq-Decides new.name name).0 same in
-          let nowhere : position (is_named name) values ≡ None = ap (λ n. position (is_named n) values) (sym one) ∙ none in
-          told ∙ ap (λ b. cond b (Some (length values)) (get_by_text places name)) same ∙ sym (push_first (is_named name) values new same nowhere)
+          let one : name_of new ≡ name = (bytes_eq-Decides (name_of new) name).0 same in
+          let nowhere : position (is_called name) values ≡ None = ap (λ n. position (is_called n) values) (sym one) ∙ none in
+          told ∙ ap (λ b. cond b (Some (length values)) (get_by_text places name)) same ∙ sym (push_first (is_called name) values new same nowhere)
       by_name false other =
-          told ∙ ap (λ b. cond b (Some (length values)) (get_by_text places name)) other ∙ is name ∙ sym (push_other (is_named name) values new other)
+          told ∙ ap (λ b. cond b (Some (length values)) (get_by_text places name)) other ∙ is name ∙ sym (push_other (is_called name) values new other)
 
   -- the same of a name that was looked for
-  pub index_none : (key : String Y) (after : BTreeMap (String Y) ℕ) (name : List ℕ) (found : Option ℕ) (place : ℕ) → string_bytes key ≡ new.name → place ≡ length values
-      → name ≡ new.name → found ≡ position (is_named name) values → is_some found ≡ false → Updates string_cmp places after key (Some place) → IsIndex after (values ++ new ∷ [])
+  pub index_none : (key : String Y) (after : BTreeMap (String Y) ℕ) (name : List ℕ) (found : Option ℕ) (place : ℕ) → string_bytes key ≡ name_of new → place ≡ length values
+      → name ≡ name_of new → found ≡ position (is_called name) values → is_some found ≡ false → Updates string_cmp places after key (Some place) → IsIndex name_of after (values ++ new ∷ [])
   index_none key after name (Some i) place is_key at same told there updates = absurd cc
   index_none key after name None place is_key at same told there updates =
-      index_first key after is_key (ap (λ n. position (is_named n) values) (sym same) ∙ sym told) (subst (λ n. Updates string_cmp places after key (Some n)) at updates)
+      index_first key after is_key (ap (λ n. position (is_called n) values) (sym same) ∙ sym told) (subst (λ n. Updates string_cmp places after key (Some n)) at updates)

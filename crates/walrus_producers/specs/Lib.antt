@@ -1,3 +1,4 @@
+pub mod Fields
 pub mod Producers
 pub mod Seen
 pub mod Values

@@ -1,8 +1,9 @@
 //! The fields of the producers section, and the values in them.
-ghost use Rattle.std.specs.Prelude.{◌≡◌, [], ◌++◌, ◌∷◌, codes, IfOk, MatchResult, map, position};
+ghost use Rattle.std.specs.Prelude.{◌≡◌, [], ◌++◌, ◌∷◌, codes, IfOk, MatchResult, map};
 ghost use Rattle.walrus_producers.specs.Producers.{with_value};
 ghost use Rattle.walrus_producers.specs.Seen.{pair_value, values_seen};
 
+use crate::fields::NamedFields;
 use crate::values::NamedValues;
 use std::alloc::{AllocError, Global};
 
@@ -50,8 +51,8 @@ pub struct ProducerField {
 impl ProducerField {
     ghost use Rattle.walrus_producers.specs.Seen.{field_seen, value_seen};
 
-    // A field of this one value.
-    fn new(alloc: Global, name: &str, value: ProducerValue) -> Result<ProducerField, AllocError>
+    /// A field of this one value.
+    pub(crate) fn new(alloc: Global, name: &str, value: ProducerValue) -> Result<ProducerField, AllocError>
         ensures { IfOk result
             (λ f. field_seen f ≡ record { name = name.now; values = value_seen value ∷ [] }) }
     {
@@ -75,8 +76,8 @@ impl ProducerField {
         self.values.as_slice()
     }
 
-    // Puts a value in the place of the first one of its name, or behind all where there is none. Refused, nothing changes.
-    fn put(&mut self, alloc: Global, value: ProducerValue) -> Result<(), AllocError>
+    /// Puts a value in the place of the first one of its name, or behind all where there is none. Refused, nothing changes.
+    pub(crate) fn put(&mut self, alloc: Global, value: ProducerValue) -> Result<(), AllocError>
         ensures { MatchResult result
             (λ _. field_seen self.new ≡ record {
               name = (field_seen self.old).name;
@@ -92,19 +93,19 @@ impl ProducerField {
 /// The producers section of a module: fields in order, each a name with its values.
 #[derive(Debug, Drop)]
 pub struct ModuleProducers {
-    fields: Vec<ProducerField>,
+    fields: NamedFields,
     alloc: Global,
 }
 
 impl ModuleProducers {
-    ghost use Rattle.walrus_producers.specs.Seen.{Adds, fields_seen, is_field_of, producers, value_seen};
+    ghost use Rattle.walrus_producers.specs.Seen.{Adds, fields_seen, producers};
 
     /// No fields. Takes no memory until the first one comes.
     pub fn new(alloc: Global) -> ModuleProducers
         ensures { producers result ≡ [] }
     {
         ModuleProducers {
-            fields: Vec::new(alloc),
+            fields: NamedFields::new(alloc),
             alloc,
         }
     }
@@ -150,24 +151,14 @@ impl ModuleProducers {
             name: String::from_str(self.alloc, name)?,
             values: NamedValues::of(self.alloc, values)?,
         };
-        self.fields.push(field)?;
-        Ok(())
+        self.fields.push(self.alloc, field)
     }
 
     /// Takes all fields away.
     pub fn clear(&mut self)
         ensures { producers self.new ≡ [] }
     {
-        self.fields.clear();
-    }
-
-    // The place of the first field of this name.
-    fn place_of(&self, name: &str) -> Option<usize>
-        ensures { result ≡ position (is_field_of name.now) self.now.fields.items }
-    {
-        self.fields
-            .iter()
-            .position(|field| field.name.as_str() == name)
+        self.fields = NamedFields::new(self.alloc);
     }
 
     // Puts a value into the first field of this name, made at the end if there is none.
@@ -175,21 +166,6 @@ impl ModuleProducers {
         ensures { Adds field.now name.now version.now result self.old self.new }
     {
         let value = ProducerValue::new(self.alloc, name, version)?;
-        match self.place_of(field) {
-            Some(place) => self.fields[place].put(self.alloc, value),
-            None => self.push_new(field, value),
-        }
-    }
-
-    // Puts a field of this one value behind the others. Refused, nothing changes.
-    fn push_new(&mut self, name: &str, value: ProducerValue) -> Result<(), AllocError>
-        ensures { MatchResult result
-            (λ _. producers self.new ≡ producers self.old
-            ++ record { name = name.now; values = value_seen value ∷ [] } ∷ [])
-            (λ _. producers self.new ≡ producers self.old) }
-    {
-        let field = ProducerField::new(self.alloc, name, value)?;
-        self.fields.push(field)?;
-        Ok(())
+        self.fields.put(self.alloc, field, value)
     }
 }

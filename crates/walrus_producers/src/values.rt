@@ -1,7 +1,7 @@
 //! The values of a field, and where the first one of each name stands.
-ghost use Rattle.std.specs.Prelude.{◌≡◌, [], ◌++◌, ◌∷◌, IfOk, MatchResult, map, position};
+ghost use Rattle.std.specs.Prelude.{◌≡◌, [], ◌++◌, ◌∷◌, IfOk, MatchResult, map};
 ghost use Rattle.walrus_producers.specs.Producers.{with_value};
-ghost use Rattle.walrus_producers.specs.Values.{is_named, pair_value, value_seen, values_seen};
+ghost use Rattle.walrus_producers.specs.Values.{first_of, pair_value, value_name, value_seen, values_seen};
 
 use crate::producers::ProducerValue;
 use std::alloc::{AllocError, Global};
@@ -19,14 +19,14 @@ pub(crate) struct NamedValues {
 
 impl Model for NamedValues {
     ghost use Rattle.std.specs.Prelude.{List};
-    ghost use Rattle.walrus_producers.specs.Values.{IsIndex, values_seen};
+    ghost use Rattle.walrus_producers.specs.Values.{IsIndex, value_name, values_seen};
     ghost use Rattle.walrus_producers.specs.declared.producers.ProducerValue.{ProducerValue};
 
     ghost Value = { List ProducerValue };
 
     ghost view = { λ v. v.values.items };
 
-    ghost invariant = { λ v. IsIndex v.places (values_seen v.values.items) };
+    ghost invariant = { λ v. IsIndex value_name v.places (values_seen v.values.items) };
 }
 
 impl fmt::Debug for NamedValues {
@@ -66,7 +66,7 @@ impl NamedValues {
 
     // The place of the first value of this name.
     fn place_of(&self, name: &str) -> Option<usize>
-        ensures { result ≡ position (is_named name.now) (values_seen self.now) }
+        ensures { result ≡ first_of value_name name.now (values_seen self.now) }
     {
         self.places.get(name).copied()
     }
