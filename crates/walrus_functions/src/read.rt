@@ -190,7 +190,7 @@ pub fn add_locals(
         (locals module_locals.new) ids.items types.now) }
     ensures stays { StaysInFront (locals module_locals.old) (locals module_locals.new) }
 {
-    let mut ids = Vec::new(alloc);
+    let mut ids = Vec::with_capacity(alloc, types.len())?;
     for ty in types {
         let id = module_locals.add(*ty)?;
         ids.push(id)?;

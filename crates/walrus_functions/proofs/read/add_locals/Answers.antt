@@ -28,10 +28,10 @@ stays_and : (old between new more : List (Option Local)) → StaysInFront old be
 stays_and old between new more first next = stays_trans old between new first (more, next)
 
 pub loop-ty-init : goal.loop-ty-init
-loop-ty-init c = subst (λ (ids : List (Id LocalKey)). AddsLocals (locals c.args.module_locals.now) (locals c.args.module_locals.now) ids []) (sym c.new-ids.ensures.items) (adds_nothing (locals c.args.module_locals.now))
+loop-ty-init c = subst (λ (ids : List (Id LocalKey)). AddsLocals (locals c.args.module_locals.now) (locals c.args.module_locals.now) ids []) (sym c.in_ok-ids.ensures.items) (adds_nothing (locals c.args.module_locals.now))
 
 pub returns-in_err-id-clause-added : goal.returns-in_err-id-clause-added
-returns-in_err-id-clause-added c = let p = err_from_is_err_and c.from_residual.result c.from_residual.ensures.1 in rw p.1 tt
+returns-in_err-id-clause-added c = let p = err_from_is_err_and c.from_residual-in_err-id.result c.from_residual-in_err-id.ensures.1 in rw p.1 tt
 
 pub returns-in_err-id-clause-stays : goal.returns-in_err-id-clause-stays
 returns-in_err-id-clause-stays c = subst (λ (now : List (Option Local)). StaysInFront (locals c.args.module_locals.now) now) (sym c.in_err-id.ensures) (adds_stay (locals c.args.module_locals.now) (locals c.loop-ty.module_locals) c.loop-ty.ids.items (take c.loop-ty.ty-index c.args.types.now) c.loop-ty.invariant)
