@@ -53,8 +53,7 @@ impl ModuleConfig {
                 let locate = |place: &usize| -> InstrLocId
                     ensures { location result ≡ location_at place.now }
                 { InstrLocId::of_place(*place) };
-                let as_texts = !self.switches.preserve_code_transform;
-                read(alloc, bytes, whole, features, synthetic, as_texts, &locate)
+                read(alloc, bytes, whole, features, synthetic, true, &locate)
             }
         }
     }

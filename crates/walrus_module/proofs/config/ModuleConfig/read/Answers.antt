@@ -1,9 +1,8 @@
-use Rattle.std.proofs.Common.{◌≡◌, refl, subst}
-use Rattle.std.specs.Fn.{FnReturnsAt}
+use Rattle.std.proofs.Common.{◌≡◌, refl, subst, ⊎_elim}
 use Rattle.walrus_code.specs.Location.{location, location_at}
 use Rattle.walrus_module.specs.Flags.{config_of, flags}
 use Rattle.walrus_module.specs.Located.{Gives, MayAnswer}
-use Rattle.walrus_reading.proofs.LocatedOtherwise.{given_so, if_located_by}
+use Rattle.walrus_reading.proofs.LocatedOtherwise.{if_located_by}
 use Rattle.walrus_module.proofs.config.ModuleConfig.read.Goals as goal
 
 pub returns-in-Some-clause-found : goal.returns-in-Some-clause-found
@@ -25,4 +24,4 @@ returns-in-None-clause-refused g c = c.read-in-None.ensures.refused (config_of (
 pub returns-in-None-clause-located : goal.returns-in-None-clause-located
 returns-in-None-clause-located g c =
     if_located_by (Gives c.args.self.now) c.args.bytes.now c.read-in-None.result c.read-in-None.ensures.located
-    (λ place loc h. rw (c.in-None.is) (given_so (FnReturnsAt _ _) (location loc ≡ location_at place) _ place loc h (λ r. subst (λ p. location loc ≡ location_at p) r.shows r.says.met) (λ own. own)))
+    (λ place loc h. rw (c.in-None.is) (⊎_elim (λ r. subst (λ p. location loc ≡ location_at p) r.shows r.says.met) (λ own. own) h))
