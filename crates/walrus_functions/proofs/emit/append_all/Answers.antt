@@ -1,4 +1,4 @@
-use Rattle.std.proofs.Common.{◌≡◌, ◌≤◌, ◌<◌, ◌^◌, [], ◌++◌, inl, inr, ℕ, Bool, true, false, List, length, map, Result, Ok, Err, IfOk, sym, ap, ap₂, ◌∙◌, subst, refl, arith, rules}
+use Rattle.std.proofs.Common.{◌≡◌, ◌≤◌, ◌<◌, ◌^◌, [], ◌++◌, inl, inr, ℕ, Bool, true, false, List, length, map, Result, Ok, Err, IfOk, sym, ap, ap₂, ◌∙◌, subst, arith, rules}
 use Rattle.std.specs.Prelude.{Vec, nat_eq}
 use Rattle.std.specs.Global.{Global}
 use Rattle.walrus_bodies.specs.declared.declarations.Declaration.{Declaration}
