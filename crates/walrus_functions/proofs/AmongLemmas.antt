@@ -1,11 +1,11 @@
 -- Whether a local is among others.
-use Rattle.std.proofs.Common.{◌≡◌, ◌↔◌, ◌<◌, ◌≤◌, ℕ, zero, suc, Bool, true, false, List, [], ◌∷◌, length, map, get_or, refl, sym, ap, ap₂, ◌∙◌, subst, arith, Result, Ok, Err, ltb, ltb-true, ltb-false}
-use Rattle.std.specs.Prelude.{Contains, nat_eq, is_ok}
+use Rattle.std.proofs.Common.{◌≡◌, ◌↔◌, ◌<◌, ◌≤◌, ℕ, zero, suc, Bool, true, false, List, [], ◌∷◌, length, map, get_or, refl, sym, ap, ap₂, ◌∙◌, subst, arith, ◌-◌, ◌&&◌, Result, Ok, Err, IfOk, ltb, ltb-true, ltb-false, leb-true, le-leb}
+use Rattle.std.specs.Prelude.{Contains, nat_eq, nat_le, is_ok}
 use Rattle.std.specs.List.{AllByRecursion, list_any}
 use Rattle.std.specs.List.Sorted.{IsBinarySearchResult, IsNonDecreasingBy, IsPartitionPoint, IsSearchInRange, IsStrictlySortedBy}
 use Rattle.std.specs.Ordering.{nat_cmp, ordering_index}
 use Rattle.std.specs.declared.cmp.Ordering.TheVariants.{Less, Greater}
-use Rattle.std.proofs.lemmas.Bool.{eqb-true}
+use Rattle.std.proofs.lemmas.Bool.{eqb-true, and_parts}
 use Rattle.std.proofs.lemmas.Bool.Decides.{nat_tests}
 use Rattle.std.proofs.lemmas.Cmp.{ranked, nat_eq_equiv}
 use Rattle.std.proofs.lemmas.List.{get_or_default}
@@ -14,6 +14,7 @@ use Rattle.walrus_base.specs.Id.{place}
 use Rattle.walrus_base.specs.declared.id.Id.{Id}
 use Rattle.walrus_base.specs.declared.keys.LocalKey.{LocalKey}
 use Rattle.walrus_functions.specs.Declaring.{AreOnce}
+use Rattle.walrus_functions.specs.Marked.{AreMarked, is_marked}
 use Rattle.walrus_functions.proofs.OrderLemmas.{contains_map, from_map}
 
 abbrev Local : Type 0
@@ -36,9 +37,44 @@ same_test x xs ys same = go (list_any (nat_eq x) xs) (list_any (nat_eq x) ys) re
     go false true e f = let h = tested x xs (same.1 (among x ys f)) in cc
     go false false e f = cc
 
-pub marks_are : (named once : List ℕ) → AreOnce named once → (ids : List Local) → map (λ id. list_any (nat_eq (place id)) once) ids ≡ map (λ x. list_any (nat_eq x) named) (map place ids)
-marks_are named once h [] = refl
-marks_are named once h (id ∷ ids) = ap₂ (λ (b : Bool) (bs : List Bool). b ∷ bs) (same_test (place id) once named (h.same (place id))) (marks_are named once h ids)
+once_are : (named once : List ℕ) → AreOnce named once → (ids : List Local) → map (λ id. list_any (nat_eq (place id)) once) ids ≡ map (λ id. list_any (nat_eq (place id)) named) ids
+once_are named once h [] = refl
+once_are named once h (id ∷ ids) = ap₂ (λ (b : Bool) (bs : List Bool). b ∷ bs) (same_test (place id) once named (h.same (place id))) (once_are named once h ids)
+
+-- what is told by the named ones that are taken once
+pub once_tell : {X E : Type 0} (view : X → List Bool) (r : Result X E) (named once : List ℕ) (ids : List Local) → AreOnce named once → IfOk r (λ x. view x ≡ map (λ id. list_any (nat_eq (place id)) once) ids) → IfOk r (λ x. view x ≡ map (λ id. list_any (nat_eq (place id)) named) ids)
+once_tell view (Ok x) named once ids h is = is ∙ once_are named once h ids
+once_tell view (Err e) named once ids h is = tt
+
+-- what is told of ids is told of their places
+pub of_places : (test : ℕ → Bool) (ids : List Local) → map (λ id. test (place id)) ids ≡ map test (map place ids)
+of_places test [] = refl
+of_places test (id ∷ ids) = ap (λ (bs : List Bool). test (place id) ∷ bs) (of_places test ids)
+
+-- ---- flags
+
+flag_test : (first : ℕ) (flags : List Bool) (places : List ℕ) → AreMarked first flags places → (x : ℕ) → is_marked first flags x ≡ list_any (nat_eq x) places
+flag_test first flags places h x = go (is_marked first flags x) (list_any (nat_eq x) places) refl refl
+  where
+    go : (a b : Bool) → is_marked first flags x ≡ a → list_any (nat_eq x) places ≡ b → is_marked first flags x ≡ list_any (nat_eq x) places
+    go true b e f =
+        let set = and_parts (nat_le first x) (get_or flags (x - first) false) e in
+        let t = tested x places ((h x).1 (leb-true first x set.0, set.1)) in
+        cc
+    go false true e f =
+        let set = (h x).0 (among x places f) in
+        let is : is_marked first flags x ≡ true = ap₂ (λ (a b : Bool). a && b) (le-leb first x set.0) set.1 in
+        cc
+    go false false e f = cc
+
+flags_are : (first : ℕ) (flags : List Bool) (places : List ℕ) → AreMarked first flags places → (ids : List Local) → map (λ id. is_marked first flags (place id)) ids ≡ map (λ id. list_any (nat_eq (place id)) places) ids
+flags_are first flags places h [] = refl
+flags_are first flags places h (id ∷ ids) = ap₂ (λ (b : Bool) (bs : List Bool). b ∷ bs) (flag_test first flags places h (place id)) (flags_are first flags places h ids)
+
+-- what is told by flags
+pub flags_tell : {X E : Type 0} (view : X → List Bool) (r : Result X E) (first : ℕ) (flags : List Bool) (places : List ℕ) (ids : List Local) → AreMarked first flags places → IfOk r (λ x. view x ≡ map (λ id. is_marked first flags (place id)) ids) → IfOk r (λ x. view x ≡ map (λ id. list_any (nat_eq (place id)) places) ids)
+flags_tell view (Ok x) first flags places ids h is = is ∙ flags_are first flags places h ids
+flags_tell view (Err e) first flags places ids h is = tt
 
 -- ---- a search by halves
 

@@ -1,10 +1,12 @@
 pub mod AlikeLemmas
 mod AmongLemmas
+mod EntryLemmas
 mod GivenLemmas
 pub mod HandlerLemmas
 pub mod KnownLemmas
 mod ParameterLemmas
 mod PlainLemmas
+mod RankLemmas
 pub mod ApartLemmas
 pub mod AppendLemmas
 pub mod BareWritten

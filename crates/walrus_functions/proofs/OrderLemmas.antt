@@ -1,5 +1,5 @@
 -- The order in which locals are declared.
-use Rattle.std.proofs.Common.{◌≡◌, ℕ, zero, suc, ◌<◌, ◌≤◌, ◌⊎◌, inl, inr, Bool, true, false, List, [], ◌∷◌, length, map, Option, Some, refl, sym, ap, ◌∙◌, subst, arith}
+use Rattle.std.proofs.Common.{◌≡◌, ℕ, zero, suc, ◌<◌, ◌≤◌, ◌⊎◌, inl, inr, Bool, List, [], ◌∷◌, length, map, Option, Some, refl, sym, ap, ◌∙◌, subst, arith}
 use Rattle.std.specs.Prelude.{All, AllPairs, Contains, unwrap_or, nat_eq}
 use Rattle.std.specs.Cmp.{IsTotalOrder}
 use Rattle.std.specs.List.{list_any, AllByRecursion}
@@ -7,18 +7,17 @@ use Rattle.std.specs.List.Sorted.{IsStrictlySortedBy}
 use Rattle.std.specs.Ordering.{nat_cmp, ordering_then}
 use Rattle.std.specs.declared.cmp.Ordering.{Ordering}
 use Rattle.std.specs.declared.cmp.Ordering.TheVariants.{Less, Equal, Greater}
-use Rattle.std.proofs.lemmas.Cmp.{ranked, nat_cmp_total, nat_eq_equiv, on_total, then_total}
+use Rattle.std.proofs.lemmas.Cmp.{ranked, nat_cmp_total, on_total, then_total}
 use Rattle.std.proofs.lemmas.List.Elements.{All-contains, All-head, All-tail, All-cons, All-map, All-from_recursion, Contains-append_right}
 use Rattle.std.proofs.lemmas.List.Kept.{AllPairs-cons}
 use Rattle.std.proofs.lemmas.Map.Keys.{sorted_head, sorted_tail}
-use Rattle.std.proofs.lemmas.Map.Views.{Contains-from_any, list_any-from_Contains}
-use Rattle.std.proofs.lemmas.Bool.{eqb-true}
 use Rattle.walrus_base.specs.Arena.{item_at}
 use Rattle.walrus_base.specs.Types.{ValType}
 use Rattle.walrus_base.specs.Value.{val_type}
 use Rattle.walrus_base.specs.declared.value.ValType.{ValType as DeclaredValType}
 use Rattle.walrus_functions.specs.DeclaredLocals.{rank, IsDeclared, TypeGoesBefore, GoesBefore, AreDeclared}
 use Rattle.walrus_functions.specs.Declaring.{AreTyped, AreInOrder, typed, key_of, by_key}
+use Rattle.walrus_functions.proofs.EntryLemmas as entries
 use Rattle.wasm_forms.proofs.Bind.{some_same}
 
 abbrev Key : Type 0
@@ -69,30 +68,16 @@ module _ (slots : List (Option (ValType ℕ))) (used parameters : List ℕ) (is_
   Entry x v = Contains (map typed found) (x, v)
 
   has_type : (x : ℕ) (v : ValType ℕ) → Entry x v → item_at slots x ≡ Some v
-  has_type x v here = (All-contains (λ (e : ℕ × ValType ℕ). Contains used e.0 × (is_parameter e.0 ≡ false) × (item_at slots e.0 ≡ Some e.1)) (map typed found) (x, v) all.sound here).2
+  has_type x v here = entries.has_type slots used parameters is_parameter are (map typed found) all x v here
 
   one_type : (x : ℕ) (v w : ValType ℕ) → Entry x v → Entry x w → v ≡ w
   one_type x v w a b = some_same v w (sym (has_type x v a) ∙ has_type x w b)
 
   is_declared : (x : ℕ) (v : ValType ℕ) → Entry x v → IsDeclared slots used parameters x
-  is_declared x v here =
-      let parts = All-contains (λ (e : ℕ × ValType ℕ). Contains used e.0 × (is_parameter e.0 ≡ false) × (item_at slots e.0 ≡ Some e.1)) (map typed found) (x, v) all.sound here in
-      record {
-        is_used = parts.0;
-        no_parameter = λ among. let wrong : false ≡ true = sym parts.1 ∙ are x ∙ list_any-from_Contains nat_eq_equiv x parameters among in absurd cc;
-        ty = v;
-        typed = parts.2;
-      }
-
-  free : (x : ℕ) → (Contains parameters x → ⊥) → is_parameter x ≡ false
-  free x none = go (is_parameter x) refl
-    where
-      go : (b : Bool) → is_parameter x ≡ b → is_parameter x ≡ false
-      go false e = e
-      go true e = absurd (none (Contains-from_any (λ a b same. eqb-true a b same) x parameters (sym (are x) ∙ e)))
+  is_declared x v here = entries.is_declared slots used parameters is_parameter are (map typed found) all x v here
 
   entry_of : (x : ℕ) (v : ValType ℕ) → IsDeclared slots used parameters x → item_at slots x ≡ Some v → Entry x v
-  entry_of x v d t = all.complete x v d.is_used (free x d.no_parameter) t
+  entry_of x v d t = entries.entry_of slots used parameters is_parameter are (map typed found) all x v d t
 
   -- what a key says
   record IsKey (k : Key) : Type 0 where

@@ -1,9 +1,17 @@
 -- The types of locals, and the locals that are declared.
-use Rattle.std.proofs.Common.{◌≡◌, ℕ, zero, suc, ◌<◌, ◌⊎◌, ⊎_elim, inl, inr, Bool, true, false, List, [], ◌∷◌, ◌++◌, length, map, Option, Some, None, sym, ap, ap₂, ◌∙◌, subst, arith}
+use Rattle.std.proofs.Common.{◌≡◌, ℕ, zero, suc, ◌<◌, ◌⊎◌, ⊎_elim, inl, inr, Bool, true, false, List, [], ◌∷◌, ◌++◌, ◌+◌, ◌≤◌, length, map, drop, Option, Some, None, sym, ap, ap₂, ◌∙◌, subst, arith, append_assoc}
 use Rattle.std.specs.Prelude.{slice_index_or, All, Contains}
+use Rattle.std.specs.List.{AllByRecursion}
+use Rattle.std.specs.List.Sorted.{IsStrictlySortedBy}
+use Rattle.std.specs.Ordering.{nat_cmp}
+use Rattle.std.specs.declared.cmp.Ordering.TheVariants.{Less}
+use Rattle.std.proofs.lemmas.List.{append-nil, drop_all, drop_more}
 use Rattle.std.proofs.lemmas.List.Elements.{All-push, All-weaker, Contains-append_left, Contains-push, Contains-push_cases}
 use Rattle.walrus_base.specs.Arena.{item_at}
+use Rattle.walrus_base.specs.Id.{place}
 use Rattle.walrus_base.specs.Types.{ValType}
+use Rattle.walrus_base.specs.declared.id.Id.{Id}
+use Rattle.walrus_base.specs.declared.keys.LocalKey.{LocalKey}
 use Rattle.walrus_functions.specs.Declaring.{AreTyped}
 use Rattle.walrus_base.proofs.FunctionSame.{cons_tail as tail_same}
 
@@ -51,3 +59,42 @@ module _ (slots : List (Option (ValType ℕ))) (is_parameter : ℕ → Bool) whe
       here y w same t =
           let types : v ≡ w = (let both : Some v ≡ Some w = sym there ∙ ap (item_at slots) (sym same) ∙ t in cc) in
           subst (λ (e : ℕ × ValType ℕ). Contains (found ++ (x, v) ∷ []) e) (same_entry x y v w (sym same) types) (Contains-push found (x, v))
+
+-- ---- places that rise
+
+abbrev Rise : List ℕ → Type 0
+Rise places = IsStrictlySortedBy nat_cmp places
+
+abbrev Local : Type 0
+Local = Id LocalKey
+
+all_without : {X : Type 0} (P : X → Type 0) (xs : List X) (y : X) (ys : List X) → AllByRecursion P (xs ++ y ∷ ys) → AllByRecursion P (xs ++ ys)
+all_without P [] y ys h = h.1
+all_without P (x ∷ xs) y ys h = (h.0, all_without P xs y ys h.1)
+
+rise_without : (xs : List ℕ) (y : ℕ) (ys : List ℕ) → Rise (xs ++ y ∷ ys) → Rise (xs ++ ys)
+unfolding IsStrictlySortedBy
+rise_without [] y ys h = h.1
+rise_without (x ∷ xs) y ys h = (all_without (λ (z : ℕ). nat_cmp x z ≡ Less) xs y ys h.0, rise_without xs y ys h.1)
+
+-- those that were taken, the next one, and those that are left
+rise_next : (had : List ℕ) (ids : List Local) (i : ℕ) (d : Local) → i < length ids → Rise (had ++ map place (drop i ids)) → Rise (had ++ place (slice_index_or ids i d) ∷ map place (drop (i + 1) ids))
+rise_next had ids i d low h = subst (λ (left : List Local). Rise (had ++ map place left)) (drop_more ids i d low) h
+
+-- the next one isn't taken
+pub rise_skip : (had : List ℕ) (ids : List Local) (i : ℕ) → i < length ids → Rise (had ++ map place (drop i ids)) → Rise (had ++ map place (drop (i + 1) ids))
+rise_skip had [] i low h = absurd (omega (arith, low))
+rise_skip had (id ∷ ids) i low h =
+    let all = id ∷ ids in
+    rise_without had (place (slice_index_or all i id)) (map place (drop (i + 1) all)) (rise_next had all i id low h)
+
+-- the next one is taken
+pub rise_more : (had now : List ℕ) (ids : List Local) (i : ℕ) (d : Local) → i < length ids → now ≡ had ++ place (slice_index_or ids i d) ∷ [] → Rise (had ++ map place (drop i ids)) → Rise (now ++ map place (drop (i + 1) ids))
+rise_more had now ids i d low is h =
+    let left = map place (drop (i + 1) ids) in
+    let x = place (slice_index_or ids i d) in
+    subst Rise (sym (ap (λ (xs : List ℕ). xs ++ left) is ∙ append_assoc had (x ∷ []) left)) (rise_next had ids i d low h)
+
+-- none is left
+pub rise_all : (had : List ℕ) (ids : List Local) (i : ℕ) → length ids ≤ i → Rise (had ++ map place (drop i ids)) → Rise had
+rise_all had ids i past h = subst Rise (ap (λ (left : List Local). had ++ map place left) (drop_all i ids past) ∙ append-nil had) h

@@ -9,6 +9,7 @@ pub mod Known
 pub mod Laws
 pub mod Marked
 pub mod Plain
+pub mod Ranked
 pub mod ReadFunction
 pub mod Signatures
 pub mod Writing

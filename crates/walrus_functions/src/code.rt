@@ -1,8 +1,9 @@
 //! The operators of a body that is written, as they are held (Binary Format > Instructions).
-ghost use Rattle.std.specs.Prelude.{◌≡◌, ◌++◌, ℕ, List, true, map, IfOk};
+ghost use Rattle.std.specs.Prelude.{◌≡◌, ◌++◌, ℕ, List, true, map, nat_eq, IfOk};
+ghost use Rattle.std.specs.List.{list_any};
 ghost use Rattle.walrus_base.specs.Id.{place};
 ghost use Rattle.walrus_base.specs.Operators.{locals_of};
-ghost use Rattle.walrus_bodies.specs.Function.{body_of, locations_of};
+ghost use Rattle.walrus_bodies.specs.Function.{body_of, listed_in, locations_of};
 ghost use Rattle.walrus_code.specs.Indices.{index_of, local_index};
 ghost use Rattle.walrus_bodies.specs.Blocks.{blocks_hold};
 ghost use Rattle.walrus_bodies.specs.Emitting.{EmitsOperators};
@@ -12,8 +13,8 @@ ghost use Rattle.walrus_bodies.specs.Text.{ops_in};
 ghost use Rattle.walrus_functions.specs.Code.{AreFlags, IsFlagged, is_listed, locations_of_code, ops_of_code};
 ghost use Rattle.walrus_functions.specs.Declaring.{AreOnce};
 
-use crate::declared::named_once;
-use crate::marks::marked_locals;
+use crate::declared::{named_once, which_named};
+use crate::marks::{marked_locals, which_marked};
 use std::alloc::{AllocError, Global};
 use walrus_base::{LocalId, ModuleTypes};
 use walrus_bodies::{Features, LocalFunction, Operators, Text, append_operators, blocks_hold};
@@ -75,6 +76,52 @@ pub(crate) fn code_locals(alloc: Global, code: &Code) -> Result<Vec<LocalId>, Al
     match code {
         Code::Text { text, used } => text_locals(alloc, text, used.as_slice()),
         Code::List(operators) => named_once(alloc, operators.as_slice()),
+    }
+}
+
+// Whether the operators of a body name each of these locals.
+fn text_uses(
+    alloc: Global,
+    text: &Text,
+    used: &[bool],
+    ids: &[LocalId],
+) -> Result<Vec<bool>, AllocError>
+    requires { AreFlags text.now used.now }
+    ensures { IfOk result (λ uses. uses.items
+        ≡ map (λ id. list_any (nat_eq (place id)) (locals_of (ops_in text.now))) ids.now) }
+{
+    which_marked(alloc, text.first_local() as usize, used, ids)
+}
+
+// The same where these are the locals that they name, each once.
+fn list_uses(
+    alloc: Global,
+    operators: &Operators,
+    ids: &[LocalId],
+    named: &[LocalId],
+) -> Result<Vec<bool>, AllocError>
+    requires { AreOnce (locals_of (listed_in operators.now)) (map place named.now) }
+    ensures { IfOk result (λ uses. uses.items
+        ≡ map (λ id. list_any (nat_eq (place id)) (locals_of (listed_in operators.now))) ids.now) }
+{
+    which_named(alloc, ids, named)
+}
+
+// The same of any body.
+pub(crate) fn code_uses(
+    alloc: Global,
+    code: &Code,
+    ids: &[LocalId],
+    named: &[LocalId],
+) -> Result<Vec<bool>, AllocError>
+    requires flagged { IsFlagged code.now }
+    requires named { AreOnce (locals_of (ops_of_code code.now)) (map place named.now) }
+    ensures { IfOk result (λ uses. uses.items
+        ≡ map (λ id. list_any (nat_eq (place id)) (locals_of (ops_of_code code.now))) ids.now) }
+{
+    match code {
+        Code::Text { text, used } => text_uses(alloc, text, used.as_slice(), ids),
+        Code::List(operators) => list_uses(alloc, operators, ids, named),
     }
 }
 

@@ -15,6 +15,7 @@ ghost use Rattle.walrus_functions.specs.EmittedBody.{types_of};
 
 use crate::lowest::Lowest;
 use crate::marks::{mark_named, marked_locals, named_window, no_marks};
+use crate::ranked::{by_ranks, highest_rank};
 use crate::taken::TakenPlaces;
 use std::alloc::{AllocError, Global};
 use walrus_base::{LocalId, ModuleLocals, ValType};
@@ -132,10 +133,12 @@ fn typed_locals(
     parameters: &TakenPlaces,
     module_locals: &ModuleLocals,
 ) -> Result<Vec<(usize, ValType)>, AllocError>
-    requires { IsDistinct nat_eq (map place named.now) }
+    requires distinct { IsDistinct nat_eq (map place named.now) }
+    requires rising { IsStrictlySortedBy nat_cmp (map place named.now) }
     ensures typed { IfOk result (λ found. AreTyped (types_of (locals module_locals.now)) (map place named.now)
         (is_taken parameters.now) (map typed found.items)) }
     ensures distinct { IfOk result (λ found. IsDistinct same_local found.items) }
+    ensures rising { IfOk result (λ found. IsStrictlySortedBy nat_cmp (map (λ e. e.0) found.items)) }
 {
     let mut found = Vec::new(alloc);
     for id in named {
@@ -223,12 +226,18 @@ pub(crate) fn order_declared(
     parameters: &TakenPlaces,
     module_locals: &ModuleLocals,
 ) -> Result<Vec<LocalId>, AllocError>
-    requires { IsDistinct nat_eq (map place named.now) }
+    requires distinct { IsDistinct nat_eq (map place named.now) }
+    requires rising { IsStrictlySortedBy nat_cmp (map place named.now) }
     ensures { IfOk result (λ ids. (used those : List ℕ) → AreOnce used (map place named.now)
         → ((p : ℕ) → is_taken parameters.now p ≡ list_any (nat_eq p) those)
         → AreDeclared (types_of (locals module_locals.now)) used those (map place ids.items)) }
 {
     let found = typed_locals(alloc, named, parameters, module_locals)?;
-    let keys = in_order(alloc, found.as_slice())?;
+    let held = found.as_slice();
+    let highest = highest_rank(held);
+    if highest < 5 {
+        return by_ranks(alloc, held, highest + 1);
+    }
+    let keys = in_order(alloc, held)?;
     ids_of(alloc, keys.as_slice())
 }

@@ -14,8 +14,8 @@ ghost use Rattle.walrus_functions.specs.Declaring.{AreOnce};
 ghost use Rattle.walrus_functions.specs.EmittedBody.{EmitsBody, source_of, types_of};
 ghost use Rattle.walrus_functions.specs.Writing.{HasSignature, FindsDeclared, DeclaresLocals, WritesBehind};
 
-use crate::code::{Code, append_code, code_holds, code_locals, code_of, likely_length};
-use crate::declared::{distinct_places, order_declared, types_at, which_named};
+use crate::code::{Code, append_code, code_holds, code_locals, code_of, code_uses, likely_length};
+use crate::declared::{distinct_places, order_declared, types_at};
 use crate::groups::{declarations, number_locals, runs};
 use std::alloc::{AllocError, Global};
 use walrus_base::{LocalId, ModuleLocals, ModuleTypes};
@@ -180,7 +180,7 @@ pub(crate) fn append_all(
     }
     let declarations = declare(alloc, declared.as_slice(), module_locals, indices)?;
     let locals = number_locals(alloc, all.as_slice())?;
-    let used = which_named(alloc, all.as_slice(), named.as_slice())?;
+    let used = code_uses(alloc, code, all.as_slice(), named.as_slice())?;
     let scope = Scope {
         indices,
         features,

@@ -19,6 +19,7 @@ mod law;
 mod lowest;
 mod marks;
 mod plain;
+mod ranked;
 mod read;
 mod signatures;
 mod tag_and_try;

@@ -3,7 +3,7 @@ ghost use Rattle.std.specs.Prelude.{◌≡◌, ◌≤◌, ◌<◌, ◌+◌, ◌*
 ghost use Rattle.walrus_base.specs.Id.{place};
 ghost use Rattle.walrus_base.specs.Operators.{arg_locals, locals_of};
 ghost use Rattle.walrus_code.specs.Code.{arg_of, ops_of};
-ghost use Rattle.walrus_functions.specs.Marked.{AreMarked, Marks, marked};
+ghost use Rattle.walrus_functions.specs.Marked.{AreMarked, Marks, is_marked, marked};
 
 use std::alloc::{AllocError, Global};
 use walrus_base::LocalId;
@@ -161,4 +161,30 @@ fn push_if(named: &mut Vec<LocalId>, is_marked: bool, index: usize) -> Result<()
         named.push(LocalId::at(index))?;
     }
     Ok(())
+}
+
+// Whether a place is marked.
+fn is_marked(first: usize, marks: &[bool], place: usize) -> bool
+    ensures { result ≡ is_marked first marks.now place }
+{
+    match place.checked_sub(first) {
+        Some(offset) => offset < marks.len() && marks[offset],
+        None => false,
+    }
+}
+
+// Whether each of these locals is marked.
+pub(crate) fn which_marked(
+    alloc: Global,
+    first: usize,
+    marks: &[bool],
+    ids: &[LocalId],
+) -> Result<Vec<bool>, AllocError>
+    ensures { IfOk result (λ used. used.items ≡ map (λ id. is_marked first marks.now (place id)) ids.now) }
+{
+    let mut used = Vec::with_capacity(alloc, ids.len())?;
+    'ids: for id in ids {
+        used.push(is_marked(first, marks, id.index()))?;
+    }
+    Ok(used)
 }

@@ -1,10 +1,8 @@
-use Rattle.std.proofs.Common.{◌≡◌, ◌≤◌, ◌<◌, ◌^◌, [], ◌++◌, inl, inr, ℕ, Bool, true, false, List, length, map, Result, Ok, Err, IfOk, sym, ap, ap₂, ◌∙◌, subst, refl, arith, rules}
+use Rattle.std.proofs.Common.{◌≡◌, ◌≤◌, ◌<◌, ◌^◌, [], ◌++◌, inl, inr, ℕ, Bool, true, false, List, length, map, Result, Ok, Err, IfOk, sym, ap, ap₂, ◌∙◌, subst, arith, rules}
 use Rattle.std.specs.Prelude.{Vec, nat_eq}
 use Rattle.std.specs.Global.{Global}
 use Rattle.walrus_bodies.specs.declared.declarations.Declaration.{Declaration}
 use Rattle.std.specs.List.{IsDistinct, list_any}
-use Rattle.std.specs.List.Sorted.{IsStrictlySortedBy}
-use Rattle.std.specs.Ordering.{nat_cmp}
 use Rattle.std.proofs.lemmas.List.{length-map, map-append}
 use Rattle.wasm_forms.specs.declared.types.RawVal.{RawVal}
 use Rattle.walrus_base.specs.Id.{place}
@@ -20,11 +18,12 @@ use Rattle.walrus_code.specs.declared.local_numbers.LocalNumbers.{LocalNumbers}
 use Rattle.walrus_bodies.specs.Blocks.{blocks_hold}
 use Rattle.walrus_bodies.specs.Declarations.{declaration, declarations_of}
 use Rattle.walrus_bodies.specs.FunctionTypes.{is_function_at}
+use Rattle.walrus_functions.specs.Code.{ops_of_code}
 use Rattle.walrus_functions.specs.Declaring.{AreOnce}
 use Rattle.walrus_functions.specs.EmittedBody.{FitsType, source_of, types_of}
 use Rattle.walrus_functions.specs.Writing.{DeclaresLocals, LocalsDeclared}
 use Rattle.walrus_functions.specs.declared.emit.KnownBody.{KnownBody}
-use Rattle.walrus_functions.proofs.AmongLemmas.{marks_are}
+use Rattle.walrus_functions.proofs.AmongLemmas.{of_places}
 use Rattle.walrus_functions.proofs.WrittenLemmas.{emitted, refused_declared, refused_found, all_there, all_differ, few_declarations, fits_type}
 use Rattle.std.proofs.lemmas.Result.{err_from_is_err_and}
 use Rattle.walrus_functions.proofs.emit.append_all.Goals as goal
@@ -57,21 +56,20 @@ known : (numbers : LocalNumbers) (order : Vec Local Global) (used : Vec Bool Glo
 known numbers order used (Ok body) h = (ap local_index h.0, ap view_ids h.1, ap (λ (marks : Vec Bool Global). marks.items) h.2)
 known numbers order used (Err e) h = tt
 
--- whether each local is used, told by the named ones that are taken once
-marks : (named once : List ℕ) → AreOnce named once → (slice named_slice all held : List Local) (used : List Bool) → used ≡ map (λ id. list_any (nat_eq (place id)) (map place named_slice)) slice → slice ≡ all → named_slice ≡ held → map place held ≡ once → used ≡ map (λ x. list_any (nat_eq x) named) (map place all)
-marks named once h slice named_slice all held used is one two are =
+-- whether each local is used, by the operators
+marks : (had ops : List Op) (slice all : List Local) (used : List Bool) → used ≡ map (λ id. list_any (nat_eq (place id)) (locals_of had)) slice → had ≡ ops → slice ≡ all → used ≡ map (λ x. list_any (nat_eq x) (locals_of ops)) (map place all)
+marks had ops slice all used is same one =
     is
-    ∙ ap₂ (λ (xs ys : List Local). map (λ id. list_any (nat_eq (place id)) (map place xs)) ys) two one
-    ∙ ap (λ (ps : List ℕ). map (λ id. list_any (nat_eq (place id)) ps) all) are
-    ∙ marks_are named once h all
+    ∙ ap₂ (λ (os : List Op) (xs : List Local). map (λ id. list_any (nat_eq (place id)) (locals_of os)) xs) same one
+    ∙ of_places (λ x. list_any (nat_eq x) (locals_of ops)) all
 
 pub find_declared-requires-clause-named : goal.find_declared-requires-clause-named
 find_declared-requires-clause-named c =
     subst (λ (ids : List Local). AreOnce (locals_of (body_of c.args.function.now)) (map place ids)) (sym c.as_slice.ensures.value)
     (subst (λ (ops : List Op). AreOnce (locals_of ops) (map place c.in_ok-named.named.items)) c.requires.body c.in_ok-named.ensures)
 
-pub which_named-requires : goal.which_named-requires
-which_named-requires c = subst (λ (ids : List Local). IsStrictlySortedBy nat_cmp (map place ids)) (sym c.as_slice-6.ensures.value) c.in_ok-named.ensures.rising
+pub code_uses-requires-clause-named : goal.code_uses-requires-clause-named
+code_uses-requires-clause-named c = subst (λ (ids : List Local). AreOnce (locals_of (ops_of_code c.args.code.now)) (map place ids)) (sym c.as_slice-6.ensures.value) c.in_ok-named.ensures
 
 pub returns-in_err-declared-clause-written : goal.returns-in_err-declared-clause-written
 returns-in_err-declared-clause-written c =
@@ -145,7 +143,6 @@ returns-clause-written c =
     let under = c.if-len.false in
     let few : length order < 2 ^ 32 = omega (arith, size, counted, under) in
     let numbers = local_index c.in_ok-locals.locals in
-    let once : AreOnce (locals_of s.ops) (map place c.in_ok-named.named.items) = subst (λ (ops : List Op). AreOnce (locals_of ops) (map place c.in_ok-named.named.items)) c.requires.body c.in_ok-named.ensures in
     let bytes = c.write_body.ensures.written.0 in
     let places = c.write_body.ensures.written.1 in
     let made = emitted s order c.in_ok-declared.ensures.1 ds written
@@ -154,7 +151,7 @@ returns-clause-written c =
     few numbers
     (λ x. c.in_ok-locals.ensures x ∙ ap (λ (ps : List ℕ). place_in ps x) (ap (map place) c.as_slice-4.ensures.value ∙ are))
     (map place c.in_ok-all.all.items) are c.in_ok-used.used.items
-    (marks (locals_of s.ops) (map place c.in_ok-named.named.items) once c.as_slice-5.result.now c.as_slice-6.result.now c.in_ok-all.all.items c.in_ok-named.named.items c.in_ok-used.used.items c.in_ok-used.ensures c.as_slice-5.ensures.value c.as_slice-6.ensures.value refl)
+    (marks (ops_of_code c.args.code.now) s.ops c.as_slice-5.result.now c.in_ok-all.all.items c.in_ok-used.used.items c.in_ok-used.ensures c.requires.body c.as_slice-5.ensures.value)
     (λ _. bytes) (λ _. places) (λ body. local_index body.locals) (λ body. map place body.order.items) (λ body. body.used.items) c.write_body.result
     (known c.in_ok-locals.locals c.in_ok-all.all c.in_ok-used.used c.write_body.result (all_known (λ body. body.locals) (λ body. body.order) (λ body. body.used) c.in_ok-locals.locals c.in_ok-all.all c.in_ok-used.used c.write_body.result c.write_body.ensures.numbered c.write_body.ensures.ordered c.write_body.ensures.marked))
     (rw (c.requires.body, c.as_slice-7.ensures.value) at c.write_body.ensures.written.2.0) in

@@ -4,8 +4,11 @@ use Rattle.walrus_bodies.specs.Function.{body_of, args_of}
 use Rattle.walrus_functions.specs.Declaring.{HasPlaces}
 use Rattle.walrus_functions.proofs.emit.find_declared.Goals as goal
 
-pub order_declared-requires : goal.order_declared-requires
-order_declared-requires c = c.requires.named.distinct
+pub order_declared-requires-clause-distinct : goal.order_declared-requires-clause-distinct
+order_declared-requires-clause-distinct c = c.requires.named.distinct
+
+pub order_declared-requires-clause-rising : goal.order_declared-requires-clause-rising
+order_declared-requires-clause-rising c = c.requires.named.rising
 
 pub returns : goal.returns
 returns c =
