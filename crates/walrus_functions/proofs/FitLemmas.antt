@@ -1,11 +1,15 @@
 -- Whether a function's type takes what its parameters hold, and what the locals hold that it declares.
-use Rattle.std.proofs.Common.{◌≡◌, ◌↔◌, ℕ, zero, suc, ◌<◌, Bool, true, IsTrue, Decides, List, [], ◌∷◌, length, map, Option, Some, None, Result, Ok, Err, refl, sym, ap, ap₂, ◌∙◌, subst, arith}
-use Rattle.std.specs.Prelude.{All, Contains, IsSome}
+use Rattle.std.proofs.Common.{◌≡◌, ◌↔◌, ℕ, zero, suc, ◌<◌, ◌≤◌, ◌+◌, ◌++◌, Bool, true, false, IsTrue, List, [], ◌∷◌, length, map, take, Option, Some, None, Result, Ok, Err, refl, sym, ap, ap₂, ◌∙◌, subst, arith}
+use Rattle.std.specs.Prelude.{All, Contains, IsSome, slice_index_or}
+use Rattle.std.proofs.lemmas.List.{length-map, take_all}
 use Rattle.std.proofs.lemmas.List.Elements.{All-head, All-tail, Contains-append_right}
 use Rattle.wasm_forms.specs.declared.types.RawVal.{RawVal}
 use Rattle.walrus_base.specs.Arena.{item_at}
 use Rattle.walrus_base.specs.Types.{ValType}
 use Rattle.walrus_base.specs.TypeDef.{TypeDef}
+use Rattle.walrus_base.specs.Value.{val_type}
+use Rattle.walrus_base.specs.contracts.value.ValTypePartialEq.TheImpl as equality
+use Rattle.walrus_base.specs.declared.value.ValType.{ValType as DeclaredValType}
 use Rattle.walrus_code.specs.Names.{Lookup, named_val}
 use Rattle.walrus_code.specs.Results.{val_is_exact}
 use Rattle.walrus_code.specs.declared.error.IrError.{IrError}
@@ -15,7 +19,8 @@ use Rattle.walrus_functions.specs.EmittedBody.{takes}
 use Rattle.walrus_functions.specs.Writing.{HasSignature, HasOneOf, DeclaresLocals}
 use Rattle.walrus_functions.proofs.RunLemmas.{type_among}
 use Rattle.wasm_forms.proofs.Bind.{some_same}
-use Rattle.walrus_base.proofs.FunctionSame.{cons_head as head_same, cons_tail as tail_same}
+use Rattle.walrus_base.proofs.FunctionSame.{cons_head as head_same, cons_tail as tail_same, val_same}
+use Rattle.walrus_base.proofs.Turns.{map_more, map_snoc}
 use Rattle.walrus_base.proofs.Standing.{some_of as there}
 
 -- lists that are the same where each element is there
@@ -25,10 +30,46 @@ all_same [] (y ∷ ys) h = absurd cc
 all_same (x ∷ xs) [] h = absurd cc
 all_same {T} (x ∷ xs) (y ∷ ys) h = ap₂ (λ (z : T) (zs : List T). z ∷ zs) (some_same x y (head_same _ _ _ _ h)) (all_same xs ys (tail_same _ _ _ _ h))
 
-pub fit : (def : Option TypeDef) (slots : List (Option (ValType ℕ))) (parameters : List ℕ) (held wanted : List (ValType ℕ)) (r : Bool) → takes def ≡ Some wanted → map (item_at slots) parameters ≡ map Some held → Decides r (held ≡ wanted) → IsTrue r ↔ HasSignature def slots parameters
-fit def slots parameters held wanted r taken are same = (
-  λ h. (wanted, (taken, are ∙ ap (map Some) (same.0 h))),
-  λ s. same.1 (all_same held s.0 (sym are ∙ s.1.1) ∙ some_same s.0 wanted (sym s.1.0 ∙ taken)),
+-- a local that holds a type
+pub held_is : (o : Option (ValType ℕ)) (held ty : DeclaredValType) (r : Bool) → Some (val_type held) ≡ o → r ≡ (equality.ghosts).eq held ty → IsTrue r ↔ (o ≡ Some (val_type ty))
+held_is o held ty r at is = (
+  λ h. sym at ∙ ap (λ (v : ValType ℕ). Some v) ((val_same held ty).0 (sym is ∙ h)),
+  λ h. is ∙ (val_same held ty).1 (some_same (val_type held) (val_type ty) (at ∙ h)),
+)
+
+-- one that isn't there
+pub held_none : (o : Option (ValType ℕ)) (v : ValType ℕ) → None ≡ o → IsTrue false ↔ (o ≡ Some v)
+held_none o v at = (λ h. absurd cc, λ h. let wrong : None ≡ Some v = at ∙ h in absurd cc)
+
+-- locals and types, each seen through two functions
+module _ {A B C D E : Type 0} (f : B → E) (h : A → B) (g : D → E) (k : C → D) where
+  -- what is the same all along is the same at each place
+  pub same_at : (xs : List A) (ys : List C) (i : ℕ) (d : A) (e : C) → i < length xs → i < length ys → map f (map h xs) ≡ map g (map k ys) → f (h (slice_index_or xs i d)) ≡ g (k (slice_index_or ys i e))
+  same_at [] ys i d e low high all = absurd (omega (arith, low))
+  same_at (x ∷ xs) [] i d e low high all = absurd (omega (arith, high))
+  same_at (x ∷ xs) (y ∷ ys) zero d e low high all = head_same _ _ _ _ all
+  same_at (x ∷ xs) (y ∷ ys) (suc i) d e low high all = same_at xs ys i d e (omega (arith, low)) (omega (arith, high)) (tail_same _ _ _ _ all)
+
+  -- lists of the same are as long
+  pub as_long : (xs : List A) (ys : List C) → map f (map h xs) ≡ map g (map k ys) → length xs ≡ length ys
+  as_long xs ys all = sym (length-map xs h) ∙ sym (length-map (map h xs) f) ∙ ap length all ∙ length-map (map k ys) g ∙ length-map ys k
+
+  -- the same up to the next place
+  pub same_more : (xs : List A) (ys : List C) (i : ℕ) (d : A) (e : C) → i < length xs → i < length ys → map f (map h (take i xs)) ≡ map g (map k (take i ys)) → f (h (slice_index_or xs i d)) ≡ g (k (slice_index_or ys i e)) → map f (map h (take (i + 1) xs)) ≡ map g (map k (take (i + 1) ys))
+  same_more xs ys i d e low high so_far this =
+      ap (map f) (map_more h xs i d low)
+      ∙ map_snoc f (map h (take i xs)) (h (slice_index_or xs i d))
+      ∙ ap₂ (λ (os : List E) (o : E). os ++ o ∷ []) so_far this
+      ∙ sym (ap (map g) (map_more k ys i e high) ∙ map_snoc g (map k (take i ys)) (k (slice_index_or ys i e)))
+
+  -- the same to the end
+  pub same_all : (xs : List A) (ys : List C) (i : ℕ) → length xs ≤ i → length ys ≤ i → map f (map h (take i xs)) ≡ map g (map k (take i ys)) → map f (map h xs) ≡ map g (map k ys)
+  same_all xs ys i past over all = ap (λ (zs : List A). map f (map h zs)) (sym (take_all i xs past)) ∙ all ∙ ap (λ (zs : List C). map g (map k zs)) (take_all i ys over)
+
+pub fit : (def : Option TypeDef) (slots : List (Option (ValType ℕ))) (parameters : List ℕ) (wanted : List (ValType ℕ)) (r : Bool) → takes def ≡ Some wanted → (IsTrue r ↔ (map (item_at slots) parameters ≡ map Some wanted)) → IsTrue r ↔ HasSignature def slots parameters
+fit def slots parameters wanted r taken same = (
+  λ h. (wanted, (taken, same.0 h)),
+  λ s. same.1 (s.1.1 ∙ ap (map Some) (some_same s.0 wanted (sym s.1.0 ∙ taken))),
 )
 
 -- ---- locals that are there

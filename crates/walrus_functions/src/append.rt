@@ -258,7 +258,7 @@ fn append_kept(
     function.args_are_first();
     let order = text.locals(alloc)?;
     let (parameters, declared) = order.as_slice().split_at(function.arg_count());
-    let fits = parameters_fit(alloc, function, parameters, types, module_locals)?;
+    let fits = parameters_fit(function, parameters, types, module_locals);
     if !fits {
         return Err(IrError::NotWritable);
     }

@@ -58,7 +58,7 @@ pub(crate) fn types_at(
     ensures { IfOk result (λ found. AreTypes (types_of (locals module_locals.now)) (map place ids.now)
         (option_map (λ types. map val_type types.items) found)) }
 {
-    let mut types = Vec::new(alloc);
+    let mut types = Vec::with_capacity(alloc, ids.len())?;
     for id in ids {
         let Some(ty) = type_at(module_locals, *id) else {
             return Ok(None);
@@ -140,7 +140,7 @@ fn typed_locals(
     ensures distinct { IfOk result (λ found. IsDistinct same_local found.items) }
     ensures rising { IfOk result (λ found. IsStrictlySortedBy nat_cmp (map (λ e. e.0) found.items)) }
 {
-    let mut found = Vec::new(alloc);
+    let mut found = Vec::with_capacity(alloc, named.len())?;
     for id in named {
         if parameters.contains(id.index()) {
             continue;

@@ -1,10 +1,11 @@
 //! Writing the body of a function (Binary Format > Modules > Code Section).
-ghost use Rattle.std.specs.Prelude.{◌≡◌, ◌<◌, ◌++◌, ◌↔◌, ◌^◌, [], ℕ, List, Option, true, length, map, All, IfOk, IsSome, IsTrue};
+ghost use Rattle.std.specs.Prelude.{◌≡◌, ◌<◌, ◌++◌, ◌↔◌, ◌^◌, [], ℕ, List, Option, Some, true, length, map, All, IfOk, IsSome, IsTrue};
 ghost use Rattle.walrus_base.specs.Arena.{item_at};
 ghost use Rattle.walrus_base.specs.Id.{place};
 ghost use Rattle.walrus_base.specs.Operators.{locals_of};
 ghost use Rattle.walrus_base.specs.Locals.{locals};
 ghost use Rattle.walrus_base.specs.ModuleTypes.{type_slots};
+ghost use Rattle.walrus_base.specs.Value.{val_type};
 ghost use Rattle.walrus_bodies.specs.Function.{function_type, body_of, locations_of, args_of};
 ghost use Rattle.walrus_code.specs.Indices.{index_of, local_index};
 ghost use Rattle.walrus_bodies.specs.Declarations.{declarations_of};
@@ -15,10 +16,10 @@ ghost use Rattle.walrus_functions.specs.EmittedBody.{EmitsBody, source_of, types
 ghost use Rattle.walrus_functions.specs.Writing.{HasSignature, FindsDeclared, DeclaresLocals, WritesBehind};
 
 use crate::code::{Code, append_code, code_holds, code_locals, code_of, code_uses, likely_length};
-use crate::declared::{distinct_places, order_declared, types_at};
+use crate::declared::{distinct_places, order_declared, type_at, types_at};
 use crate::groups::{declarations, number_locals, runs};
 use std::alloc::{AllocError, Global};
-use walrus_base::{LocalId, ModuleLocals, ModuleTypes};
+use walrus_base::{LocalId, ModuleLocals, ModuleTypes, ValType};
 use walrus_bodies::{Declaration, Features, LocalFunction};
 use walrus_code::{IdsToIndices, InstrLocId, IrError, LocalNumbers};
 use wasm_forms::write_vector;
@@ -161,7 +162,7 @@ pub(crate) fn append_all(
 {
     let parameters = function.args(alloc)?;
     let args = parameters.as_slice();
-    let fits = parameters_fit(alloc, function, args, types, module_locals)?;
+    let fits = parameters_fit(function, args, types, module_locals);
     if !fits {
         return Err(IrError::NotWritable);
     }
@@ -198,30 +199,54 @@ pub(crate) fn append_all(
     )
 }
 
+// Whether a local is there and holds this type.
+fn is_of_type(module_locals: &ModuleLocals, id: LocalId, ty: ValType) -> bool
+    ensures { IsTrue result
+        ↔ (item_at (types_of (locals module_locals.now)) (place id) ≡ Some (val_type ty)) }
+{
+    let Some(held) = type_at(module_locals, id) else {
+        return false;
+    };
+    held == ty
+}
+
+// Whether locals are there and hold these types, one each.
+fn are_of_types(module_locals: &ModuleLocals, ids: &[LocalId], wanted: &[ValType]) -> bool
+    ensures { IsTrue result
+        ↔ (map (item_at (types_of (locals module_locals.now))) (map place ids.now)
+        ≡ map Some (map val_type wanted.now)) }
+{
+    let count = ids.len();
+    if wanted.len() != count {
+        return false;
+    }
+    'ids: for index in 0..count {
+        if !is_of_type(module_locals, ids[index], wanted[index]) {
+            return false;
+        }
+    }
+    true
+}
+
 // Whether the function's type takes what its parameters hold.
 pub(crate) fn parameters_fit(
-    alloc: Global,
     function: &LocalFunction,
     args: &[LocalId],
     types: &ModuleTypes,
     module_locals: &ModuleLocals,
-) -> Result<bool, AllocError>
+) -> bool
     requires { map place args.now ≡ args_of function.now }
-    ensures { IfOk result
-        (λ fit. IsTrue fit
+    ensures { IsTrue result
         ↔ HasSignature (item_at (type_slots types.now) (place (function_type function.now)))
-        (types_of (locals module_locals.now)) (args_of function.now)) }
+        (types_of (locals module_locals.now)) (args_of function.now) }
 {
     if !types.contains(function.ty()) {
-        return Ok(false);
+        return false;
     }
     let Some(signature) = types.get(function.ty()).as_function() else {
-        return Ok(false);
+        return false;
     };
-    let Some(held) = types_at(alloc, module_locals, args)? else {
-        return Ok(false);
-    };
-    Ok(held.as_slice() == signature.params())
+    are_of_types(module_locals, args, signature.params())
 }
 
 // The locals that the function declares, in their order, where its parameters differ. These are named by its operators, each once.
@@ -247,7 +272,7 @@ fn find_declared(
 fn joined(alloc: Global, args: &[LocalId], declared: &[LocalId]) -> Result<Vec<LocalId>, AllocError>
     ensures { IfOk result (λ all. all.items ≡ args.now ++ declared.now) }
 {
-    let mut all = Vec::new(alloc);
+    let mut all = Vec::with_capacity(alloc, args.len().saturating_add(declared.len()))?;
     all.extend_from_slice(args)?;
     all.extend_from_slice(declared)?;
     Ok(all)

@@ -145,7 +145,7 @@ pub(crate) fn marked_locals(
     requires { first + length marks.now < 2 ^ 64 }
     ensures { IfOk result (λ named. map place named.items ≡ marked first marks.now) }
 {
-    let mut named = Vec::new(alloc);
+    let mut named = Vec::with_capacity(alloc, marks.len())?;
     'places: for offset in 0..marks.len() {
         push_if(&mut named, marks[offset], first + offset)?;
     }

@@ -49,8 +49,8 @@ split_at-requires c =
     let slice = ap length c.as_slice.ensures.value in
     omega (arith, within, many, slice, c.arg_count.ensures)
 
-pub parameters_fit-requires : goal.parameters_fit-requires
-parameters_fit-requires c =
+pub parameters_fit-fits-requires : goal.parameters_fit-fits-requires
+parameters_fit-fits-requires c =
     let f = c.args.function.now in
     let t = c.args.text.now in
     let ids = c.in_ok-order.order.items in
@@ -61,13 +61,10 @@ parameters_fit-requires c =
     ∙ written.front place ids (first_local_of t) (local_count_of t) (arg_count_of f) c.in_ok-order.ensures c.requires.kept.within
     ∙ sym args_are
 
-pub returns-in_err-fits : goal.returns-in_err-fits
-returns-in_err-fits c = let p = err_from_is_err_and c.from_residual-in_err-fits.result c.from_residual-in_err-fits.ensures.1 in rw (p.1, p.2) ([], [], (λ _. None), (tt, tt))
-
 pub returns-then-not-fits : goal.returns-then-not-fits
 returns-then-not-fits c =
     let s = source_of c.args.indices.now c.args.module_locals.now c.args.types.now c.args.function.now c.args.features.now in
-    let unfit : FitsType s.def s.slots s.parameters → ⊥ = (λ fits. untrue _ (c.in_ok-fits.ensures.1 (fits.types, (fits.taken, fits.typed))) c.if-not-fits.true) in
+    let unfit : FitsType s.def s.slots s.parameters → ⊥ = (λ fits. untrue _ (c.parameters_fit-fits.ensures.1 (fits.types, (fits.taken, fits.typed))) c.if-not-fits.true) in
     ([], [], (λ _. None), (inr (inr (inl unfit)), tt))
 
 pub returns-in_err-hold : goal.returns-in_err-hold
@@ -195,7 +192,7 @@ returns-in_err-write_kept c =
     let ds = declarations_of c.in_ok-declarations.declarations.items in
     let all = c.in_err-write_kept.ensures numbers s.features (written.agree s flags first params count marked c.requires.many k c.requires.few args_are) in
     let cause = same_ground {Y = Unit {0}} s.names numbers s.features s.ops (ops_in t) c.in_ok-declarations.declarations.items c.as_slice-2.result.now (λ _. all.0) (λ _. all.1) (Err c.in_err-write_kept.field-0.0) c.requires.body c.as_slice-2.ensures.value all.2.0 in
-    made s flags first params count k marked c.requires.many c.requires.few args_are c.in_ok-order.order.items c.as_slice.result.now c.split_at.result.1.now c.arg_count.result c.in_ok-order.ensures c.as_slice.ensures.value c.arg_count.ensures c.split_at.ensures.back ds c.in_ok-declarations.ensures (c.in_ok-fits.ensures.0 c.if-not-fits.false) (ap (blocks_hold (is_function_at c.args.types.now)) c.requires.body ∙ sym c.in_ok-hold.ensures ∙ c.if-not-hold.false)
+    made s flags first params count k marked c.requires.many c.requires.few args_are c.in_ok-order.order.items c.as_slice.result.now c.split_at.result.1.now c.arg_count.result c.in_ok-order.ensures c.as_slice.ensures.value c.arg_count.ensures c.split_at.ensures.back ds c.in_ok-declarations.ensures (c.parameters_fit-fits.ensures.0 c.if-not-fits.false) (ap (blocks_hold (is_function_at c.args.types.now)) c.requires.body ∙ sym c.in_ok-hold.ensures ∙ c.if-not-hold.false)
     c.write_kept.new.to.items c.args.to.now.items (λ (body : AppendedBody). map place body.order.items) (λ (body : AppendedBody). body.used.items) c.from_residual-in_err-write_kept.result (rw p.1 tt)
     (all.0, all.1, (refused_behind {Y = AppendedBody} {Z = Unit {0}} s.names numbers s.features s.ops ds (λ _. all.0) (λ _. all.1) (λ _. all.0) (λ _. all.1) c.from_residual-in_err-write_kept.result c.in_err-write_kept.field-0.0 c.from_residual-in_err-write_kept.ensures.1 cause, rw p.1 tt))
 
@@ -215,6 +212,6 @@ returns c =
     let ds = declarations_of c.in_ok-declarations.declarations.items in
     let all = c.in_ok-write_kept.ensures numbers s.features (written.agree s flags first params count marked c.requires.many k c.requires.few args_are) in
     let behind = same_ground {Y = Unit {0}} s.names numbers s.features s.ops (ops_in t) c.in_ok-declarations.declarations.items c.as_slice-2.result.now (λ _. all.0) (λ _. all.1) (Ok tt) c.requires.body c.as_slice-2.ensures.value all.2.0 in
-    made s flags first params count k marked c.requires.many c.requires.few args_are c.in_ok-order.order.items c.as_slice.result.now c.split_at.result.1.now c.arg_count.result c.in_ok-order.ensures c.as_slice.ensures.value c.arg_count.ensures c.split_at.ensures.back ds c.in_ok-declarations.ensures (c.in_ok-fits.ensures.0 c.if-not-fits.false) (ap (blocks_hold (is_function_at c.args.types.now)) c.requires.body ∙ sym c.in_ok-hold.ensures ∙ c.if-not-hold.false)
+    made s flags first params count k marked c.requires.many c.requires.few args_are c.in_ok-order.order.items c.as_slice.result.now c.split_at.result.1.now c.arg_count.result c.in_ok-order.ensures c.as_slice.ensures.value c.arg_count.ensures c.split_at.ensures.back ds c.in_ok-declarations.ensures (c.parameters_fit-fits.ensures.0 c.if-not-fits.false) (ap (blocks_hold (is_function_at c.args.types.now)) c.requires.body ∙ sym c.in_ok-hold.ensures ∙ c.if-not-hold.false)
     c.write_kept.new.to.items c.args.to.now.items (λ (body : AppendedBody). map place body.order.items) (λ (body : AppendedBody). body.used.items) (Ok (record { order = c.in_ok-order.order; used = c.args.used })) (refl, refl)
     (all.0, all.1, (behind, all.2.1))

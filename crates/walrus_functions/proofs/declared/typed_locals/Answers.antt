@@ -61,9 +61,9 @@ loop-id-preserved c =
 
 pub loop-id-init : goal.loop-id-init
 loop-id-init c = record {
-  so_far = none-typed (types_of (locals c.args.module_locals.now)) (is_taken c.args.parameters.now) c.new-found.result.items c.new-found.ensures.items;
-  distinct = none-distinct c.new-found.result.items c.new-found.ensures.items;
-  rising = subst (λ (es : List (ℕ × DeclaredValType)). IsStrictlySortedBy nat_cmp (map (λ e. e.0) es ++ map place c.args.named.now)) (sym c.new-found.ensures.items) c.requires.rising;
+  so_far = none-typed (types_of (locals c.args.module_locals.now)) (is_taken c.args.parameters.now) c.in_ok-found.found.items c.in_ok-found.ensures.items;
+  distinct = none-distinct c.in_ok-found.found.items c.in_ok-found.ensures.items;
+  rising = subst (λ (es : List (ℕ × DeclaredValType)). IsStrictlySortedBy nat_cmp (map (λ e. e.0) es ++ map place c.args.named.now)) (sym c.in_ok-found.ensures.items) c.requires.rising;
 }
 
 pub returns-clause-rising : goal.returns-clause-rising

@@ -25,10 +25,13 @@ types_more slot ids i d had now ty below so_far this is =
     ∙ sym (ap (λ (ts : List DeclaredValType). map Some (map val_type ts)) is ∙ ap (map Some) (map_snoc val_type had ty) ∙ map_snoc Some (map val_type had) (val_type ty))
 
 pub loop-id-init : goal.loop-id-init
-loop-id-init c = sym (ap (λ (ts : List DeclaredValType). map Some (map val_type ts)) c.new-types.ensures.items)
+loop-id-init c = sym (ap (λ (ts : List DeclaredValType). map Some (map val_type ts)) c.in_ok-types.ensures.items)
 
 pub returns-in_err-push : goal.returns-in_err-push
-returns-in_err-push c = let p = err_from_is_err_and c.from_residual.result c.from_residual.ensures.1 in rw p.1 tt
+returns-in_err-push c = let p = err_from_is_err_and c.from_residual-in_err-push.result c.from_residual-in_err-push.ensures.1 in rw p.1 tt
+
+pub returns-in_err-types : goal.returns-in_err-types
+returns-in_err-types c = let p = err_from_is_err_and c.from_residual.result c.from_residual.ensures.1 in rw p.1 tt
 
 pub loop-id-preserved : goal.loop-id-preserved
 loop-id-preserved c = types_more (item_at (types_of (locals c.args.module_locals.now))) c.args.ids.now c.loop-id.id-index _ c.loop-id.types.items c.push.new.self.items c.in-Some.ty c.loop-id-test.true c.loop-id.invariant c.in-Some.ensures c.in_ok-push.ensures.items

@@ -146,7 +146,7 @@ returns-clause-written c =
     let bytes = c.write_body.ensures.written.0 in
     let places = c.write_body.ensures.written.1 in
     let made = emitted s order c.in_ok-declared.ensures.1 ds written
-    (fits_type s (c.in_ok-fits.ensures.0 c.if-not-fits.false) c.in_ok-declared.ensures.0)
+    (fits_type s (c.parameters_fit-fits.ensures.0 c.if-not-fits.false) c.in_ok-declared.ensures.0)
     (ap (blocks_hold (is_function_at c.args.types.now)) (sym c.requires.body) ∙ sym c.in_ok-hold.ensures ∙ c.if-not-hold.false)
     few numbers
     (λ x. c.in_ok-locals.ensures x ∙ ap (λ (ps : List ℕ). place_in ps x) (ap (map place) c.as_slice-4.ensures.value ∙ are))
@@ -156,12 +156,6 @@ returns-clause-written c =
     (known c.in_ok-locals.locals c.in_ok-all.all c.in_ok-used.used c.write_body.result (all_known (λ body. body.locals) (λ body. body.order) (λ body. body.used) c.in_ok-locals.locals c.in_ok-all.all c.in_ok-used.used c.write_body.result c.write_body.ensures.numbered c.write_body.ensures.ordered c.write_body.ensures.marked))
     (rw (c.requires.body, c.as_slice-7.ensures.value) at c.write_body.ensures.written.2.0) in
     (bytes, places, (made, c.write_body.ensures.written.2.1))
-
-pub returns-in_err-fits-clause-written : goal.returns-in_err-fits-clause-written
-returns-in_err-fits-clause-written c = let p = err_from_is_err_and c.from_residual-in_err-fits.result c.from_residual-in_err-fits.ensures.1 in rw (p.1, p.2) ([], [], (tt, tt))
-
-pub returns-in_err-fits-clause-located : goal.returns-in_err-fits-clause-located
-returns-in_err-fits-clause-located c = let p = err_from_is_err_and c.from_residual-in_err-fits.result c.from_residual-in_err-fits.ensures.1 in rw p.1 tt
 
 pub returns-in_err-all-clause-written : goal.returns-in_err-all-clause-written
 returns-in_err-all-clause-written c = let p = err_from_is_err_and c.from_residual-in_err-all.result c.from_residual-in_err-all.ensures.1 in rw (p.1, p.2) ([], [], (tt, tt))
@@ -208,7 +202,7 @@ returns-in_err-used-clause-located c = let p = err_from_is_err_and c.from_residu
 pub returns-then-not-fits-clause-written : goal.returns-then-not-fits-clause-written
 returns-then-not-fits-clause-written c =
     let s = source_of c.args.indices.now c.args.module_locals.now c.args.types.now c.args.function.now c.args.features.now in
-    let unfit : FitsType s.def s.slots s.parameters → ⊥ = (λ fits. untrue _ (c.in_ok-fits.ensures.1 (fits.types, (fits.taken, fits.typed))) c.if-not-fits.true) in
+    let unfit : FitsType s.def s.slots s.parameters → ⊥ = (λ fits. untrue _ (c.parameters_fit-fits.ensures.1 (fits.types, (fits.taken, fits.typed))) c.if-not-fits.true) in
     ([], [], (inr (inr (inl unfit)), tt))
 
 pub returns-then-not-hold-clause-written : goal.returns-then-not-hold-clause-written
