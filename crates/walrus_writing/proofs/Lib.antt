@@ -60,6 +60,7 @@ pub mod TypesEntered
 pub mod UsedRows
 pub mod WithCustoms
 pub mod WrittenAs
+pub mod WritesSections
 pub mod WrittenLemmas
 pub mod NamesLemmas
 pub mod PlacedNames

@@ -7,6 +7,7 @@
 #![tactic(auto)]
 
 mod bodies;
+mod by_section;
 mod customs;
 mod data;
 mod elements;
@@ -21,6 +22,7 @@ mod located;
 mod memories;
 mod names;
 mod offsets;
+mod one_section;
 mod producers;
 mod start;
 mod tables;
