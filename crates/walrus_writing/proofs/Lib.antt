@@ -1,3 +1,4 @@
+pub mod AppendedBodies
 pub mod Bare
 pub mod BodiesTold
 pub mod CarriedOver

@@ -23,7 +23,7 @@ use Rattle.walrus_items.specs.Globals.{globals}
 use Rattle.walrus_items.specs.Memories.{memories}
 use Rattle.walrus_items.specs.Tables.{tables}
 use Rattle.walrus_items.specs.Tags.{tags}
-use Rattle.walrus_writing.specs.BySection.{AreElements, AreExports, AreGlobals, AreImports, AreMemories, AreSegments, AreTables, AreTags, Stand, Told, Writes, WritesAll, told_module}
+use Rattle.walrus_writing.specs.BySection.{AreElements, AreExports, AreGlobals, AreImports, AreMemories, AreSegments, AreTables, AreTags, Stand, Told, Writes, WritesAll, WritesBack, WritesFront, told_module}
 
 -- ---- one section
 
@@ -31,11 +31,6 @@ use Rattle.walrus_writing.specs.BySection.{AreElements, AreExports, AreGlobals, 
 pub wrote : {W E : Type 0} (make : List E → Section) (view : List W → List E) (Said : List W → Type 0) (raw lent : List W) (old new : List ℕ)
     → lent ≡ raw → Said raw → (new ≡ old ++ listed make (view lent)) × SectionFits (make (view lent)) → Writes make view Said old new
 wrote make view Said raw lent old new same said w = record { raw = raw; said = said; appends = subst (λ l. new ≡ old ++ listed make (view l)) same w.0; fits = subst (λ l. SectionFits (make (view l))) same w.1 }
-
--- the section that lists these
-pub stands : {A : Type 0} (make : List A → Section) (xs ys : List A) (old new : List ℕ)
-    → xs ≡ ys → (new ≡ old ++ listed make xs) × SectionFits (make xs) → Stand old new (if_any make ys) × SectionFits (make ys)
-stands make xs ys old new same w = (listed_first old new make xs ys same w.0, subst (λ l. SectionFits (make l)) same w.1)
 
 -- the section of a number, where there is one
 pub given : (make : ℕ → Section) (n : ℕ) (old new : List ℕ) → new ≡ old ++ spelled (make n) → SectionFits (make n)
@@ -132,6 +127,14 @@ all_stand p names functions start count bodies customs w0 w1 w2 w3 w4 w5 w6 w7 w
         customs = fit;
       };
     }
+
+-- those before the code, and those from the code on
+pub both_stand : (p : Parts) (names : Lookup) (functions : List ℕ) (start count : Option ℕ) (bodies : List wire.Body) (customs : List wire.Custom) (old front bytes all : List ℕ)
+    → WritesFront p names functions start count customs old front → bytes ≡ front → WritesBack p names bodies customs bytes all → WritesAll p names functions start count bodies customs old all
+both_stand p names functions start count bodies customs old front bytes all f same back =
+    let b = subst (λ (l : List ℕ). WritesBack p names bodies customs l all) same back in
+    all_stand p names functions start count bodies customs old f.behind_dylinks f.behind_types f.behind_imports f.behind_functions f.behind_tables f.behind_memories f.behind_tags f.behind_globals f.behind_exports f.behind_start f.behind_elements front b.behind_code b.behind_segments b.behind_names b.behind_producers all
+    f.fit f.dylinks_stand f.types_stand f.imports_stand f.functions_stand f.tables_stand f.memories_stand f.tags_stand f.globals_stand f.exports_stand f.start_stands f.elements_stand f.count_stands b.code_stands b.segments_stand b.names_stand b.producers_stand b.others_stand
 
 -- ---- the bytes
 

@@ -9,11 +9,12 @@ use Rattle.wasm_entries.specs.declared.record.RawTable.{RawTable}
 use Rattle.wasm_entries.specs.Record.{Group, data_entry, element_entry, export_entry, global_entry, import_entry, table_entry}
 use Rattle.wasm_entries.specs.Spelling.{DataStands, ElementStands, GlobalStands, TableStands}
 use Rattle.wasm_entries.specs.TypeSpelling.{LimitsStand}
-use Rattle.wasm_frames.specs.Frames.{Section}
+use Rattle.wasm_frames.specs.Frames.{Section, CustomSection, Types, Imports, Functions, Tables, Memories, Globals, Exports, Start, Elements, Code, DataSegments, DataCount, Tags}
 use Rattle.wasm_frames.specs.Record as wire
 use Rattle.wasm_writer.specs.Spelling.{SectionFits, all_spelled, listed}
-use Rattle.wasm_wire.specs.ModuleSpelling.{ModuleFits, sections_in_order}
-use Rattle.std.specs.Prelude.{ℕ, List, ◌++◌, Option, Some, None, All, map, ◌≡◌, ⊤, Result, Ok, Err}
+use Rattle.wasm_wire.specs.ModuleSpelling.{ModuleFits, group_of, if_any, if_given, sections_in_order}
+use Rattle.wasm_wire.specs.declared.written.CustomGroup.TheVariants.{Dylink, Names, Producers, Others}
+use Rattle.std.specs.Prelude.{ℕ, List, ◌++◌, Option, Some, None, IfSome, All, map, ◌≡◌, ⊤, Result, Ok, Err}
 use Rattle.std.specs.List.{AllZip}
 use Rattle.std.specs.Str.{IsUtf8}
 use Rattle.walrus_base.specs.Arena.{entries, items}
@@ -99,6 +100,45 @@ pub record Writes {W E : Type 0} (make : List E → Section) (view : List W → 
 -- these sections stand behind what was there
 abbrev pub Stand : List ℕ → List ℕ → List Section → Type 0
 Stand old new ss = new ≡ old ++ all_spelled ss
+
+-- the sections before the code stand one behind the other behind what was there, and each fits, the custom sections among them
+pub record WritesFront (p : Parts) (names : Lookup) (functions : List ℕ) (start count : Option ℕ) (customs : List wire.Custom) (old new : List ℕ) : Type 0 where
+  pub fit : All (λ c. SectionFits (CustomSection c)) customs
+  pub behind_dylinks : List ℕ
+  pub dylinks_stand : Stand old behind_dylinks (map CustomSection (group_of Dylink customs))
+  pub behind_types : List ℕ
+  pub types_stand : Writes Types (λ l. l) (AreIndexed names (items (type_slots p.types.now))) behind_dylinks behind_types
+  pub behind_imports : List ℕ
+  pub imports_stand : Writes Imports (map import_entry) (AreImports p names) behind_types behind_imports
+  pub behind_functions : List ℕ
+  pub functions_stand : (behind_functions ≡ behind_imports ++ listed Functions functions) × SectionFits (Functions functions)
+  pub behind_tables : List ℕ
+  pub tables_stand : Writes Tables (map table_entry) (AreTables names (items (tables p.tables.now))) behind_functions behind_tables
+  pub behind_memories : List ℕ
+  pub memories_stand : Writes Memories (λ l. l) (AreMemories (items (memories p.memories.now))) behind_tables behind_memories
+  pub behind_tags : List ℕ
+  pub tags_stand : Writes Tags (λ l. l) (AreTags names (items (tags p.tags.now))) behind_memories behind_tags
+  pub behind_globals : List ℕ
+  pub globals_stand : Writes Globals (map global_entry) (AreGlobals names (items (globals p.globals.now))) behind_tags behind_globals
+  pub behind_exports : List ℕ
+  pub exports_stand : Writes Exports (map export_entry) (AreExports names (items (exports p.exports.now))) behind_globals behind_exports
+  pub behind_start : List ℕ
+  pub start_stands : Stand behind_exports behind_start (if_given Start start) × IfSome start (λ f. SectionFits (Start f))
+  pub behind_elements : List ℕ
+  pub elements_stand : Writes Elements (map element_entry) (AreElements names (parts_view p).tables (items (elements p.elements.now))) behind_start behind_elements
+  pub count_stands : Stand behind_elements new (if_given DataCount count) × IfSome count (λ n. SectionFits (DataCount n))
+
+-- and so do those from the code on
+pub record WritesBack (p : Parts) (names : Lookup) (bodies : List wire.Body) (customs : List wire.Custom) (old new : List ℕ) : Type 0 where
+  pub behind_code : List ℕ
+  pub code_stands : Stand old behind_code (if_any Code bodies) × SectionFits (Code bodies)
+  pub behind_segments : List ℕ
+  pub segments_stand : Writes DataSegments (map data_entry) (AreSegments names (items (data_segments p.data_.now))) behind_code behind_segments
+  pub behind_names : List ℕ
+  pub names_stand : Stand behind_segments behind_names (map CustomSection (group_of Names customs))
+  pub behind_producers : List ℕ
+  pub producers_stand : Stand behind_names behind_producers (map CustomSection (group_of Producers customs))
+  pub others_stand : Stand behind_producers new (map CustomSection (group_of Others customs))
 
 -- the records of the sections that only the parts and the indices tell
 pub record Told (p : Parts) (names : Lookup) : Type 0 where

@@ -9,18 +9,18 @@ ghost use Rattle.walrus_code.specs.Indices.{index_of};
 ghost use Rattle.walrus_contents.specs.View.{parts_view};
 ghost use Rattle.walrus_model.specs.Dead.{HasDead};
 ghost use Rattle.walrus_writing.specs.Bodies.{texts_of};
-ghost use Rattle.walrus_writing.specs.BySection.{GivesOrNone, WritesAll};
+ghost use Rattle.walrus_writing.specs.BySection.{GivesOrNone, WritesBack, WritesFront};
 ghost use Rattle.walrus_writing.specs.Customs.{task};
 ghost use Rattle.walrus_writing.specs.Parts.{unplaced};
 ghost use Rattle.walrus_writing.specs.Records.{FollowPlan, HasPlan, Spells};
 ghost use Rattle.walrus_writing.specs.declared.write.Choices.{Choices};
 
+use crate::behind::{append_customs, make_room, write_bodies, write_data};
 use crate::customs::raw_customs;
 use crate::joined::WrittenBodies;
 use crate::one_section::{
-    measure_customs, write_bodies, write_count, write_customs, write_data, write_elements,
-    write_exports, write_globals, write_imports, write_memories, write_start, write_tables,
-    write_tags, write_types,
+    measure_customs, write_count, write_customs, write_elements, write_exports, write_globals,
+    write_imports, write_memories, write_start, write_tables, write_tags, write_types,
 };
 use crate::start::raw_start;
 use crate::write::Made;
@@ -32,23 +32,21 @@ use wasm_frames::RawCustom;
 use wasm_wire::CustomGroup;
 use wasm_writer::Writer;
 
-// All sections of items that name nothing dead, by the indices that a plan of them gives, in their order, each from records of its own.
-fn write_sections(
+// The sections before the code, of items that name nothing dead, by the indices that a plan of them gives, each from records of its own.
+fn write_front(
     alloc: Global,
     to: &mut Writer,
     parts: Parts<'_>,
     indices: &IdsToIndices,
     count: Option<u32>,
     functions: &[u32],
-    bodies: &WrittenBodies,
     customs: &[RawCustom<'_>],
 ) -> Result<()>
     requires there { HasDead (parts_view parts) → ⊥ }
     requires planned { HasPlan parts indices.now count }
-    ensures { OnOk result (WritesAll parts.entry (index_of indices.now) functions.now
+    ensures { OnOk result (WritesFront parts.entry (index_of indices.now) functions.now
         (option_and_then (index_of indices.now Functions) (option_map place parts.entry.start)) count
-        (map unplaced (texts_of bodies.now)) (map custom_record customs.now)
-        (written to.old) (written to.new)) }
+        (map custom_record customs.now) (written to.old) (written to.new)) }
 {
     measure_customs(customs)?;
     write_customs(to, CustomGroup::Dylink, customs)?;
@@ -63,11 +61,31 @@ fn write_sections(
     write_start(to, raw_start(parts.start, indices))?;
     write_elements(alloc, to, parts.elements, parts.tables, indices)?;
     write_count(to, count)?;
-    write_bodies(alloc, to, bodies)?;
+    Ok(())
+}
+
+// The sections from the code on, of the same items.
+fn write_back(
+    alloc: Global,
+    to: &mut Vec<u8>,
+    parts: Parts<'_>,
+    indices: &IdsToIndices,
+    count: Option<u32>,
+    bodies: &WrittenBodies,
+    customs: &[RawCustom<'_>],
+) -> Result<()>
+    requires there { HasDead (parts_view parts) → ⊥ }
+    requires planned { HasPlan parts indices.now count }
+    ensures { OnOk result (WritesBack parts.entry (index_of indices.now)
+        (map unplaced (texts_of bodies.now)) (map custom_record customs.now)
+        to.old.items to.new.items) }
+{
+    make_room(to, bodies, parts.data_, customs)?;
+    write_bodies(to, bodies)?;
     write_data(alloc, to, parts.data_, indices)?;
-    write_customs(to, CustomGroup::Names, customs)?;
-    write_customs(to, CustomGroup::Producers, customs)?;
-    write_customs(to, CustomGroup::Others, customs)?;
+    append_customs(to, CustomGroup::Names, customs)?;
+    append_customs(to, CustomGroup::Producers, customs)?;
+    append_customs(to, CustomGroup::Others, customs)?;
     Ok(())
 }
 
@@ -96,17 +114,10 @@ fn bytes_by_section<'a>(
     let bodies = &made.bodies;
     let mut writer = Writer::new(alloc);
     writer.header()?;
-    write_sections(
-        alloc,
-        &mut writer,
-        parts,
-        indices,
-        count,
-        functions,
-        bodies,
-        listed,
-    )?;
-    Ok(writer.finish())
+    write_front(alloc, &mut writer, parts, indices, count, functions, listed)?;
+    let mut bytes = writer.finish();
+    write_back(alloc, &mut bytes, parts, indices, count, bodies, listed)?;
+    Ok(bytes)
 }
 
 /// The bytes of the module of items that name nothing dead, by the indices that a plan of them gives, where no transform is asked for; none

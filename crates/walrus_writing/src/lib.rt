@@ -6,6 +6,7 @@
 //! Where it is well made and nothing is undeclared, they read as it. The code transform, where it is asked for, is that of these bytes.
 #![tactic(auto)]
 
+mod behind;
 mod bodies;
 mod by_section;
 mod customs;

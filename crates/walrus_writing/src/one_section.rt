@@ -22,18 +22,14 @@ ghost use Rattle.walrus_items.specs.Memories.{memories};
 ghost use Rattle.walrus_items.specs.Tables.{tables};
 ghost use Rattle.walrus_items.specs.Tags.{tags};
 ghost use Rattle.walrus_plan.specs.Brought.{own_of};
-ghost use Rattle.walrus_writing.specs.Bodies.{texts_of};
 ghost use Rattle.walrus_writing.specs.BySection.{AreElements, AreExports, AreGlobals, AreImports, AreMemories, AreSegments, AreTables, AreTags, Stand, Writes};
 ghost use Rattle.walrus_writing.specs.Imported.{ImportsIndexed};
 ghost use Rattle.walrus_writing.specs.Parts.{export_with_index, tag_index, unplaced};
 
-use crate::bodies::raw_bodies;
-use crate::data::raw_data;
 use crate::elements::raw_elements;
 use crate::exports::raw_exports;
 use crate::globals::raw_globals;
 use crate::imports::raw_imports;
-use crate::joined::WrittenBodies;
 use crate::memories::raw_memories;
 use crate::tables::raw_tables;
 use crate::tags::raw_tags;
@@ -43,8 +39,7 @@ use walrus_base::ModuleTypes;
 use walrus_code::IdsToIndices;
 use walrus_contents::Parts;
 use walrus_items::{
-    ModuleData, ModuleElements, ModuleExports, ModuleGlobals, ModuleMemories, ModuleTables,
-    ModuleTags, Result,
+    ModuleElements, ModuleExports, ModuleGlobals, ModuleMemories, ModuleTables, ModuleTags, Result,
 };
 use wasm_frames::RawCustom;
 use wasm_wire::CustomGroup;
@@ -207,35 +202,6 @@ pub fn write_count(to: &mut Writer, count: Option<u32>) -> Result<()>
     };
     measure(&Section::DataCount(number))?;
     to.data_count_section(number)?;
-    Ok(())
-}
-
-/// The code section.
-pub fn write_bodies(alloc: Global, to: &mut Writer, bodies: &WrittenBodies) -> Result<()>
-    ensures { let code = map unplaced (texts_of bodies.now) in
-        OnOk result (Stand (written to.old) (written to.new) (if_any frames.Code code)
-        × SectionFits (frames.Code code)) }
-{
-    let raw = raw_bodies(alloc, bodies)?;
-    to.bodies_section(raw.as_slice())?;
-    Ok(())
-}
-
-/// The data section.
-pub fn write_data(
-    alloc: Global,
-    to: &mut Writer,
-    all: &ModuleData,
-    indices: &IdsToIndices,
-) -> Result<()>
-    requires indexed { All (λ o. IsSome o) (map (λ d. named_data (index_of indices.now) (data_of d))
-        (items (data_segments all.now))) }
-    ensures { OnOk result (Writes frames.DataSegments (map data_entry)
-        (AreSegments (index_of indices.now) (items (data_segments all.now)))
-        (written to.old) (written to.new)) }
-{
-    let raw = raw_data(alloc, all, indices)?;
-    to.data_section(raw.as_slice())?;
     Ok(())
 }
 
