@@ -1,5 +1,6 @@
 -- When two types of functions are the same.
-use Rattle.std.proofs.Common.{◌≡◌, ℕ, Bool, true, List, [], ◌∷◌, map, Decides, ◌&&◌, refl, ap, sym, ◌∙◌, arith, Ordering, Less, Equal, Greater}
+use Rattle.std.proofs.Common.{◌≡◌, ◌==◌, ◌≤◌, ℕ, Bool, true, List, [], ◌∷◌, ◌++◌, map, take, drop, length, Decides, ◌&&◌, refl, ap, sym, ◌∙◌, arith, eqb-true, eq-eqb, Ordering, Less, Equal, Greater}
+use Rattle.std.proofs.lemmas.List.{take-map, drop-map, take-append-drop, map-append, length-map, length-take-le}
 use Rattle.std.specs.Ordering.{is_eq}
 use Rattle.std.specs.Cmp.{IsTotalOrder}
 use Rattle.std.specs.Cmp.Lexicographic.{pointwise}
@@ -45,11 +46,36 @@ function_with a b = record { params = a; results = b }
 both_lists : (a b c d : List (ValType ℕ)) → a ≡ c → b ≡ d → function_with a b ≡ function_with c d
 both_lists a b c d p q = cc
 
+-- parts of the same lengths of what is the same are the same
+parts_same : {A B : Type 0} (v : A → B) (n m : ℕ) (xs ys : List A) → n ≡ m → map v xs ≡ map v ys → (map v (take n xs) ≡ map v (take m ys)) × (map v (drop n xs) ≡ map v (drop m ys))
+parts_same v n m xs ys count all = (
+  sym (take-map v n xs) ∙ ap (λ l. take n l) all ∙ ap (λ k. take k (map v ys)) count ∙ take-map v m ys,
+  sym (drop-map v n xs) ∙ ap (λ l. drop n l) all ∙ ap (λ k. drop k (map v ys)) count ∙ drop-map v m ys,
+)
+
+-- the first part has its length
+part_length : {A B : Type 0} (v : A → B) (n : ℕ) (xs : List A) → n ≤ length xs → length (map v (take n xs)) ≡ n
+part_length v n xs within = length-map (take n xs) v ∙ length-take-le n xs within
+
+-- both parts are all
+both_parts : {A B : Type 0} (v : A → B) (n : ℕ) (xs : List A) → map v xs ≡ map v (take n xs) ++ map v (drop n xs)
+both_parts v n xs = ap (λ l. map v l) (sym (take-append-drop n xs)) ∙ map-append v (take n xs) (drop n xs)
+
+-- what has the same parts is the same
+same_whole : {A B : Type 0} (v : A → B) (n m : ℕ) (xs ys : List A) → n ≤ length xs → m ≤ length ys → map v (take n xs) ≡ map v (take m ys) → map v (drop n xs) ≡ map v (drop m ys) → (n ≡ m) × (map v xs ≡ map v ys)
+same_whole v n m xs ys within inside first rest = (
+  sym (part_length v n xs within) ∙ ap (λ l. length l) first ∙ part_length v m ys inside,
+  both_parts v n xs ∙ ap (λ l. l ++ map v (drop n xs)) first ∙ ap (λ l. map v (take m ys) ++ l) rest ∙ sym (both_parts v m ys),
+)
+
 pub function_same : (f g : DeclaredFunctionType) → Decides ((equality.ghosts).eq f g) (function_type f ≡ function_type g)
 function_same f g =
-    let params = pointwise_same _ val_type val_same f.params.items g.params.items in
-    let results = pointwise_same _ val_type val_same f.results.items g.results.items in
-    Decides-like _ (λ h. both_lists _ _ _ _ h.0 h.1) (λ h. (ap (λ t. t.params) h, ap (λ t. t.results) h)) (Decides-and _ _ params results)
+    let counts : Decides (f.param_count == g.param_count) (f.param_count ≡ g.param_count) = (eqb-true f.param_count g.param_count, eq-eqb f.param_count g.param_count) in
+    let values = pointwise_same _ val_type val_same f.values.items g.values.items in
+    Decides-like _
+    (λ h. let parts = parts_same val_type f.param_count g.param_count f.values.items g.values.items h.0 h.1 in both_lists _ _ _ _ parts.0 parts.1)
+    (λ h. same_whole val_type f.param_count g.param_count f.values.items g.values.items f.within g.within (ap (λ t. t.params) h) (ap (λ t. t.results) h))
+    (Decides-and _ _ counts values)
 
 pub is_equal : (o : Ordering) → is_eq o ≡ true → o ≡ Equal
 is_equal Less h = absurd cc

@@ -23,6 +23,7 @@ pub mod FunctionSame
 pub mod Indexed
 pub mod Members
 pub mod NewGroups
+pub mod OneGroup
 pub mod Noted
 pub mod Ordered
 pub mod OwnIdLemmas

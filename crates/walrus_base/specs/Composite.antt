@@ -1,5 +1,5 @@
 -- What a contract sees of composite types: the types of the standard ("Structure > Types"), with the place of an id for a type that is named.
-use Rattle.std.specs.Prelude.{ℕ, Bool, List, [], ◌∷◌, map, Option, Some, None}
+use Rattle.std.specs.Prelude.{ℕ, Bool, List, [], ◌∷◌, map, take, drop, Option, Some, None}
 use Rattle.walrus_base.specs.Id.{place}
 use Rattle.walrus_base.specs.Types.{ValType, StorageType, Unpacked, I8, I16, FieldType, CompType, Func, Struct, Array, SubType}
 use Rattle.walrus_base.specs.declared.id.Id.{Id}
@@ -32,7 +32,7 @@ abbrev pub function_of : List DeclaredValType → List DeclaredValType → Funct
 function_of params results = record { params = map val_type params; results = map val_type results }
 
 abbrev pub function_type : DeclaredFunctionType → FunctionType
-function_type f = function_of f.params.items f.results.items
+function_type f = function_of (take f.param_count f.values.items) (drop f.param_count f.values.items)
 
 -- a function type, as a composite type
 abbrev pub function_comp : FunctionType → CompType ℕ

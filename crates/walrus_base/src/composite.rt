@@ -1,5 +1,5 @@
 //! Composite types, and what they are made of (Structure > Types).
-ghost use Rattle.std.specs.Prelude.{◌≡◌, map, IfOk};
+ghost use Rattle.std.specs.Prelude.{◌≡◌, ◌≤◌, map, take, drop, length, IfOk};
 
 use crate::keys::TypeId;
 use crate::value::ValType;
@@ -28,42 +28,65 @@ pub struct FieldType {
 /// What a function takes and gives back (Structure > Types > Composite Types).
 #[derive(Debug, Drop, PartialEq, Eq, PartialOrd, Ord)]
 pub struct FunctionType {
-    params: Vec<ValType>,
-    results: Vec<ValType>,
+    // How many parameters it has.
+    param_count: usize,
+    // The types of its parameters, and behind them those of its results.
+    values: Vec<ValType>,
+    ghost within: { param_count ≤ length values.items },
 }
 
 impl FunctionType {
     ghost use Rattle.walrus_base.specs.Composite.{function_type, function_of};
     ghost use Rattle.walrus_base.specs.Value.{val_type};
 
-    /// The type of a function with these parameters and results.
-    pub fn new(params: Vec<ValType>, results: Vec<ValType>) -> FunctionType
-        ensures { function_type result ≡ function_of params.items results.items }
+    /// The type of a function whose parameters are the first so many of these values, or all where there are fewer, and whose
+    /// results are the others.
+    pub fn of(values: Vec<ValType>, param_count: usize) -> FunctionType
+        ensures { function_type result
+            ≡ function_of (take param_count values.items) (drop param_count values.items) }
     {
-        FunctionType { params, results }
+        FunctionType {
+            param_count: param_count.min(values.len()),
+            values,
+        }
+    }
+
+    /// The type of a function with these parameters and results.
+    pub fn new(
+        alloc: Global,
+        params: &[ValType],
+        results: &[ValType],
+    ) -> Result<FunctionType, AllocError>
+        ensures { IfOk result (λ f. function_type f ≡ function_of params.now results.now) }
+    {
+        let mut values = Vec::with_capacity(alloc, params.len().saturating_add(results.len()))?;
+        values.extend_from_slice(params)?;
+        values.extend_from_slice(results)?;
+        Ok(FunctionType::of(values, params.len()))
     }
 
     /// An equal type.
     pub fn try_clone(&self, alloc: Global) -> Result<FunctionType, AllocError>
         ensures { IfOk result (λ copy. function_type copy ≡ function_type self.now) }
     {
-        let params = self.params.to_vec(alloc)?;
-        let results = self.results.to_vec(alloc)?;
-        Ok(FunctionType::new(params, results))
+        let values = self.values.to_vec(alloc)?;
+        Ok(FunctionType::of(values, self.param_count))
     }
 
     /// The types of its parameters, in order.
     pub fn params(&self) -> &[ValType]
         ensures { map val_type result.now ≡ (function_type self.now).params }
     {
-        self.params.as_slice()
+        let (params, _results) = self.values.as_slice().split_at(self.param_count);
+        params
     }
 
     /// The types of its results, in order.
     pub fn results(&self) -> &[ValType]
         ensures { map val_type result.now ≡ (function_type self.now).results }
     {
-        self.results.as_slice()
+        let (_params, results) = self.values.as_slice().split_at(self.param_count);
+        results
     }
 }
 

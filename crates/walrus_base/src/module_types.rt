@@ -1,5 +1,5 @@
 //! The types of a module, by their ids.
-ghost use Rattle.std.specs.Prelude.{◌≡◌, ◌<◌, ◌≤◌, ◌++◌, [], ℕ, length, Some, IsTrue, ◌↔◌, MatchResult, MatchOption, IfOk, All, count_by, is_some, slice_set, map};
+ghost use Rattle.std.specs.Prelude.{◌≡◌, ◌<◌, ◌≤◌, ◌++◌, ◌∷◌, [], ℕ, length, Some, IsTrue, ◌↔◌, MatchResult, MatchOption, IfOk, All, count_by, is_some, slice_set, map};
 ghost use Rattle.std.specs.List.{range_with_len};
 ghost use Rattle.walrus_base.specs.Arena.{item_at, IsLive, entries, kept_by, live_places};
 ghost use Rattle.walrus_base.specs.Id.{place};
@@ -104,6 +104,27 @@ impl ModuleTypes {
         Ok(GroupIds::between(first, self.places.len()))
     }
 
+    /// Adds a group of this member alone, and answers its id: the next one. It has no name. Where memory runs out, the member is
+    /// dropped and nothing changes.
+    pub fn add_alone(&mut self, member: NewType) -> Result<TypeId, AllocError>
+        ensures id { IfOk result (λ id. place id ≡ length (type_slots self.old)) }
+        ensures slots { MatchResult result
+            (λ _. type_slots self.new ≡ type_slots self.old
+            ++ new_group (length (type_slots self.old)) (member ∷ []))
+            (λ _. type_slots self.new ≡ type_slots self.old) }
+        ensures names { MatchResult result
+            (λ _. type_names self.new ≡ type_names self.old ++ no_names (member ∷ []))
+            (λ _. type_names self.new ≡ type_names self.old) }
+    {
+        let first = self.places.len();
+        let Some(end) = first.checked_add(1) else {
+            return Err(AllocError);
+        };
+        let id = Id::at(first);
+        self.places.push(Some(Type::new(id, first, end, member)))?;
+        Ok(id)
+    }
+
     /// The id of a final type of functions with these parameters and results that is alone in its group, has no supertype
     /// and doesn't name itself. The first that is there already is answered; else it is added. Where memory runs out, nothing
     /// changes.
@@ -113,9 +134,7 @@ impl ModuleTypes {
             (type_slots self.new) (type_names self.old) (type_names self.new) (place id))
             (λ _. (type_slots self.new ≡ type_slots self.old) × (type_names self.new ≡ type_names self.old)) }
     {
-        let params = params.to_vec(self.alloc)?;
-        let results = results.to_vec(self.alloc)?;
-        let function = FunctionType::new(params, results);
+        let function = FunctionType::new(self.alloc, params, results)?;
         self.note_all()?;
         match self.find(&function) {
             Some(id) => Ok(id),
@@ -131,15 +150,11 @@ impl ModuleTypes {
             (type_names self.old) (type_names self.new) (place id))
             (λ _. (type_slots self.new ≡ type_slots self.old) × (type_names self.new ≡ type_names self.old)) }
     {
-        let id = Id::at(self.places.len());
-        let mut members = Vec::new(self.alloc);
-        members.push(NewType {
+        self.add_alone(NewType {
             is_final: true,
             supertype: None,
             comp: CompositeType::Function(function),
-        })?;
-        self.add_group(members)?;
-        Ok(id)
+        })
     }
 
     // Notes all places that aren't noted yet.
