@@ -19,8 +19,7 @@ A shape is flagged where one of these doesn't hold:
 - The larger module takes at most 16 times the processor seconds of the smaller one, or 13 times where that has 3 MB or more: for
   ten times the bytes, and in proportion where they aren't quite that. Some shapes have a figure of their own. The least seconds of some runs count,
   without those that an empty module takes; of a list those of the call alone. Where the larger one takes less than a tenth of a second that isn't
-  judged, nor of shapes that are dear by what they say: 50,000 locals in a few bytes, each of many things for each of many others, or a body that is
-  begun again and again.
+  judged, nor of shapes that are dear by what they say: 50,000 locals in a few bytes, or each of many things for each of many others.
 - At the peak a run takes at most 64 times the bytes that it reads and writes, and 50 MB. Some shapes have a figure of their own, by the bytes that
   are read alone, in place of those 64 times. Those of a list count as read, and its run has the caller's own 20 MB in it, a program in Python.
 

@@ -3,7 +3,7 @@ answers a module and the list."""
 from .shape import Shape, SHAPES
 from .spelling import (
     body, CALL, custom, different, DROP, EMPTY_BODY, EMPTY_TABLE, END, export, FIRST, FUNCTION, GLOBAL, I32, I32_CONST, IMMUTABLE, listed, module, NOP,
-    ONE_EMPTY_BODY, ONE_FUNCTION, ONE_MEMORY, ONE_TYPE, PLAIN_TYPE, repeated, sized, unsigned, ZERO,
+    NOTHING, ONE_EMPTY_BODY, ONE_FUNCTION, ONE_MEMORY, ONE_TYPE, PLAIN_TYPE, repeated, sized, unsigned, ZERO,
 )
 
 COUNT = 10_000
@@ -116,8 +116,8 @@ again("brought_again", "one function that comes to be imported, and the module's
 # What stands in front.
 
 of_each("fronts", "functions, each with an operator in front", functions, lambda id_: record(FRONT, id_ + NOP))
-# Each time the whole body is made anew (docs/PROMISES.md, "Neither").
-again("front_again", "one function, with an operator in front again and again", record(FRONT, FIRST + NOP), is_timed=False)
+again("front_again", "one function, with an operator in front again and again", record(FRONT, FIRST + NOP))
+edits("front_each", "one function of many operators, with as many in front, one by one", lambda count: (given(functions=ONE_FUNCTION, code=listed([body(NOP * count)])), record(FRONT, FIRST + NOP) * count))
 edits("front_long", "one function of many operators, with as many in front", lambda count: (given(functions=ONE_FUNCTION, code=listed([body(NOP * count)])), record(FRONT, FIRST + NOP * count)))
 
 # Names and producers.
@@ -144,3 +144,6 @@ again("producer_gone", "one producer, set, and all deleted, in turn", record(PRO
 edits(
     "producers", "producers of different names",
     lambda count: (functions(1), b"".join(record(PRODUCER, sized(b"sdk") + sized(name) + sized(b"1")) for name in different(count))), most_times=25)
+edits(
+    "producers_fields", "one producer, set again and again beside as many fields of producers",
+    lambda count: (functions(1) + custom(b"producers", listed([sized(name) + NOTHING for name in different(count)])), record(PRODUCER, sized(b"sdk") + sized(b"a") + sized(b"1")) * count))

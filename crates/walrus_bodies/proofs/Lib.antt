@@ -23,6 +23,7 @@ mod PlainLemmas
 mod PushedLemmas
 mod RangeLemmas
 mod RenamedLemmas
+mod RoomLemmas
 mod ScannedLemmas
 mod Scanning
 mod StandLemmas

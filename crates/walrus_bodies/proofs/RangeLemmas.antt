@@ -28,7 +28,7 @@ as_many first count = sym (length-range_with_len first count)
 
 -- the parameters of a body that stands as in the input are its first locals
 first_in : (b : Body) → IfSome (text_in b) (λ text. args_in b ≡ range_with_len (first_local_of text) (length (args_in b)))
-first_in (bodies.Text text params) = ap (range_with_len (first_local_of text)) (as_many (first_local_of text) params)
+first_in (bodies.Text params text) = ap (range_with_len (first_local_of text)) (as_many (first_local_of text) params)
 first_in (bodies.List listed) = tt
 
 pub args_first : (f : LocalFunction) → IfSome (as_text f) (λ text. args_of f ≡ range_with_len (first_local_of text) (arg_count_of f))

@@ -8,6 +8,7 @@ use Rattle.walrus_base.specs.TypeDef.{name_bytes}
 use Rattle.walrus_code.specs.Code.{ops_of}
 use Rattle.walrus_code.specs.declared.location.InstrLocId.{InstrLocId}
 use Rattle.walrus_base.specs.Operators.{Op}
+use Rattle.walrus_bodies.specs.Listed.{operators_of}
 use Rattle.walrus_bodies.specs.Results.{locations}
 use Rattle.walrus_bodies.specs.Text.{first_local_of, locations_in, ops_in}
 use Rattle.walrus_bodies.specs.declared.text.Text.{Text as Plain}
@@ -27,27 +28,27 @@ with_type function type = record function { ty = type }
 -- ---- its body
 
 abbrev pub text_in : Body → Option Plain
-text_in (bodies.Text text params) = Some text
+text_in (bodies.Text params text) = Some text
 text_in (bodies.List listed) = None
 
 abbrev pub body_in : Body → List Op
-body_in (bodies.Text text params) = ops_in text
-body_in (bodies.List listed) = ops_of listed.value.operators.items
+body_in (bodies.Text params text) = ops_in text
+body_in (bodies.List listed) = ops_of (operators_of listed.value)
 
 abbrev pub places_in : Body → List InstrLocId
-places_in (bodies.Text text params) = locations_in text
-places_in (bodies.List listed) = locations listed.value.operators.items
+places_in (bodies.Text params text) = locations_in text
+places_in (bodies.List listed) = locations (operators_of listed.value)
 
 abbrev pub args_in : Body → List ℕ
-args_in (bodies.Text text params) = range_with_len (first_local_of text) params
+args_in (bodies.Text params text) = range_with_len (first_local_of text) params
 args_in (bodies.List listed) = map place listed.value.args.items
 
 abbrev pub types_in : Body → List ℕ
-types_in (bodies.Text text params) = []
+types_in (bodies.Text params text) = []
 types_in (bodies.List listed) = map place listed.value.handler_types.items
 
 abbrev pub named_in : Body → Option (List ℕ)
-named_in (bodies.Text text params) = None
+named_in (bodies.Text params text) = None
 named_in (bodies.List listed) = name_bytes listed.value.name
 
 -- the name that it was built with

@@ -11,6 +11,7 @@ pub mod Results
 pub mod Writer
 pub mod Function
 pub mod LendsOperators
+pub mod Listed
 pub mod Locals
 pub mod Names
 pub mod Numbers

@@ -10,6 +10,10 @@ use Rattle.walrus_bodies.specs.PlainBody.{with_locals}
 unfoldable pub limits_in : PlainCode → Limits
 limits_in code = code.limits
 
+-- how often operators were put in front of them
+abbrev pub fronts_in : PlainCode → ℕ
+fronts_in code = code.fronts
+
 -- where nothing stands
 abbrev pub nowhere : Entry
 nowhere = record { begin = 0; end = 0; first_mark = 0; last_mark = 0; count = 0; start = 0; locals = 0 }

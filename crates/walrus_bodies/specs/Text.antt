@@ -8,7 +8,7 @@ use Rattle.walrus_bodies.specs.Placed.{placed_ops}
 use Rattle.walrus_bodies.specs.Texts.{texts_at, places_at}
 use Rattle.walrus_bodies.specs.declared.plain_code.Entry.{Entry}
 use Rattle.walrus_bodies.specs.declared.text.Text.{Text}
-use Rattle.walrus_bodies.specs.PlainCode.{bytes_at, entry_at, marks_at}
+use Rattle.walrus_bodies.specs.PlainCode.{bytes_at, entry_at, fronts_in, marks_at}
 
 -- what the code tells of it
 abbrev pub entry_of : Text → Entry
@@ -29,6 +29,10 @@ texts_of text = texts_at (entry_of text).count (bytes_of text)
 -- the place of its first local
 unfoldable pub first_local_of : Text → ℕ
 first_local_of text = text.first_local
+
+-- how often operators were put in front of it
+abbrev pub front_count_of : Text → ℕ
+front_count_of text = fronts_in text.code.value
 
 -- how many locals the function has, its parameters among them
 unfoldable pub local_count_of : Text → ℕ

@@ -3,7 +3,7 @@
 
 ghost use Rattle.std.specs.Prelude.{◌≡◌, true, length};
 ghost use Rattle.walrus_bodies.specs.Plain.{are_plain};
-ghost use Rattle.walrus_bodies.specs.Text.{first_local_of, local_count_of, ops_in};
+ghost use Rattle.walrus_bodies.specs.Text.{first_local_of, front_count_of, local_count_of, ops_in};
 
 use crate::text::Text;
 
@@ -31,6 +31,13 @@ impl Text {
         ensures { result ≡ first_local_of self.now }
     {
         self.first_local
+    }
+
+    /// How often operators were put in front of it.
+    pub fn front_count(&self) -> u32
+        ensures { result ≡ front_count_of self.now }
+    {
+        self.code.as_ref().fronts
     }
 
     /// How many locals the function has, its parameters among them. They lie one behind another.

@@ -2,7 +2,7 @@
 #![tactic(auto, unfolding(crate::specs::PlainCode::limits_in, crate::specs::Function::name_of, crate::specs::Function::as_text, crate::specs::Function::body_of, crate::specs::Function::locations_of, crate::specs::Function::args_of, crate::specs::Function::handlers_in, crate::specs::Function::listed_in, crate::specs::Function::located_in))]
 
 ghost use Rattle.std.specs.Borrow.{sem};
-ghost use Rattle.std.specs.Prelude.{◌≡◌, [], None, IfOk, IfSome, OnOk, MatchResult, map, option_map};
+ghost use Rattle.std.specs.Prelude.{◌≡◌, ◌++◌, [], None, IfOk, IfSome, OnOk, MatchResult, map, option_map};
 ghost use Rattle.std.specs.List.{range_with_len};
 ghost use Rattle.std.specs.String.{string_bytes};
 ghost use Rattle.walrus_base.specs.Id.{place};
@@ -10,10 +10,11 @@ ghost use Rattle.walrus_base.specs.TypeDef.{name_bytes};
 ghost use Rattle.walrus_code.specs.Code.{ops_of};
 ghost use Rattle.walrus_bodies.specs.Results.{locations};
 ghost use Rattle.walrus_bodies.specs.Text.{first_local_of, locations_in, ops_in};
-ghost use Rattle.walrus_bodies.specs.Function.{function_type, with_type, name_of, as_text, body_of, locations_of, size_of, args_of, arg_count_of, handlers_in, located_in, listed_in, Becomes, KeepsBody};
+ghost use Rattle.walrus_bodies.specs.Function.{function_type, with_type, name_of, as_text, body_of, locations_of, size_of, args_of, arg_count_of, handlers_in, located_in, listed_in, Becomes, KeepsBody, KeepsOthers};
 ghost use Rattle.walrus_bodies.specs.LendsOperators.{LendsOperators};
 
 use crate::lent::Operators;
+use crate::listed::Listed;
 use crate::text::Text;
 use std::alloc::{AllocError, Global};
 use walrus_base::{LocalId, TypeId};
@@ -23,19 +24,9 @@ use walrus_code::Operator;
 #[derive(Drop)]
 enum Body {
     // As it stands in the input, with so many parameters, which are the first of its locals.
-    Text { text: Text, params: u32 },
+    Text { params: u32, text: Text },
     // A list, with what only such a function has.
     List(Box<Listed>),
-}
-
-// What is held of a function whose body is a list.
-#[derive(Drop)]
-struct Listed {
-    args: Vec<LocalId>,
-    operators: Vec<Operator>,
-    handler_types: Vec<TypeId>,
-    // The name that it was built with.
-    name: Option<String>,
 }
 
 /// A function with a body (Structure > Modules > Functions).
@@ -80,6 +71,7 @@ impl LocalFunction {
         let listed = Listed {
             args,
             operators,
+            room: 0,
             handler_types: Vec::new(alloc),
             name,
         };
@@ -101,7 +93,7 @@ impl LocalFunction {
     {
         LocalFunction {
             ty,
-            body: Body::Text { text, params },
+            body: Body::Text { params, text },
         }
     }
 
@@ -148,7 +140,7 @@ impl LocalFunction {
         ensures locations { locations result.now ≡ locations_of self.now }
     {
         match &self.body {
-            Body::List(listed) => listed.operators.as_slice(),
+            Body::List(listed) => listed.as_slice(),
             Body::Text { .. } => unreachable!(),
         }
     }
@@ -173,7 +165,7 @@ impl LocalFunction {
         ensures { IfOk result (λ ids. map place ids.items ≡ args_of self.now) }
     {
         match &self.body {
-            Body::Text { text, params } => ids_from(alloc, text.first_local(), *params),
+            Body::Text { params, text } => ids_from(alloc, text.first_local(), *params),
             Body::List(listed) => listed.args.to_vec(alloc),
         }
     }
@@ -189,7 +181,7 @@ impl LocalFunction {
     {
         match &self.body {
             Body::Text { text, .. } => Ok(Operators::Made(text.operators(alloc)?)),
-            Body::List(listed) => Ok(Operators::Lent(listed.operators.as_slice())),
+            Body::List(listed) => Ok(Operators::Lent(listed.as_slice())),
         }
     }
 
@@ -197,12 +189,13 @@ impl LocalFunction {
     fn list(&mut self, alloc: Global) -> Result<(), AllocError>
         ensures { MatchResult result (λ _. Becomes self.old self.new) (λ _. self.new ≡ self.old) }
     {
-        if let Body::Text { text, params } = &self.body {
+        if let Body::Text { params, text } = &self.body {
             let args = ids_from(alloc, text.first_local(), *params)?;
             let operators = text.operators(alloc)?;
             let listed = Listed {
                 args,
                 operators,
+                room: 0,
                 handler_types: Vec::new(alloc),
                 name: None,
             };
@@ -223,7 +216,29 @@ impl LocalFunction {
     {
         self.list(alloc)?;
         match &mut self.body {
-            Body::List(listed) => Ok(&mut listed.operators),
+            Body::List(listed) => {
+                listed.settle();
+                Ok(&mut listed.operators)
+            }
+            Body::Text { .. } => unreachable!(),
+        }
+    }
+
+    /// Puts operators in front of its body, which becomes a list where it is kept as it stands in the input. Many one behind another take as
+    /// long as all of them together. Refused for memory, its operators stay.
+    ///
+    /// # Errors
+    ///
+    /// `AllocError` where no memory is left.
+    pub fn put_front(&mut self, alloc: Global, front: Vec<Operator>) -> Result<(), AllocError>
+        ensures body { MatchResult result
+            (λ _. body_of self.new ≡ ops_of front.items ++ body_of self.old)
+            (λ _. body_of self.new ≡ body_of self.old) }
+        ensures others { KeepsOthers self.old self.new }
+    {
+        self.list(alloc)?;
+        match &mut self.body {
+            Body::List(listed) => listed.put_front(alloc, front),
             Body::Text { .. } => unreachable!(),
         }
     }
@@ -234,7 +249,7 @@ impl LocalFunction {
     {
         match &self.body {
             Body::Text { text, .. } => text.size(),
-            Body::List(listed) => listed.operators.len(),
+            Body::List(listed) => listed.as_slice().len(),
         }
     }
 

@@ -17,6 +17,7 @@ mod features;
 mod function;
 mod lent;
 mod limits;
+mod listed;
 mod locals;
 mod names;
 mod operators;

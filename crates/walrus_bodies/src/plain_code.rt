@@ -51,6 +51,8 @@ pub struct PlainCode {
     pub(crate) marks: Vec<u32>,
     pub(crate) entries: Vec<Entry>,
     pub(crate) limits: Limits,
+    // How often operators were put in front of them.
+    pub(crate) fronts: u32,
     ghost held: { ∥ All (IsHeld limits bytes.value.items marks.items) entries.items ∥₁ },
 }
 
@@ -66,7 +68,7 @@ fn with_locals(limits: Limits, locals: u32) -> Limits
 impl PlainCode {
     ghost use Rattle.std.specs.Prelude.{IfOk, IfSome, ◌+◌, length};
     ghost use Rattle.walrus_bodies.specs.PlainBody.{IsPlainBody, with_locals};
-    ghost use Rattle.walrus_bodies.specs.PlainCode.{IsBehind, bytes_in, entry_at, limits_in, marks_in};
+    ghost use Rattle.walrus_bodies.specs.PlainCode.{IsBehind, bytes_in, entry_at, fronts_in, limits_in, marks_in};
 
     /// No bodies yet, and room for so many, whose operators stand among these bytes, of which the first stands at the place `origin` of the
     /// input. What they name is to be within the limits; of locals and blocks there is none.
@@ -90,7 +92,18 @@ impl PlainCode {
             marks: Vec::new(alloc),
             entries: Vec::with_capacity(alloc, bodies)?,
             limits,
+            fronts: 0,
         })
+    }
+
+    /// The same bodies, in front of which operators were put so often.
+    pub fn with_fronts(self, fronts: u32) -> PlainCode
+        ensures limits { limits_in result ≡ limits_in self }
+        ensures fronts { fronts_in result ≡ fronts }
+    {
+        let mut code = self;
+        code.fronts = fronts;
+        code
     }
 
     // What is told of the body of a number.

@@ -178,7 +178,7 @@ joined_found bytes joined text there to_itself written (Err e) h = h
 -- ---- as functions
 
 by_body : (b : Body) (text : Text) → text_in b ≡ Some text → (named_in b ≡ None) × (types_in b ≡ [])
-by_body (bodies.Text t params) text is = (refl, refl)
+by_body (bodies.Text params t) text is = (refl, refl)
 by_body (bodies.List listed) text is = absurd (cc)
 
 -- one that is kept as a text has no name of its own, and no handlers

@@ -58,7 +58,7 @@ fn read_front(
     )?)
 }
 
-// Puts operators, but for the last one, in front of those of a function, all at once. `Memory` is the only error.
+// Puts operators, but for the last one, in front of those of a function. `Memory` is the only error.
 fn put_front(alloc: Global, mut front: Vec<Operator>, own: &mut LocalFunction) -> Result<()>
     ensures { MatchResult result
         (λ _. (body_of own.new ≡ but_last (ops_of front.items) ++ body_of own.old)
@@ -66,9 +66,7 @@ fn put_front(alloc: Global, mut front: Vec<Operator>, own: &mut LocalFunction) -
         (λ e. e ≡ out_of_memory) }
 {
     let _end = front.pop();
-    let operators = own.operators_mut(alloc)?;
-    front.append(operators)?;
-    *operators = front;
+    own.put_front(alloc, front)?;
     Ok(())
 }
 

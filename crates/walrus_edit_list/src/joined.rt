@@ -12,6 +12,10 @@ use std::rc::Rc;
 use walrus_bodies::{LocalFunction, PlainCode, ScanRoom, Text, limits_of};
 use walrus_code::{IdsToIndices, IndicesToIds, IrError};
 
+/// So often operators are put in front of a body that goes on to stand as in the input: each time all its bytes are read again. Then it is a
+/// list, which takes those in front alone.
+const MOST_FRONTS: u32 = 16;
+
 // Puts the operators of a text behind the bytes, with the place of each item as its index, and tells whether all of these are known.
 fn append_placed(text: &Text, places: &IdsToIndices, to: &mut Vec<u8>) -> Result<bool, AllocError>
     ensures { IfOk result (λ done. IsTrue done → (f : Features) → (starts : List ℕ)
@@ -40,7 +44,8 @@ fn text_of(
     };
     let code = PlainCode::new(alloc, limits_of(ids), 1, kept, 0)?;
     let scanned = code.scan(bytes, 0, text.local_count(), &mut room)?;
-    let shared = scanned.share(alloc)?;
+    let fronts = text.front_count().saturating_add(1);
+    let shared = scanned.with_fronts(fronts).share(alloc)?;
     Text::find(&shared, 0, bytes, 0, text.first_local(), text.local_count())
 }
 
@@ -79,6 +84,9 @@ pub(crate) fn front_text(
     let Some(text) = own.text() else {
         return Ok(None);
     };
+    if text.front_count() >= MOST_FRONTS {
+        return Ok(None);
+    }
     let Ok(params) = u32::try_from(own.arg_count()) else {
         return Ok(None);
     };

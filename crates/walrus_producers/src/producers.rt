@@ -52,7 +52,11 @@ impl ProducerField {
     ghost use Rattle.walrus_producers.specs.Seen.{field_seen, value_seen};
 
     /// A field of this one value.
-    pub(crate) fn new(alloc: Global, name: &str, value: ProducerValue) -> Result<ProducerField, AllocError>
+    pub(crate) fn new(
+        alloc: Global,
+        name: &str,
+        value: ProducerValue,
+    ) -> Result<ProducerField, AllocError>
         ensures { IfOk result
             (λ f. field_seen f ≡ record { name = name.now; values = value_seen value ∷ [] }) }
     {
