@@ -133,7 +133,6 @@ fn handler_type(
     if params.is_empty() && results.len() <= 1 {
         return Ok(None);
     }
-    let params = params.to_vec(alloc)?;
-    let results = results.to_vec(alloc)?;
-    Ok(Some(FunctionType::new(params, results)))
+    let needed = FunctionType::new(alloc, params, results)?;
+    Ok(Some(needed))
 }
