@@ -1,5 +1,6 @@
 use Rattle.std.proofs.Common.{map, sym, ap, ◌∙◌}
 use Rattle.walrus_base.specs.Arena.{item_at}
+use Rattle.walrus_base.specs.Composite.{function_type as signature_of}
 use Rattle.walrus_base.specs.Id.{place}
 use Rattle.walrus_base.specs.Locals.{locals}
 use Rattle.walrus_base.specs.ModuleTypes.{type_slots}
@@ -18,7 +19,7 @@ returns c =
     let held = rw c.in-Some-2.is at c.in_ok-held.ensures in
     let equal = pointwise_same (equality.ghosts).eq val_type val_same c.as_slice.result.now c.params.result.now in
     let seen = ap (map val_type) c.as_slice.ensures.value in
-    fit (item_at defs (place (function_type c.args.function.now))) slots (args_of c.args.function.now) (map val_type c.in-Some-2.held.items) (map val_type c.in-Some.signature.now.params.items) c.eq.result
+    fit (item_at defs (place (function_type c.args.function.now))) slots (args_of c.args.function.now) (map val_type c.in-Some-2.held.items) (signature_of c.in-Some.signature.now).params c.eq.result
     (ap (λ t. takes (item_at defs (place t))) (sym c.ty-2.ensures) ∙ ap takes c.get.ensures.value ∙ ap comp_takes c.in-Some.ensures)
     (ap (map (item_at slots)) (sym c.requires) ∙ held)
     (λ h. sym seen ∙ equal.0 (sym c.eq.ensures ∙ h) ∙ c.params.ensures, λ h. c.eq.ensures ∙ equal.1 (seen ∙ h ∙ sym c.params.ensures))
