@@ -109,6 +109,59 @@ fn function_types_are_added(rt: HostRuntime) -> Result<(), Fail> {
     add_twice(&mut types)
 }
 
+// The next type, alone in its group, with such parts as `has_its_parts` tells.
+fn add_alone(alloc: Global, types: &mut ModuleTypes) -> Result<TypeId, AllocError> {
+    let function = FunctionType::new(alloc, &[ValType::I32], &[ValType::F64, ValType::V128])?;
+    types.add_alone(NewType {
+        is_final: false,
+        supertype: None,
+        comp: CompositeType::Function(function),
+    })
+}
+
+fn is_alone(types: &ModuleTypes, id: TypeId) -> bool {
+    if !types.contains(id) {
+        return false;
+    }
+    let mut group = types.group(id);
+    group.next() == Some(id) && group.next().is_none()
+}
+
+// Fails where it isn't added twice, each time alone in its group.
+fn add_each_alone(alloc: Global, types: &mut ModuleTypes) -> Result<(), Fail> {
+    let next = types.next_id();
+    let first = add_alone(alloc, types)?;
+    let second = add_alone(alloc, types)?;
+    demand(first == next && second != first, "their ids")?;
+    demand(has_its_parts(types, second), "its parts")?;
+    demand(is_alone(types, first), "the first alone")?;
+    demand(is_alone(types, second), "the second alone")
+}
+
+#[test]
+fn types_are_added_alone(rt: HostRuntime) -> Result<(), Fail> {
+    let mut types = ModuleTypes::new(rt.alloc());
+    add_each_alone(rt.alloc(), &mut types)
+}
+
+// The type of a function that takes the first so many of two values, and gives back the others.
+fn taking_the_first(alloc: Global, count: usize) -> Result<FunctionType, AllocError> {
+    let mut values = Vec::new(alloc);
+    values.push(ValType::I32)?;
+    values.push(ValType::F64)?;
+    Ok(FunctionType::of(values, count))
+}
+
+#[test]
+fn function_types_are_parted(rt: HostRuntime) -> Result<(), Fail> {
+    let function = taking_the_first(rt.alloc(), 1)?;
+    demand(function.params() == [ValType::I32].as_slice(), "the first")?;
+    demand(function.results() == [ValType::F64].as_slice(), "the other")?;
+    let taking_all = taking_the_first(rt.alloc(), 3)?;
+    demand(taking_all.params().len() == 2, "both")?;
+    demand(taking_all.results().is_empty(), "no other")
+}
+
 // A group of one type of functions, which take such a value.
 fn taking_one(
     alloc: Global,
@@ -116,13 +169,12 @@ fn taking_one(
     supertype: Option<TypeId>,
     param: ValType,
 ) -> Result<Vec<NewType>, AllocError> {
-    let mut params = Vec::new(alloc);
-    params.push(param)?;
+    let function = FunctionType::new(alloc, &[param], &[])?;
     let mut members = Vec::new(alloc);
     members.push(NewType {
         is_final,
         supertype,
-        comp: CompositeType::Function(FunctionType::new(params, Vec::new(alloc))),
+        comp: CompositeType::Function(function),
     })?;
     Ok(members)
 }
@@ -157,11 +209,9 @@ fn a_type_that_names_itself_is_not_found(rt: HostRuntime) -> Result<(), Fail> {
 }
 
 fn function_is_cloned(alloc: Global) -> bool {
-    let mut params = Vec::new(alloc);
-    if params.push(ValType::F32).is_err() {
+    let Ok(function) = FunctionType::new(alloc, &[ValType::F32], &[ValType::I64]) else {
         return false;
-    }
-    let function = FunctionType::new(params, Vec::new(alloc));
+    };
     matches!(function.try_clone(alloc), Ok(copy) if copy == function)
 }
 
@@ -282,7 +332,7 @@ fn come_and_go(types: &mut ModuleTypes, function: &FunctionType, name: String) -
 #[test]
 fn a_type_comes_and_goes(rt: HostRuntime) -> Result<(), Fail> {
     let mut types = ModuleTypes::new(rt.alloc());
-    let function = FunctionType::new(Vec::new(rt.alloc()), Vec::new(rt.alloc()));
+    let function = FunctionType::new(rt.alloc(), &[], &[])?;
     let name = String::from_str(rt.alloc(), "t")?;
     come_and_go(&mut types, &function, name)
 }

@@ -5,7 +5,8 @@ use Rattle.std.specs.Global.{Vec}
 use Rattle.std.specs.List.{range_with_len}
 use Rattle.std.proofs.lemmas.List.{drop_all, append-nil, length-map, length-append, map-append}
 use Rattle.std.proofs.lemmas.List.FromFn.{length-range_with_len}
-use Rattle.wasm_entries.specs.Record.{Group, sub, group}
+use Rattle.wasm_forms.specs.Reading.{◌>>=◌}
+use Rattle.wasm_entries.specs.Record.{Sub, Group, sub, group}
 use Rattle.wasm_entries.specs.declared.record.RawSub.{RawSub}
 use Rattle.walrus_base.specs.Id.{place}
 use Rattle.walrus_base.specs.Types.{SubType}
@@ -33,7 +34,7 @@ use Rattle.wasm_forms.proofs.Bind.{some_same as some_inside}
 pub counted : (ps : List ℕ) (n : ℕ) → ps ≡ range_with_len 0 n → ps ≡ range_with_len 0 (length ps)
 counted ps n h = h ∙ ap (λ k. range_with_len 0 k) (sym (ap length h ∙ length-range_with_len 0 n))
 
-known : (ps : List ℕ) (n : ℕ) → ps ≡ range_with_len 0 n → length ps ≡ n
+pub known : (ps : List ℕ) (n : ℕ) → ps ≡ range_with_len 0 n → length ps ≡ n
 known ps n h = ap length h ∙ length-range_with_len 0 n
 
 long : (ids : List (Id TypeKey)) (first count : ℕ) → map (λ id. place id) ids ≡ range_with_len first count → length ids ≡ count
@@ -108,6 +109,14 @@ group-refused raw ps old new ids Malformed in_place behind many = absurd many
 group-refused raw ps old new ids NoIndex in_place behind many = absurd many
 group-refused raw ps old new ids NotWritable in_place behind many = absurd many
 
+-- what is refused for fewer types is refused for more
+pub refused-sooner : (e : IrError) (few many : Type 0) → (few → many) → RefusedAsTooMany (Err e) few → RefusedAsTooMany (Err e) many
+refused-sooner TooLarge few many more refused = more refused
+refused-sooner (Memory e) few many more refused = tt
+refused-sooner Malformed few many more refused = absurd refused
+refused-sooner NoIndex few many more refused = absurd refused
+refused-sooner NotWritable few many more refused = absurd refused
+
 -- a member that isn't declared
 pub members-refused : (indices : IndicesToIds) (g : Group) (old new : List (Option TypeDef)) (e : IrError) → places_in indices Types ≡ range_with_len 0 (length old + length g) → Finds (λ (members : Vec NewType). map new_sub members.items) (Err e) (each (read_sub (ids_at indices)) (map sub_of g)) → ReadsTypes (g ∷ []) old new (Err e)
 members-refused indices g old new Malformed in_place found = group-malformed indices g (length old) in_place found
@@ -115,6 +124,29 @@ members-refused indices g old new (Memory e) in_place found = tt
 members-refused indices g old new TooLarge in_place found = absurd found
 members-refused indices g old new NoIndex in_place found = absurd found
 members-refused indices g old new NotWritable in_place found = absurd found
+
+-- ---- a group of one member
+
+-- what is found for one is found for a list of it alone
+pub alone-found : (indices : IndicesToIds) (s : Sub) (member : NewType) → read_sub (ids_at indices) (sub_of s) ≡ Some (new_sub member) → each (read_sub (ids_at indices)) (map sub_of (s ∷ [])) ≡ Some (map new_sub (member ∷ []))
+alone-found indices s member found = ap (λ o. o >>= λ first. Some (first ∷ [])) found
+
+alone-malformed : (indices : IndicesToIds) (s : Sub) → read_sub (ids_at indices) (sub_of s) ≡ None → each (read_sub (ids_at indices)) (map sub_of (s ∷ [])) ≡ None
+alone-malformed indices s found = ap (λ o. o >>= λ first. Some (first ∷ [])) found
+
+-- the member isn't declared
+pub member-refused : (indices : IndicesToIds) (s : Sub) (old new : List (Option TypeDef)) (e : IrError) → places_in indices Types ≡ range_with_len 0 (length old + length (s ∷ [])) → Finds new_sub (Err e) (read_sub (ids_at indices) (sub_of s)) → ReadsTypes ((s ∷ []) ∷ []) old new (Err e)
+member-refused indices s old new Malformed in_place found = group-malformed indices (s ∷ []) (length old) in_place (alone-malformed indices s found)
+member-refused indices s old new (Memory e) in_place found = tt
+member-refused indices s old new TooLarge in_place found = absurd found
+member-refused indices s old new NoIndex in_place found = absurd found
+member-refused indices s old new NotWritable in_place found = absurd found
+
+-- a list of one is its first
+pub one-alone : (raws : List RawSub) (only : RawSub) → 1 ≤ length raws → length raws < 2 → only ≡ get_or raws 0 only → raws ≡ only ∷ []
+one-alone [] only some few is = absurd (omega (arith, some))
+one-alone (raw ∷ []) only some few is = ap (λ x. x ∷ []) (sym is)
+one-alone (raw ∷ next ∷ raws) only some few is = absurd (omega (arith, few))
 
 -- ---- groups behind a group
 

@@ -12,3 +12,4 @@ pub mod TypeLists
 pub mod OneGroup
 pub mod OneList
 pub mod Loops
+mod OneVector

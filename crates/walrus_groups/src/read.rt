@@ -1,6 +1,6 @@
 //! Types as type sections list them, read as types by their ids.
 
-ghost use Rattle.std.specs.Prelude.{◌≡◌, ◌+◌, ◌<◌, ◌^◌, ◌∷◌, [], map, length, option_map, OnOk};
+ghost use Rattle.std.specs.Prelude.{◌≡◌, ◌+◌, ◌++◌, ◌<◌, ◌^◌, ◌∷◌, [], map, length, option_map, OnOk};
 ghost use Rattle.std.specs.List.{range_with_len};
 ghost use Rattle.wasm_entries.specs.Record.{comp, sub, group};
 ghost use Rattle.walrus_base.specs.Id.{place};
@@ -44,12 +44,50 @@ pub fn read_types(
     ensures unnamed { OnOk result (AddsUnnamed (type_names types.old) (type_names types.new)) }
 {
     for members in groups {
-        read_group(alloc, members, indices, types)?;
+        read_members(alloc, members, indices, types)?;
     }
     Ok(())
 }
 
 // The same for one group.
+fn read_members(
+    alloc: Global,
+    raw: &[RawSub],
+    indices: &mut IndicesToIds,
+    types: &mut ModuleTypes,
+) -> Result<(), IrError>
+    requires in_place { TypesInPlace indices.old (type_slots types.old) }
+    ensures read { ReadsTypes (map sub raw.now ∷ []) (type_slots types.old) (type_slots types.new) result }
+    ensures in_place { OnOk result (TypesInPlace indices.new (type_slots types.new)) }
+    ensures only_types { OnOk result (OnlyTypesChange indices.old indices.new) }
+    ensures unnamed { OnOk result (AddsUnnamed (type_names types.old) (type_names types.new)) }
+{
+    match raw {
+        [only] => read_alone(alloc, only, indices, types),
+        _ => read_group(alloc, raw, indices, types),
+    }
+}
+
+// The same for a type that is alone in its group.
+fn read_alone(
+    alloc: Global,
+    raw: &RawSub,
+    indices: &mut IndicesToIds,
+    types: &mut ModuleTypes,
+) -> Result<(), IrError>
+    requires in_place { TypesInPlace indices.old (type_slots types.old) }
+    ensures read { ReadsTypes ((sub raw.now ∷ []) ∷ []) (type_slots types.old) (type_slots types.new) result }
+    ensures in_place { OnOk result (TypesInPlace indices.new (type_slots types.new)) }
+    ensures only_types { OnOk result (OnlyTypesChange indices.old indices.new) }
+    ensures unnamed { OnOk result (AddsUnnamed (type_names types.old) (type_names types.new)) }
+{
+    give_index(indices, types.next_id())?;
+    let member = name_sub(alloc, raw, indices)?;
+    types.add_alone(member)?;
+    Ok(())
+}
+
+// The same for a group of any length.
 fn read_group(
     alloc: Global,
     raw: &[RawSub],
@@ -82,11 +120,25 @@ fn give_indices(indices: &mut IndicesToIds, ids: &[TypeId]) -> Result<(), IrErro
     ensures only_types { OnOk result (OnlyTypesChange indices.old indices.new) }
 {
     for id in ids {
-        if id.index() >= 1 << 32 {
-            return Err(IrError::TooLarge);
-        }
-        indices.push_type(*id)?;
+        give_index(indices, *id)?;
     }
+    Ok(())
+}
+
+// Gives a type the next index.
+fn give_index(indices: &mut IndicesToIds, id: TypeId) -> Result<(), IrError>
+    requires in_place { places_in indices.old Types ≡ range_with_len 0
+        (length (places_in indices.old Types)) }
+    requires behind { place id ≡ length (places_in indices.old Types) }
+    ensures in_place { OnOk result (places_in indices.new Types ≡ range_with_len 0
+        (length (places_in indices.old Types) + 1)) }
+    ensures refused { RefusedAsTooMany result (2 ^ 32 < length (places_in indices.old Types) + 1) }
+    ensures only_types { OnOk result (OnlyTypesChange indices.old indices.new) }
+{
+    if id.index() >= 1 << 32 {
+        return Err(IrError::TooLarge);
+    }
+    indices.push_type(id)?;
     Ok(())
 }
 
@@ -159,28 +211,30 @@ fn name_function(
         (named_function (ids_at indices.now) (map val_of raw.now.params.items)
         (map val_of raw.now.results.items)) }
 {
-    let params = name_values(alloc, raw.params.as_slice(), indices)?;
-    let results = name_values(alloc, raw.results.as_slice(), indices)?;
-    Ok(FunctionType::new(params, results))
+    let param_count = raw.params.len();
+    let mut values = Vec::with_capacity(alloc, param_count.saturating_add(raw.results.len()))?;
+    push_values(&mut values, raw.params.as_slice(), indices)?;
+    push_values(&mut values, raw.results.as_slice(), indices)?;
+    Ok(FunctionType::of(values, param_count))
 }
 
-// Value types.
-fn name_values(
-    alloc: Global,
+// Puts value types behind others.
+fn push_values(
+    values: &mut Vec<ValType>,
     raw: &[RawVal],
     indices: &IndicesToIds,
-) -> Result<Vec<ValType>, IrError>
-    ensures { Finds (λ values. map val_type values.items) result
-        (named_vals (ids_at indices.now) (map val_of raw.now)) }
+) -> Result<(), IrError>
+    ensures { Finds (λ _. map val_type values.new.items) result
+        (option_map (λ more. map val_type values.old.items ++ more)
+        (named_vals (ids_at indices.now) (map val_of raw.now))) }
 {
-    let mut values = Vec::with_capacity(alloc, raw.len())?;
     for value in raw {
         let Some(named) = name_value(*value, indices) else {
             return Err(IrError::Malformed);
         };
         values.push(named)?;
     }
-    Ok(values)
+    Ok(())
 }
 
 // The fields of a struct.
