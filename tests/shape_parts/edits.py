@@ -146,4 +146,5 @@ edits(
     lambda count: (functions(1), b"".join(record(PRODUCER, sized(b"sdk") + sized(name) + sized(b"1")) for name in different(count))), most_times=25)
 edits(
     "producers_fields", "one producer, set again and again beside as many fields of producers",
-    lambda count: (functions(1) + custom(b"producers", listed([sized(name) + NOTHING for name in different(count)])), record(PRODUCER, sized(b"sdk") + sized(b"a") + sized(b"1")) * count))
+    lambda count: (functions(1) + custom(b"producers", listed([sized(name) + NOTHING for name in different(count)])), record(PRODUCER, sized(b"sdk") + sized(b"a") + sized(b"1")) * count),
+    most_times=25)

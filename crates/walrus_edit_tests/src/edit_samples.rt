@@ -76,6 +76,18 @@ fn bodies_are_set_and_fronted(rt: HostRuntime) -> result::Result<(), Fail> {
     demand_made(alloc, "17 03 00 01 01", A_LONGER_BODY, "in front")
 }
 
+// Twenty constants, each put in front of the others and dropped.
+const TWENTY_FRONTS: &str =
+    "17 04 00 41 01 1A 17 04 00 41 02 1A 17 04 00 41 03 1A 17 04 00 41 04 1A 17 04 00 41 05 1A 17 04 00 41 06 1A 17 04 00 41 07 1A 17 04 00 41 08 1A 17 04 00 41 09 1A 17 04 00 41 0A 1A 17 04 00 41 0B 1A 17 04 00 41 0C 1A 17 04 00 41 0D 1A 17 04 00 41 0E 1A 17 04 00 41 0F 1A 17 04 00 41 10 1A 17 04 00 41 11 1A 17 04 00 41 12 1A 17 04 00 41 13 1A 17 04 00 41 14 1A";
+
+const TWENTY_IN_FRONT: &str =
+    "00 61 73 6D 01 00 00 00 01 04 01 60 00 00 03 03 02 00 00 07 0A 02 01 66 00 00 02 61 62 00 01 0A 44 02 3F 00 41 14 1A 41 13 1A 41 12 1A 41 11 1A 41 10 1A 41 0F 1A 41 0E 1A 41 0D 1A 41 0C 1A 41 0B 1A 41 0A 1A 41 09 1A 41 08 1A 41 07 1A 41 06 1A 41 05 1A 41 04 1A 41 03 1A 41 02 1A 41 01 1A 01 0B 02 00 0B";
+
+#[test]
+fn many_fronts_stand_in_turn(rt: HostRuntime) -> result::Result<(), Fail> {
+    demand_made(rt.alloc(), TWENTY_FRONTS, TWENTY_IN_FRONT, "fronts")
+}
+
 const STARTS: &str =
     "00 61 73 6D 01 00 00 00 01 04 01 60 00 00 03 03 02 00 00 07 0A 02 01 66 00 00 02 61 62 00 01 08 01 00 0A 08 02 03 00 01 0B 02 00 0B";
 

@@ -65,7 +65,7 @@ module _ (p : Parts) (job : Task) (r : Records p job.choices.features) (e : Cust
     elements = flags_with r e;
     data_count = count_carried (renaming_of r) (parts_view p) (module_with r e) (carried_with r e) (length r.data_segments) r.data_count r.counted;
     names = written_stand r job.choices e say.names_are;
-    producers = subst (λ (l : List ProducerField). All FieldIsText l) (sym say.producers_are) (chosen_text job.choices.producers p.producers.now.fields.items);
+    producers = subst (λ (l : List ProducerField). All FieldIsText l) (sym say.producers_are) (chosen_text job.choices.producers p.producers.now.fields);
     dylinks = say.dylinks;
     others = say.others;
   }

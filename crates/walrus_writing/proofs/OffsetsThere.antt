@@ -24,6 +24,7 @@ use Rattle.walrus_bodies.specs.Placed.{placed_op}
 use Rattle.walrus_bodies.specs.Text.{at_place, bytes_of, entry_of, first_local_of, locations_in, ops_in, texts_of}
 use Rattle.walrus_bodies.specs.Texts.{behind_first, places_at, texts_at, values}
 use Rattle.walrus_bodies.specs.declared.features.Features.{Features}
+use Rattle.walrus_bodies.specs.Listed.{operators_of}
 use Rattle.walrus_bodies.specs.declared.function.Body.{Body}
 use Rattle.walrus_bodies.specs.declared.function.Body.TheVariants as bodies
 use Rattle.walrus_bodies.specs.declared.function.LocalFunction.{LocalFunction}
@@ -78,8 +79,8 @@ text_many t =
     ∙ sym (length-map (texts_at count (bytes_of t)) (placed_op (first_local_of t)))
 
 body_many : (b : Body) → length (places_in b) ≡ length (body_in b)
-body_many (bodies.Text t params) = text_many t
-body_many (bodies.List listed) = length-map listed.value.operators.items _ ∙ sym (length-map listed.value.operators.items _)
+body_many (bodies.Text params t) = text_many t
+body_many (bodies.List listed) = length-map (operators_of listed.value) _ ∙ sym (length-map (operators_of listed.value) _)
 
 locations_many : (f : LocalFunction) → length (locations_of f) ≡ length (body_of f)
 unfolding locations_of body_of
