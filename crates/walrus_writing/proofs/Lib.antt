@@ -1,3 +1,4 @@
+pub mod AppendedBodies
 pub mod Bare
 pub mod BodiesTold
 pub mod CarriedOver
@@ -60,6 +61,7 @@ pub mod TypesEntered
 pub mod UsedRows
 pub mod WithCustoms
 pub mod WrittenAs
+pub mod WritesSections
 pub mod WrittenLemmas
 pub mod NamesLemmas
 pub mod PlacedNames

@@ -66,6 +66,7 @@ use Rattle.walrus_groups.proofs.OneList.{All-front}
 use Rattle.walrus_writing.specs.Located.{ArePlaces, TellsBodies, TellsItems}
 use Rattle.walrus_writing.specs.Customs.{Task, chosen_producers, sections_made}
 use Rattle.walrus_writing.specs.Bodies.{AreBodies}
+use Rattle.walrus_writing.specs.BySection.{GivesOrNone}
 use Rattle.walrus_writing.specs.Parts.{BodySeen, HasBytes, export_with_index, memory_limits, tag_index, type_index, unplaced}
 use Rattle.walrus_plan.specs.Brought.{import_numbers, own_of, own_places, places_brought}
 use Rattle.walrus_writing.specs.Imported.{IsEntryAt}
@@ -117,6 +118,10 @@ module _ (p : Parts) (job : Task) (X : Type 0) where
   data_refused (Parts_error.Memory m) r = tt
   data_refused Parts_error.NotWritable r = ASegment r.0 r.1 r.2
   data_refused _ r = absurd r
+
+  pub memory_refused : (Y : Type 0) (P : Y → Type 0) (e : Error) → GivesOrNone P (Err e) → RefusesItems {X = X} p job (Err e)
+  memory_refused Y P (Parts_error.Memory m) r = tt
+  memory_refused Y P _ r = absurd r
 
   -- whatever would have been given
   pub refuses_any : (Y : Type 0) (e : Error) → RefusesItems {X = Y} p job (Err e) → RefusesItems {X = X} p job (Err e)
@@ -180,7 +185,7 @@ seen_by_places {T} {X} {W} seen_as f slots =
     ∙ seen_by_own (λ (t : T). None) seen_as f slots
     ∙ ap (map (λ (t : T). f (seen_as t))) (all_own (items slots))
 
-module _ (p : Parts) (job : Task) (names : Lookup) (named : names ≡ job.names) (plan : Plan) (raws : List (Vec RawSub)) (raw_imports : List RawImport) (raw_functions : List ℕ) (raw_tables : List RawTable) (raw_memories : List RawLimits) (raw_tags : List ℕ) (raw_globals : List RawGlobal) (exported : List RawExport) (bodies : List BodySeen) (raw_elements : List RawElement) (raw_segments : List RawData) (count : Option ℕ)
+module _ (p : Parts) (job : Task) (names : Lookup) (named : names ≡ job.names) (plan : Plan) (groups : List entries.Group) (raw_imports : List RawImport) (raw_functions : List ℕ) (raw_tables : List RawTable) (raw_memories : List RawLimits) (raw_tags : List ℕ) (raw_globals : List RawGlobal) (exported : List RawExport) (bodies : List BodySeen) (raw_elements : List RawElement) (raw_segments : List RawData) (count : Option ℕ)
     (matched : ImportsMatch (parts_view p)) (reads : ReadsInOrder (parts_view p))
     (is_plan : IsPlan (parts_view p) (places plan)) (numbered : AreNumbered names (places plan)) (few : (s : Space) → length (places plan s) < 2 ^ 32)
     (types : map place plan.types.items ≡ map (λ e. e.0) (entries_in (type_slots p.types.now)))
@@ -189,7 +194,7 @@ module _ (p : Parts) (job : Task) (names : Lookup) (named : names ≡ job.names)
     (memories_rise : map place plan.memories.items ≡ places_brought Memories (items (imports p.imports.now)) ++ own_places (λ m. m.imported_by) (entries_in (memories p.memories.now)))
     (tags_rise : map place plan.tags.items ≡ places_brought Tags (items (imports p.imports.now)) ++ own_places (λ t. t.imported_by) (entries_in (tags p.tags.now)))
     (globals_rise : map place plan.globals.items ≡ places_brought Globals (items (imports p.imports.now)) ++ own_places (λ g. g.imported_by) (entries_in (globals p.globals.now)))
-    (types_are : AreIndexed names (items (type_slots p.types.now)) (map group raws))
+    (types_are : AreIndexed names (items (type_slots p.types.now)) groups)
     (imports_are : AllZip (IsEntryAt names (parts_view p)) (import_numbers p) (map import_entry raw_imports))
     (functions_are : map Some raw_functions ≡ map (λ id. option_and_then (type_index names) ((parts_view p).functions (place id))) plan.own_functions.items)
     (tables_are : map (λ t. Some (said.table_of (table_entry t))) raw_tables ≡ map (λ t. named_table names (table_of t)) (own_of (λ x. x.imported_by) (items (tables p.tables.now))))
@@ -250,7 +255,7 @@ module _ (p : Parts) (job : Task) (names : Lookup) (named : names ≡ job.names)
     parted = parted_own p plan brought tables_rise memories_rise tags_rise globals_rise;
     imports = map import_entry raw_imports;
     imports_are = imports_are;
-    types = map group raws;
+    types = groups;
     types_are = types_are.read ∙ sym (by_places (named_def names) (type_slots p.types.now)) ∙ ap (map (λ i. option_and_then (named_def names) ((parts_view p).types i))) (sym types);
     none_empty = types_are.none_empty;
     types_stand = types_are.stand;
@@ -321,7 +326,7 @@ module _ (p : Parts) (job : Task) (names : Lookup) (named : names ≡ job.names)
   -- the module of these sections
   module _ (order : List ℕ) (code : List wire.Body) (customs : List wire.Custom) (none : order ≡ []) (codes : code ≡ map unplaced (map (λ (b : BodySeen). b.bytes) bodies)) (customs_are : customs ≡ job.sections ++ sections_made names_given producers_chosen) where
     abbrev with_rest : List wire.Body → List wire.Custom → wire.Module
-    with_rest all behind = sections_with (map group raws) (map import_entry raw_imports) raw_functions (map table_entry raw_tables) raw_memories raw_tags (map global_entry raw_globals) (map export_entry exported) started (map element_entry raw_elements) count all (map data_entry raw_segments) behind
+    with_rest all behind = sections_with groups (map import_entry raw_imports) raw_functions (map table_entry raw_tables) raw_memories raw_tags (map global_entry raw_globals) (map export_entry exported) started (map element_entry raw_elements) count all (map data_entry raw_segments) behind
 
     abbrev m : wire.Module
     m = record (with_rest code customs) { order = order }
@@ -338,7 +343,7 @@ module _ (p : Parts) (job : Task) (names : Lookup) (named : names ≡ job.names)
   -- the module of these sections with other custom sections: those of dynamic linking alone
   module _ (order : List ℕ) (code : List wire.Body) (customs dylinks : List wire.Custom) (none : order ≡ []) (codes : code ≡ map unplaced (map (λ (b : BodySeen). b.bytes) bodies)) (customs_are : customs ≡ dylinks) where
     abbrev part_with : List wire.Body → List wire.Custom → wire.Module
-    part_with all front = sections_with (map group raws) (map import_entry raw_imports) raw_functions (map table_entry raw_tables) raw_memories raw_tags (map global_entry raw_globals) (map export_entry exported) started (map element_entry raw_elements) count all (map data_entry raw_segments) front
+    part_with all front = sections_with groups (map import_entry raw_imports) raw_functions (map table_entry raw_tables) raw_memories raw_tags (map global_entry raw_globals) (map export_entry exported) started (map element_entry raw_elements) count all (map data_entry raw_segments) front
 
     abbrev part : wire.Module
     part = record (part_with code customs) { order = order }

@@ -13,3 +13,4 @@ pub mod Tables
 pub mod Transform
 pub mod Names
 pub mod Pushed
+pub mod BySection

@@ -6,7 +6,9 @@
 //! Where it is well made and nothing is undeclared, they read as it. The code transform, where it is asked for, is that of these bytes.
 #![tactic(auto)]
 
+mod behind;
 mod bodies;
+mod by_section;
 mod customs;
 mod data;
 mod elements;
@@ -21,6 +23,7 @@ mod located;
 mod memories;
 mod names;
 mod offsets;
+mod one_section;
 mod producers;
 mod start;
 mod tables;

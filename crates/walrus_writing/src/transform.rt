@@ -141,8 +141,8 @@ pub fn code_transform<'a>(
     })
 }
 
-// A transform of nothing.
-fn untold(alloc: Global) -> CodeTransform {
+/// A transform of nothing.
+pub fn untold(alloc: Global) -> CodeTransform {
     CodeTransform {
         function_ranges: Vec::new(alloc),
         code_section_start: 0,
@@ -157,7 +157,7 @@ pub fn bodies_told(
     order: Vec<FunctionId>,
     asked: bool,
 ) -> Result<CodeTransform>
-    requires as_many { length order.items ≡ length (sections raw.now).bodies }
+    requires as_many { asked ≡ true → length order.items ≡ length (sections raw.now).bodies }
     ensures told { asked ≡ true
         → IfOk result (TellsBodies (sections raw.now) (map place order.items)) }
     ensures refused { IfErr result (RefusesModule (sections raw.now)) }

@@ -19,6 +19,7 @@ ghost use Rattle.walrus_writing.specs.Transform.{EmitsParts};
 ghost use Rattle.walrus_writing.specs.declared.write.Choices.{Choices};
 
 use crate::bodies::{Indexed, raw_bodies, written_bodies};
+use crate::by_section::write_by_section;
 use crate::customs::{Payloads, both_payloads, raw_customs};
 use crate::data::raw_data;
 use crate::elements::raw_elements;
@@ -33,7 +34,7 @@ use crate::producers::producers_payload;
 use crate::start::raw_start;
 use crate::tables::raw_tables;
 use crate::tags::raw_tags;
-use crate::transform::bodies_told;
+use crate::transform::{bodies_told, untold};
 use crate::types::raw_types;
 use std::alloc::Global;
 use walrus_base::FunctionId;
@@ -58,9 +59,9 @@ pub struct Choices {
 
 // What is made for sections that only lend it: the bodies, and the payloads of custom sections.
 #[derive(Drop)]
-struct Made {
-    bodies: WrittenBodies,
-    payloads: Option<Payloads>,
+pub(crate) struct Made {
+    pub(crate) bodies: WrittenBodies,
+    pub(crate) payloads: Option<Payloads>,
 }
 
 // Makes it, of the plan of these parts.
@@ -178,16 +179,21 @@ pub fn write_prepared<'a>(
     write_items(alloc, parts, prepared, customs, choices, tells)
 }
 
-// Of a plan, in which order the module's own functions are written: nothing else is left of it.
-fn own_order(plan: Plan) -> Vec<FunctionId>
-    ensures { result ≡ plan.own_functions }
+// Of a plan, in which order the module's own functions are written, where that is asked for: nothing else is left of it.
+fn order_asked(alloc: Global, plan: Plan, asked: bool) -> Vec<FunctionId>
+    ensures { asked ≡ true → result ≡ plan.own_functions }
 {
-    plan.own_functions
+    if asked {
+        plan.own_functions
+    } else {
+        Vec::new(alloc)
+    }
 }
 
 // The bytes of items that name nothing dead, in the order of their plan, by the indices that it gives, and where the bodies of functions stand
-// in them, where that is asked for. Of the plan only the order of functions is left before the records that don't need it are made, and the
-// indices are dropped before the bytes.
+// in them, where that is asked for. Of the plan only the order of functions is left, if that, before the records that don't need it are made.
+// Where no transform is asked for, the module is written section by section. If that gives up, or one is asked for, all records are made
+// first, the indices are dropped before the bytes, and a refusal comes with its cause.
 fn write_items<'a>(
     alloc: Global,
     parts: Parts<'a>,
@@ -213,7 +219,14 @@ fn write_items<'a>(
         indices,
         data_count,
     } = prepared;
-    let left = own_order(plan);
+    let left = order_asked(alloc, plan, tells);
+    let listed = functions.as_slice();
+    let by_section = write_by_section(
+        alloc, parts, &indices, data_count, listed, &made, &*own, tells,
+    )?;
+    if let Some(whole) = by_section {
+        return Ok((whole, untold(alloc)));
+    }
     let raw = raw_items(alloc, parts, &indices, data_count, functions, &made, own)?;
     drop(indices);
     let transform = bodies_told(alloc, &raw, left, tells)?;

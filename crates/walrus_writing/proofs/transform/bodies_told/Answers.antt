@@ -1,4 +1,4 @@
-use Rattle.std.proofs.Common.{◌∙◌, ℕ, List, length, map, sym, ap, subst}
+use Rattle.std.proofs.Common.{rules, ◌≡◌, ◌∙◌, ℕ, true, List, length, map, sym, ap, subst}
 use Rattle.std.specs.Prelude.{zip}
 use Rattle.std.specs.declared.ops.Range.{Range}
 use Rattle.std.proofs.lemmas.List.{length-map}
@@ -16,8 +16,9 @@ use Rattle.walrus_writing.proofs.transform.bodies_told.Goals as goal
 pub function_ranges-requires : goal.function_ranges-requires
 function_ranges-requires c =
     let m = sections c.args.raw.now in
+    let asked : c.args.asked ≡ true = search rules in
     record {
-      as_many = ap length c.as_slice-functions.ensures.value ∙ c.requires.as_many
+      as_many = ap length c.as_slice-functions.ensures.value ∙ c.requires.as_many asked
           ∙ placed_many (first_body (code_place m) m.bodies) m.bodies
           ∙ sym (length-map (as_written m).bodies range_of)
           ∙ ap length (sym (c.as_slice-ranges.ensures.value ∙ c.in_ok-places.ensures.1));

@@ -11,6 +11,7 @@ use Rattle.walrus_contents.specs.View.{global_of, parts_view, table_of, tag_of}
 use Rattle.walrus_items.specs.Globals.{GlobalValue, globals}
 use Rattle.walrus_items.specs.Tables.{TableValue, tables}
 use Rattle.walrus_items.specs.Tags.{TagValue, tags}
+use Rattle.wasm_entries.specs.Record.{group}
 use Rattle.wasm_frames.specs.Record.{custom_record}
 use Rattle.walrus_writing.specs.Customs.{task}
 use Rattle.wasm_writer.specs.declared.places.CodePlaces.{CodePlaces}
@@ -111,7 +112,7 @@ returns-in_err-places-clause-refused c = λ sections same.
     let plan = c.requires.planned in
     let codes = sym (ap (map unplaced) (seen_texts c.args.parts names c.args.choices.now.features c.args.prepared.now.plan.own_functions.items c.args.bodies.now c.requires.written)) in
     let p = err_from_is_err_and c.from_residual-in_err-places.result c.from_residual-in_err-places.ensures.1 in
-    rw (p.1, p.2) (places_refused c.args.parts (task c.args.choices.now names sections) names refl c.args.prepared.now.plan c.in_ok-types.types.items c.in_ok-imports.imports.items c.in_ok-functions.functions.items c.in_ok-tables.tables.items c.in_ok-memories.memories.items c.in_ok-tags.tags.items c.in_ok-globals.globals.items c.in_ok-exports.exports.items (seen_in c.args.parts names c.args.choices.now.features c.args.prepared.now.plan.own_functions.items c.args.bodies.now c.requires.written) c.in_ok-elements.elements.items c.in_ok-data_segments.data_segments.items c.args.prepared.now.data_count
+    rw (p.1, p.2) (places_refused c.args.parts (task c.args.choices.now names sections) names refl c.args.prepared.now.plan (map group c.in_ok-types.types.items) c.in_ok-imports.imports.items c.in_ok-functions.functions.items c.in_ok-tables.tables.items c.in_ok-memories.memories.items c.in_ok-tags.tags.items c.in_ok-globals.globals.items c.in_ok-exports.exports.items (seen_in c.args.parts names c.args.choices.now.features c.args.prepared.now.plan.own_functions.items c.args.bodies.now c.requires.written) c.in_ok-elements.elements.items c.in_ok-data_segments.data_segments.items c.args.prepared.now.data_count
     plan.matched plan.reads plan.is_plan plan.numbered plan.few
     plan.lists.types plan.lists.brought plan.lists.tables plan.lists.memories plan.lists.tags plan.lists.globals
     c.in_ok-types.ensures.value c.in_ok-imports.ensures.value
@@ -133,7 +134,7 @@ returns-clause-told c =
     let names = index_of c.args.prepared.now.indices in
     let plan = c.requires.planned in
     let codes = sym (ap (map unplaced) (seen_texts c.args.parts names c.args.choices.now.features c.args.prepared.now.plan.own_functions.items c.args.bodies.now c.requires.written)) in
-    places_told c.args.parts (task c.args.choices.now names []) names refl c.args.prepared.now.plan c.in_ok-types.types.items c.in_ok-imports.imports.items c.in_ok-functions.functions.items c.in_ok-tables.tables.items c.in_ok-memories.memories.items c.in_ok-tags.tags.items c.in_ok-globals.globals.items c.in_ok-exports.exports.items (seen_in c.args.parts names c.args.choices.now.features c.args.prepared.now.plan.own_functions.items c.args.bodies.now c.requires.written) c.in_ok-elements.elements.items c.in_ok-data_segments.data_segments.items c.args.prepared.now.data_count
+    places_told c.args.parts (task c.args.choices.now names []) names refl c.args.prepared.now.plan (map group c.in_ok-types.types.items) c.in_ok-imports.imports.items c.in_ok-functions.functions.items c.in_ok-tables.tables.items c.in_ok-memories.memories.items c.in_ok-tags.tags.items c.in_ok-globals.globals.items c.in_ok-exports.exports.items (seen_in c.args.parts names c.args.choices.now.features c.args.prepared.now.plan.own_functions.items c.args.bodies.now c.requires.written) c.in_ok-elements.elements.items c.in_ok-data_segments.data_segments.items c.args.prepared.now.data_count
     plan.matched plan.reads plan.is_plan plan.numbered plan.few
     plan.lists.types plan.lists.brought plan.lists.tables plan.lists.memories plan.lists.tags plan.lists.globals
     c.in_ok-types.ensures.value c.in_ok-imports.ensures.value

@@ -10,6 +10,7 @@ use Rattle.walrus_contents.specs.View.{global_of, parts_view, table_of, tag_of}
 use Rattle.walrus_items.specs.Globals.{GlobalValue, globals}
 use Rattle.walrus_items.specs.Tables.{TableValue, tables}
 use Rattle.walrus_items.specs.Tags.{TagValue, tags}
+use Rattle.wasm_entries.specs.Record.{group}
 use Rattle.wasm_frames.specs.Record.{custom_record}
 use Rattle.wasm_frames.specs.declared.record.Raw.{Raw}
 use Rattle.walrus_writing.specs.Customs.{chosen_producers, task}
@@ -106,7 +107,7 @@ returns-then-is_none-clause-refused c = λ choices follow.
     let plan = follow.planned in
     let producers = chosen_producers c.args.parts choices in
     let said = if_chosen choices.names (names_said c.args.parts (places follow.prepared.plan) (first_own follow.prepared.plan) (map (λ (b : BodySeen). b.used) follow.are_made.0)) in
-    payloads_refused c.args.parts (task choices (index_of c.args.indices.now) (map custom_record c.args.own.now)) names refl follow.prepared.plan c.in_ok-types.types.items c.in_ok-imports.imports.items c.args.functions.items c.in_ok-tables.tables.items c.in_ok-memories.memories.items c.in_ok-tags.tags.items c.in_ok-globals.globals.items c.in_ok-exports.exports.items follow.are_made.0 c.in_ok-elements.elements.items c.in_ok-data_segments.data_segments.items c.args.count
+    payloads_refused c.args.parts (task choices (index_of c.args.indices.now) (map custom_record c.args.own.now)) names refl follow.prepared.plan (map group c.in_ok-types.types.items) c.in_ok-imports.imports.items c.args.functions.items c.in_ok-tables.tables.items c.in_ok-memories.memories.items c.in_ok-tags.tags.items c.in_ok-globals.globals.items c.in_ok-exports.exports.items follow.are_made.0 c.in_ok-elements.elements.items c.in_ok-data_segments.data_segments.items c.args.count
     plan.matched plan.reads plan.is_plan plan.numbered plan.few
     plan.lists.types plan.lists.brought plan.lists.tables plan.lists.memories plan.lists.tags plan.lists.globals
     c.in_ok-types.ensures.value c.in_ok-imports.ensures.value
@@ -127,7 +128,7 @@ returns-clause-records c = λ choices follow.
     let plan = follow.planned in
     let producers = chosen_producers c.args.parts choices in
     let said = if_chosen choices.names (names_said c.args.parts (places follow.prepared.plan) (first_own follow.prepared.plan) (map (λ (b : BodySeen). b.used) follow.are_made.0)) in
-    records_made c.args.parts (task choices (index_of c.args.indices.now) (map custom_record c.args.own.now)) names refl follow.prepared.plan c.in_ok-types.types.items c.in_ok-imports.imports.items c.args.functions.items c.in_ok-tables.tables.items c.in_ok-memories.memories.items c.in_ok-tags.tags.items c.in_ok-globals.globals.items c.in_ok-exports.exports.items follow.are_made.0 c.in_ok-elements.elements.items c.in_ok-data_segments.data_segments.items c.args.count
+    records_made c.args.parts (task choices (index_of c.args.indices.now) (map custom_record c.args.own.now)) names refl follow.prepared.plan (map group c.in_ok-types.types.items) c.in_ok-imports.imports.items c.args.functions.items c.in_ok-tables.tables.items c.in_ok-memories.memories.items c.in_ok-tags.tags.items c.in_ok-globals.globals.items c.in_ok-exports.exports.items follow.are_made.0 c.in_ok-elements.elements.items c.in_ok-data_segments.data_segments.items c.args.count
     plan.matched plan.reads plan.is_plan plan.numbered plan.few
     plan.lists.types plan.lists.brought plan.lists.tables plan.lists.memories plan.lists.tags plan.lists.globals
     c.in_ok-types.ensures.value c.in_ok-imports.ensures.value

@@ -1,5 +1,6 @@
 use Rattle.std.proofs.Common.{◌∙◌, ℕ, length, map, refl, sym, ap, subst}
 use Rattle.std.specs.Global.{Vec}
+use Rattle.std.specs.Prelude.{Ok, Option, Some}
 use Rattle.std.proofs.lemmas.List.{length-map}
 use Rattle.std.proofs.lemmas.Result.{err_from_is_err_and}
 use Rattle.wasm_frames.specs.Record.{custom_record, sections}
@@ -9,12 +10,14 @@ use Rattle.walrus_base.specs.declared.id.Id.{Id}
 use Rattle.walrus_base.specs.declared.keys.FunctionKey.{FunctionKey}
 use Rattle.walrus_code.specs.Indices.{index_of}
 use Rattle.walrus_items.specs.declared.transform.CodeTransform.{CodeTransform}
+use Rattle.walrus_writing.specs.BySection.{GivesOrNone}
 use Rattle.walrus_writing.specs.Customs.{task}
 use Rattle.walrus_writing.specs.Located.{TellsBodies}
+use Rattle.walrus_writing.specs.Records.{Spells}
 use Rattle.walrus_plan.specs.Places.{places}
 use Rattle.walrus_writing.proofs.Indexed.{ids_indexed, ids_typed}
 use Rattle.walrus_writing.proofs.FollowedPlan.{followed}
-use Rattle.walrus_writing.proofs.Refusing.{as_many_bodies, bodies_refused, items_told, measure_refused, module_refused, module_written, refuses_any}
+use Rattle.walrus_writing.proofs.Refusing.{as_many_bodies, bodies_refused, items_told, measure_refused, memory_refused, module_refused, module_written, refuses_any}
 use Rattle.walrus_writing.proofs.write.write_items.Goals as goal
 
 pub make-requires : goal.make-requires
@@ -31,6 +34,22 @@ raw_functions-requires c = record {
 pub raw_items-requires-clause-planned : goal.raw_items-requires-clause-planned
 raw_items-requires-clause-planned c = (c.args.prepared, c.requires.planned)
 
+pub write_by_section-requires-clause-planned : goal.write_by_section-requires-clause-planned
+write_by_section-requires-clause-planned c = (c.args.prepared, c.requires.planned)
+
+pub returns-in-Some-clause-spells : goal.returns-in-Some-clause-spells
+returns-in-Some-clause-spells c =
+    let job = task c.args.choices.now (index_of c.args.prepared.indices) (map custom_record c.args.own.now) in
+    subst (λ (o : Option (Vec ℕ)). GivesOrNone (λ (v : Vec ℕ). Spells c.args.parts job v.items) (Ok o)) c.in-Some.is
+    (c.in_ok-by_section.ensures.spells c.args.choices.now (followed c.args.parts c.args.prepared c.requires.planned c.args.choices.now c.as_slice-listed.result.now c.in_ok-made.made _ (ap (map Some) c.as_slice-listed.ensures.value ∙ c.in_ok-functions.ensures.value) c.as_slice-order.ensures.value c.in_ok-made.ensures.written))
+
+pub returns-in_err-by_section-clause-refused : goal.returns-in_err-by_section-clause-refused
+returns-in_err-by_section-clause-refused c =
+    let p = err_from_is_err_and c.from_residual-in_err-by_section.result c.from_residual-in_err-by_section.ensures.1 in
+    let job = task c.args.choices.now (index_of c.args.prepared.indices) (map custom_record c.args.own.now) in
+    rw (p.1, p.2) (memory_refused c.args.parts job (Vec ℕ × CodeTransform) (Vec ℕ) (λ v. Spells c.args.parts job v.items) _
+    (c.in_err-by_section.ensures.spells c.args.choices.now (followed c.args.parts c.args.prepared c.requires.planned c.args.choices.now c.as_slice-listed.result.now c.in_ok-made.made _ (ap (map Some) c.as_slice-listed.ensures.value ∙ c.in_ok-functions.ensures.value) c.as_slice-order.ensures.value c.in_ok-made.ensures.written)))
+
 pub returns-in_err-made-clause-refused : goal.returns-in_err-made-clause-refused
 returns-in_err-made-clause-refused c =
     let p = err_from_is_err_and c.from_residual.result c.from_residual.ensures.1 in
@@ -43,8 +62,9 @@ returns-in_err-raw-clause-refused c =
 
 pub bodies_told-requires : goal.bodies_told-requires
 bodies_told-requires c = record {
-  as_many = sym (length-map c.own_order-left.result.items (λ (i : Id FunctionKey). place i))
-      ∙ ap (λ (l : Vec (Id FunctionKey)). length (map place l.items)) c.own_order-left.ensures
+  as_many = λ asked.
+      sym (length-map c.order_asked-left.result.items (λ (i : Id FunctionKey). place i))
+      ∙ ap (λ (l : Vec (Id FunctionKey)). length (map place l.items)) (c.order_asked-left.ensures asked)
       ∙ as_many_bodies c.args.parts (task c.args.choices.now (index_of c.args.prepared.indices) (map custom_record c.args.own.now)) (map place c.args.prepared.plan.own_functions.items) (sections c.in_ok-raw.raw) (c.in_ok-raw.ensures.records c.args.choices.now (followed c.args.parts c.args.prepared c.requires.planned c.args.choices.now c.in_ok-functions.functions.items c.in_ok-made.made _ c.in_ok-functions.ensures.value c.as_slice-order.ensures.value c.in_ok-made.ensures.written));
 }
 
@@ -65,4 +85,4 @@ returns-clause-spells c =
 pub returns-clause-told : goal.returns-clause-told
 returns-clause-told c =
     λ asked. items_told c.args.parts (task c.args.choices.now (index_of c.args.prepared.indices) (map custom_record c.args.own.now)) (map place c.args.prepared.plan.own_functions.items) (sections c.in_ok-raw.raw) (c.in_ok-raw.ensures.records c.args.choices.now (followed c.args.parts c.args.prepared c.requires.planned c.args.choices.now c.in_ok-functions.functions.items c.in_ok-made.made _ c.in_ok-functions.ensures.value c.as_slice-order.ensures.value c.in_ok-made.ensures.written)) c.in_ok-transform.transform
-    (subst (λ (l : Vec (Id FunctionKey)). TellsBodies (sections c.in_ok-raw.raw) (map place l.items) c.in_ok-transform.transform) c.own_order-left.ensures (c.in_ok-transform.ensures.told asked))
+    (subst (λ (l : Vec (Id FunctionKey)). TellsBodies (sections c.in_ok-raw.raw) (map place l.items) c.in_ok-transform.transform) (c.order_asked-left.ensures asked) (c.in_ok-transform.ensures.told asked))
