@@ -97,8 +97,8 @@ fn push_places(
     Ok(())
 }
 
-// The locations of all bodies, which have these ranges, each with its place.
-fn all_places(
+/// The locations of the operators of all bodies, which have these ranges, each with its place.
+pub fn all_places(
     alloc: Global,
     ranges: &[Range<usize>],
     bodies: &[LocatedBody],
@@ -149,28 +149,19 @@ fn last_places(alloc: Global, sorted: &[(u32, usize)]) -> Result<Vec<(InstrLocId
     ensures value { IfOk result (λ last. map location_of last.items ≡ lasts sorted.now) }
     ensures fails { IsOkUnless result out_of_memory }
 {
-    let mut last = Vec::new(alloc);
+    let mut last = Vec::with_capacity(alloc, sorted.len())?;
     'sorted: for index in 0..sorted.len() {
         push_last(&mut last, sorted, index)?;
     }
     Ok(last)
 }
 
-/// Of each location of an operator of these bodies, which have these ranges, the last of its places, by rising location.
-pub fn instruction_map(
-    alloc: Global,
-    ranges: &[Range<usize>],
-    bodies: &[LocatedBody],
-) -> Result<Vec<(InstrLocId, usize)>>
-    requires as_many { length bodies.now ≡ length ranges.now }
-    requires within { AllZip (λ range body. All (λ o. range.start + o.1 ≤ range.end) body.places.items)
-        ranges.now bodies.now }
-    ensures value { IfOk result (λ last. LastPlaces true (all_placed_from
-        (map (λ r. r.start) ranges.now) (map (λ b. map location_of b.places.items) bodies.now))
-        (map location_of last.items)) }
+/// Of each of these locations with places the last of its places, by rising location.
+pub fn instruction_map(alloc: Global, placed: Vec<(u32, usize)>) -> Result<Vec<(InstrLocId, usize)>>
+    ensures value { IfOk result (λ last. LastPlaces true placed.items (map location_of last.items)) }
     ensures fails { IsOkUnless result out_of_memory }
 {
-    let mut found = all_places(alloc, ranges, bodies)?;
+    let mut found = placed;
     found.sort_unstable();
     last_places(alloc, found.as_slice())
 }

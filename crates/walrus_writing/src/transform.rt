@@ -25,7 +25,7 @@ use crate::exports::raw_exports;
 use crate::functions::raw_functions;
 use crate::globals::raw_globals;
 use crate::imports::raw_imports;
-use crate::located::{function_ranges, instruction_map};
+use crate::located::{all_places, function_ranges, instruction_map};
 use crate::memories::raw_memories;
 use crate::offsets::{LocatedBody, located_bodies, raw_located};
 use crate::start::raw_start;
@@ -133,7 +133,9 @@ pub fn code_transform<'a>(
     let places = item_places(alloc, parts, prepared, lent, dylinks, choices)?;
     let ranges = places.bodies.as_slice();
     let by_id = function_ranges(alloc, order, ranges)?;
-    let by_location = instruction_map(alloc, ranges, lent)?;
+    let placed = all_places(alloc, ranges, lent)?;
+    drop(bodies);
+    let by_location = instruction_map(alloc, placed)?;
     Ok(CodeTransform {
         function_ranges: by_id,
         code_section_start: places.count,

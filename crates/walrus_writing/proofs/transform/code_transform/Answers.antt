@@ -69,8 +69,8 @@ function_ranges-requires c =
       as_many = ap length c.as_slice-order.ensures.value ∙ many_functions c.args.parts names features ids bs located (map custom_record c.args.dylinks.now) c.in_ok-places.places told ∙ ap length (sym c.as_slice-ranges.ensures.value);
     }
 
-pub instruction_map-requires : goal.instruction_map-requires
-instruction_map-requires c =
+pub all_places-requires : goal.all_places-requires
+all_places-requires c =
     let names = index_of c.args.prepared.now.indices in
     let features = c.args.choices.now.features in
     let ids = c.args.prepared.now.plan.own_functions.items in
@@ -98,4 +98,5 @@ returns-clause-told c =
     (subst (λ (l : List (Range ℕ)). AreSorted by_ends (zip (map place ids) (map ends_of l)) (map range_of c.in_ok-by_id.by_id.items)) c.as_slice-ranges.ensures.value
     (subst (λ (l : List (Id FunctionKey)). AreSorted by_ends (zip (map place l) (map ends_of c.as_slice-ranges.result.now)) (map range_of c.in_ok-by_id.by_id.items)) c.as_slice-order.ensures.value c.in_ok-by_id.ensures.value))
     (subst (λ (l : List (Range ℕ)). LastPlaces true (all_placed_from (map (λ (r : Range ℕ). r.start) l) (map (offsets_of c.args.parts names features) bs)) (map location_of c.in_ok-by_location.by_location.items)) c.as_slice-ranges.ensures.value
-    (subst (λ (l : List LocatedBody). LastPlaces true (all_placed_from (map (λ (r : Range ℕ). r.start) c.as_slice-ranges.result.now) (map (offsets_of c.args.parts names features) l)) (map location_of c.in_ok-by_location.by_location.items)) c.as_slice-lent.ensures.value c.in_ok-by_location.ensures.value))
+    (subst (λ (l : List LocatedBody). LastPlaces true (all_placed_from (map (λ (r : Range ℕ). r.start) c.as_slice-ranges.result.now) (map (offsets_of c.args.parts names features) l)) (map location_of c.in_ok-by_location.by_location.items)) c.as_slice-lent.ensures.value
+    (subst (λ (l : List (ℕ × ℕ)). LastPlaces true l (map location_of c.in_ok-by_location.by_location.items)) c.in_ok-placed.ensures.value c.in_ok-by_location.ensures.value)))
