@@ -39,7 +39,9 @@ pub mod OwnCustoms
 pub mod OwnPlaces
 pub mod OwnSaid
 pub mod Parted
+pub mod Permuted
 pub mod Placed
+pub mod PlacedInTurn
 pub mod Placing
 pub mod ProducersSpelled
 pub mod RefusesAll

@@ -1,5 +1,5 @@
 -- How a code transform is made: of the places of bodies and of the operators in them.
-use Rattle.std.specs.Prelude.{ℕ, ◌+◌, Bool, true, false, not, cond, nat_eq, List, [], ◌∷◌, ◌++◌, map, zip, ◌≡◌, IsPermutation, IsSorted}
+use Rattle.std.specs.Prelude.{ℕ, ◌+◌, Bool, true, false, not, cond, nat_eq, List, [], ◌∷◌, ◌++◌, map, zip, ◌≡◌, IsPermutation, IsSorted, slice_index_or}
 use Rattle.std.specs.Ordering.{nat_cmp, ordering_then}
 use Rattle.std.specs.declared.cmp.Ordering.{Ordering}
 use Rattle.std.specs.declared.ops.Range.{Range}
@@ -78,6 +78,15 @@ placed_from start (o ∷ offsets) = placed_one o.0 (start + o.1) ++ placed_from 
 abbrev pub all_placed_from : List ℕ → List (List (ℕ × ℕ)) → List (ℕ × ℕ)
 all_placed_from (start ∷ starts) (offsets ∷ rest) = placed_from start offsets ++ all_placed_from starts rest
 all_placed_from starts offsets = []
+
+-- the places of these things in a list in which so many stand in front of them
+abbrev pub places_in : {X : Type 0} → ℕ → List X → List ℕ
+places_in n [] = []
+places_in n (x ∷ xs) = n ∷ places_in (n + 1) xs
+
+-- the locations of the body at a place of a list, of bodies that begin at these places
+abbrev pub placed_at : List ℕ → List (List (ℕ × ℕ)) → ℕ → List (ℕ × ℕ)
+placed_at starts offsets n = placed_from (slice_index_or starts n 0) (slice_index_or offsets n [])
 
 -- the next pair has another first number
 abbrev pub is_last_of : ℕ × ℕ → List (ℕ × ℕ) → Bool

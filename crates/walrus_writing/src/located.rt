@@ -1,11 +1,11 @@
 //! The places of bodies and of the operators in them, put in order ("Binary Format > Modules > Code Section").
-ghost use Rattle.std.specs.Prelude.{◌≡◌, ◌+◌, ◌<◌, ◌≤◌, ◌++◌, All, IfOk, IsOkUnless, OnOk, drop, length, map, true, zip};
+ghost use Rattle.std.specs.Prelude.{◌≡◌, ◌+◌, ◌<◌, ◌≤◌, ◌++◌, All, IfOk, IsOkUnless, IsPermutation, OnOk, drop, flat_map, length, map, true, zip};
 ghost use Rattle.std.specs.List.{AllZip};
 ghost use Rattle.walrus_base.specs.Id.{place};
 ghost use Rattle.walrus_code.specs.Location.{location};
 ghost use Rattle.walrus_items.specs.Errors.{out_of_memory};
 ghost use Rattle.walrus_items.specs.Transform.{location_of, range_of};
-ghost use Rattle.walrus_writing.specs.Located.{AreSorted, LastPlaces, all_placed_from, by_ends, ends_of, first_if_last, is_first_last, lasts, placed_from, placed_one};
+ghost use Rattle.walrus_writing.specs.Located.{AreSorted, LastPlaces, all_placed_from, by_ends, ends_of, first_if_last, is_first_last, lasts, placed_at, placed_from, placed_one, places_in};
 
 use crate::offsets::LocatedBody;
 use std::alloc::Global;
@@ -97,27 +97,88 @@ fn push_places(
     Ok(())
 }
 
-/// The locations of the operators of all bodies, which have these ranges, each with its place.
-pub fn all_places(
-    alloc: Global,
+// The functions of this order, each with its place in it.
+fn numbered(alloc: Global, order: &[FunctionId]) -> Result<Vec<(FunctionId, usize)>>
+    ensures value { IfOk result (λ turns. map (λ t. t.1) turns.items ≡ places_in 0 order.now) }
+    ensures fails { IsOkUnless result out_of_memory }
+{
+    let mut turns = Vec::with_capacity(alloc, order.len())?;
+    'order: for at in 0..order.len() {
+        turns.push((order[at], at))?;
+    }
+    Ok(turns)
+}
+
+// The same by rising id.
+fn by_rising_id(alloc: Global, order: &[FunctionId]) -> Result<Vec<(FunctionId, usize)>>
+    ensures value { IfOk result (λ all. IsPermutation (places_in 0 order.now) (map (λ t. t.1) all.items)) }
+    ensures fails { IsOkUnless result out_of_memory }
+{
+    let mut turns = numbered(alloc, order)?;
+    turns.sort_unstable();
+    Ok(turns)
+}
+
+// Puts the locations of the body at this place among these behind others.
+fn push_body(
+    to: &mut Vec<(u32, usize)>,
     ranges: &[Range<usize>],
     bodies: &[LocatedBody],
-) -> Result<Vec<(u32, usize)>>
+    at: usize,
+) -> Result<()>
+    requires there { at < length bodies.now }
     requires as_many { length bodies.now ≡ length ranges.now }
     requires within { AllZip (λ range body. All (λ o. range.start + o.1 ≤ range.end) body.places.items)
         ranges.now bodies.now }
-    ensures value { IfOk result (λ found. found.items ≡ all_placed_from
-        (map (λ r. r.start) ranges.now) (map (λ b. map location_of b.places.items) bodies.now)) }
+    ensures value { OnOk result (to.new.items ≡ to.old.items ++ placed_at (map (λ r. r.start) ranges.now)
+        (map (λ b. map location_of b.places.items) bodies.now) at) }
+    ensures fails { IsOkUnless result out_of_memory }
+{
+    let range = &ranges[at];
+    let body = &bodies[at];
+    push_places(to, range.start, range.end, body.places.as_slice())
+}
+
+// The locations of all bodies, each with its place, body for body in the order of these turns.
+fn placed_in_turn(
+    alloc: Global,
+    turns: &[(FunctionId, usize)],
+    ranges: &[Range<usize>],
+    bodies: &[LocatedBody],
+) -> Result<Vec<(u32, usize)>>
+    requires each { IsPermutation (places_in 0 bodies.now) (map (λ t. t.1) turns.now) }
+    requires as_many { length bodies.now ≡ length ranges.now }
+    requires within { AllZip (λ range body. All (λ o. range.start + o.1 ≤ range.end) body.places.items)
+        ranges.now bodies.now }
+    ensures value { IfOk result (λ found. found.items ≡ flat_map (placed_at (map (λ r. r.start) ranges.now)
+        (map (λ b. map location_of b.places.items) bodies.now)) (map (λ t. t.1) turns.now)) }
     ensures fails { IsOkUnless result out_of_memory }
 {
     let mut found = Vec::new(alloc);
-    let mut index: usize = 0;
-    'bodies: for body in bodies {
-        let range = &ranges[index];
-        push_places(&mut found, range.start, range.end, body.places.as_slice())?;
-        index += 1;
+    'turns: for turn in turns {
+        push_body(&mut found, ranges, bodies, turn.1)?;
     }
     Ok(found)
+}
+
+/// The locations of the operators of the bodies of these functions, which have these ranges, each with its place. The bodies come by rising
+/// id, since their locations rise so in a module as it was read: sorting them takes one look then.
+pub fn all_places(
+    alloc: Global,
+    order: &[FunctionId],
+    ranges: &[Range<usize>],
+    bodies: &[LocatedBody],
+) -> Result<Vec<(u32, usize)>>
+    requires ordered { length order.now ≡ length bodies.now }
+    requires as_many { length bodies.now ≡ length ranges.now }
+    requires within { AllZip (λ range body. All (λ o. range.start + o.1 ≤ range.end) body.places.items)
+        ranges.now bodies.now }
+    ensures value { IfOk result (λ found. IsPermutation (all_placed_from (map (λ r. r.start) ranges.now)
+        (map (λ b. map location_of b.places.items) bodies.now)) found.items) }
+    ensures fails { IsOkUnless result out_of_memory }
+{
+    let turns = by_rising_id(alloc, order)?;
+    placed_in_turn(alloc, turns.as_slice(), ranges, bodies)
 }
 
 // Whether the pair at this place is the last one of its location, in a sorted list.

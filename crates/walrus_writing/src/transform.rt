@@ -133,7 +133,7 @@ pub fn code_transform<'a>(
     let places = item_places(alloc, parts, prepared, lent, dylinks, choices)?;
     let ranges = places.bodies.as_slice();
     let by_id = function_ranges(alloc, order, ranges)?;
-    let placed = all_places(alloc, ranges, lent)?;
+    let placed = all_places(alloc, order, ranges, lent)?;
     drop(bodies);
     let by_location = instruction_map(alloc, placed)?;
     Ok(CodeTransform {

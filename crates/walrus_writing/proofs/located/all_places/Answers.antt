@@ -1,33 +1,24 @@
-use Rattle.std.proofs.Common.{◌∙◌, ◌+◌, ◌++◌, ◌≤◌, ℕ, List, ap, map, arith, subst, sym}
-use Rattle.std.specs.Prelude.{All, slice_index_or}
+use Rattle.std.proofs.Common.{◌∙◌, ℕ, List, map, sym}
 use Rattle.std.specs.declared.ops.Range.{Range}
-use Rattle.walrus_code.specs.declared.location.InstrLocId.{InstrLocId}
+use Rattle.std.proofs.lemmas.List.{length-map}
+use Rattle.walrus_base.specs.declared.id.Id.{Id}
+use Rattle.walrus_base.specs.declared.keys.FunctionKey.{FunctionKey}
 use Rattle.walrus_items.specs.Transform.{location_of}
-use Rattle.walrus_writing.specs.Located.{placed_from}
+use Rattle.walrus_contents.proofs.ExportedRefs.{if_ok}
 use Rattle.walrus_writing.specs.declared.offsets.LocatedBody.{LocatedBody}
-use Rattle.walrus_writing.proofs.LocatedLoops.{all_end, all_step, ends, turn, zip_get}
+use Rattle.walrus_writing.proofs.PlacedInTurn.{each_turn, in_turn}
 use Rattle.walrus_writing.proofs.located.all_places.Goals as goal
 
-pub bodies-preserved : goal.bodies-preserved
-bodies-preserved c =
-    let none : Range ℕ = record { start = 0; end = 0 } in
-    let range : Range ℕ = slice_index_or c.args.ranges.now c.bodies.index none in
-    record {
-      counted = ap (λ n. n + 1) c.bodies.invariant.counted;
-      listed = turn _ _ _ _ _ _
-          (all_step (λ r. r.start) (λ b. map location_of b.places.items) c.args.ranges.now c.args.bodies.now c.bodies.body-index c.bodies.index none c.body-item.result c.bodies-test.true c.requires.as_many c.bodies.invariant.counted)
-          (c.in_ok-push_places.ensures.value ∙ ap (λ (l : List (InstrLocId × ℕ)). c.bodies.found.items ++ placed_from range.start (map location_of l)) (c.as_slice.ensures.value ∙ ap (λ (b : LocatedBody). b.places.items) c.body-item.is))
-          c.bodies.invariant.listed;
-    }
+pub placed_in_turn-requires-clause-each : goal.placed_in_turn-requires-clause-each
+placed_in_turn-requires-clause-each c = each_turn (λ (t : Id FunctionKey × ℕ). t.1) c.args.order.now c.args.bodies.now c.in_ok-turns.turns.items c.as_slice.result.now c.requires.ordered c.as_slice.ensures.value c.in_ok-turns.ensures.value
 
 pub returns-clause-value : goal.returns-clause-value
-returns-clause-value c = ends _ _ _ (all_end (λ r. r.start) (λ b. map location_of b.places.items) c.args.ranges.now c.args.bodies.now c.bodies.body-index (omega (arith, c.bodies-test.false))) c.bodies.invariant.listed
-
-pub push_places-requires : goal.push_places-requires
-push_places-requires c =
-    let none : Range ℕ = record { start = 0; end = 0 } in
-    let range : Range ℕ = slice_index_or c.args.ranges.now c.bodies.index none in
-    record {
-      within = subst (λ (l : List (InstrLocId × ℕ)). All (λ (o : InstrLocId × ℕ). range.start + o.1 ≤ range.end) l) (sym (c.as_slice.ensures.value ∙ ap (λ (b : LocatedBody). b.places.items) c.body-item.is))
-          (zip_get (λ (r : Range ℕ) (b : LocatedBody). All (λ (o : InstrLocId × ℕ). r.start + o.1 ≤ r.end) b.places.items) c.args.ranges.now c.args.bodies.now c.requires.within c.bodies.body-index c.bodies.index none c.body-item.result c.bodies-test.true c.requires.as_many c.bodies.invariant.counted);
-    }
+returns-clause-value c =
+    let number : Id FunctionKey × ℕ → ℕ = λ t. t.1 in
+    let begin : Range ℕ → ℕ = λ r. r.start in
+    let offsets : LocatedBody → List (ℕ × ℕ) = λ b. map location_of b.places.items in
+    let each = each_turn number c.args.order.now c.args.bodies.now c.in_ok-turns.turns.items c.as_slice.result.now c.requires.ordered c.as_slice.ensures.value c.in_ok-turns.ensures.value in
+    if_ok _ _ c.placed_in_turn.result
+    (λ found is. in_turn c.args.bodies.now (map begin c.args.ranges.now) (map offsets c.args.bodies.now) (map number c.as_slice.result.now) found.items
+    (c.requires.as_many ∙ sym (length-map c.args.ranges.now begin)) (length-map c.args.ranges.now begin ∙ sym c.requires.as_many ∙ sym (length-map c.args.bodies.now offsets)) each is)
+    c.placed_in_turn.ensures.value

@@ -18,6 +18,7 @@ use Rattle.walrus_writing.specs.Parts.{HasBytes}
 use Rattle.walrus_writing.specs.declared.offsets.LocatedBody.{LocatedBody}
 use Rattle.walrus_writing.proofs.Indexed.{ids_indexed}
 use Rattle.walrus_writing.proofs.LocatedBodies.{Located, both_zip, bytes_of, offsets_of}
+use Rattle.walrus_writing.proofs.PlacedInTurn.{last_moved}
 use Rattle.walrus_writing.proofs.Refusing.{bodies_refused}
 use Rattle.walrus_writing.proofs.TransformAnswers.{IsWithin, all_within, many_bodies, many_functions, refuses, tells}
 use Rattle.walrus_writing.proofs.transform.code_transform.Goals as goal
@@ -78,6 +79,8 @@ all_places-requires c =
     let located = subst (λ (l : List (Id FunctionKey)). AllZip (Located c.args.parts names features) l bs) c.as_slice-order.ensures.value (both_zip c.args.parts names features c.as_slice-order.result.now bs c.in_ok-bodies.ensures.value c.in_ok-bodies.ensures.located) in
     let told = subst (λ (l : List LocatedBody). ArePlaces c.args.parts names features (map place ids) (map (bytes_of c.args.parts names features) l) (map custom_record c.args.dylinks.now) c.in_ok-places.places) c.as_slice-lent.ensures.value c.in_ok-places.ensures.told in
     record {
+      ordered = ap length c.as_slice-order.ensures.value ∙ many_functions c.args.parts names features ids bs located (map custom_record c.args.dylinks.now) c.in_ok-places.places told
+          ∙ sym (many_bodies c.args.parts names features ids bs located (map custom_record c.args.dylinks.now) c.in_ok-places.places told) ∙ ap length (sym c.as_slice-lent.ensures.value);
       as_many = ap length c.as_slice-lent.ensures.value ∙ many_bodies c.args.parts names features ids bs located (map custom_record c.args.dylinks.now) c.in_ok-places.places told ∙ ap length (sym c.as_slice-ranges.ensures.value);
       within = subst (λ (l : List (Range ℕ)). AllZip IsWithin l c.as_slice-lent.result.now) (sym c.as_slice-ranges.ensures.value)
           (subst (λ (l : List LocatedBody). AllZip IsWithin c.in_ok-places.places.bodies.items l) (sym c.as_slice-lent.ensures.value)
@@ -99,4 +102,4 @@ returns-clause-told c =
     (subst (λ (l : List (Id FunctionKey)). AreSorted by_ends (zip (map place l) (map ends_of c.as_slice-ranges.result.now)) (map range_of c.in_ok-by_id.by_id.items)) c.as_slice-order.ensures.value c.in_ok-by_id.ensures.value))
     (subst (λ (l : List (Range ℕ)). LastPlaces true (all_placed_from (map (λ (r : Range ℕ). r.start) l) (map (offsets_of c.args.parts names features) bs)) (map location_of c.in_ok-by_location.by_location.items)) c.as_slice-ranges.ensures.value
     (subst (λ (l : List LocatedBody). LastPlaces true (all_placed_from (map (λ (r : Range ℕ). r.start) c.as_slice-ranges.result.now) (map (offsets_of c.args.parts names features) l)) (map location_of c.in_ok-by_location.by_location.items)) c.as_slice-lent.ensures.value
-    (subst (λ (l : List (ℕ × ℕ)). LastPlaces true l (map location_of c.in_ok-by_location.by_location.items)) c.in_ok-placed.ensures.value c.in_ok-by_location.ensures.value)))
+    (last_moved _ _ _ c.in_ok-placed.ensures.value c.in_ok-by_location.ensures.value)))
