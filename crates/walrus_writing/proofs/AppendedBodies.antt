@@ -9,12 +9,12 @@ use Rattle.wasm_entries.specs.declared.record.RawData.{RawData}
 use Rattle.wasm_forms.specs.Spelling.{block_bytes, number_bytes, row_bytes, vector_bytes}
 use Rattle.wasm_forms.specs.Writing.{FitsLength, FitsVector}
 use Rattle.wasm_forms.proofs.Adding.{fits_map, fits_unmap, vector_map}
-use Rattle.wasm_frames.specs.Frames.{Code, DataSegments, Section}
+use Rattle.wasm_frames.specs.Frames.{Code, DataSegments}
 use Rattle.wasm_frames.specs.Record.{Body}
 use Rattle.wasm_frames.specs.Spelling.{body_bytes}
 use Rattle.wasm_writer.specs.Measures.{Measures}
 use Rattle.wasm_writer.specs.Measuring.{body_len, size_with_count}
-use Rattle.wasm_writer.specs.Spelling.{SectionFits, all_spelled, listed, section_bytes, spelled}
+use Rattle.wasm_writer.specs.Spelling.{SectionFits, listed, section_bytes, spelled}
 use Rattle.wasm_writer.specs.Writing.{unless_empty}
 use Rattle.wasm_writer.proofs.Listed.{fits_none, wrote_listed}
 use Rattle.wasm_writer.proofs.MeasuredSections.{bodies_told}

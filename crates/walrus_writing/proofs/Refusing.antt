@@ -2,7 +2,6 @@
 use Rattle.wasm_entries.specs.Record as entries
 use Rattle.std.proofs.Common.{inl, inr, ◌≡◌, ℕ, ◌-◌, ◌<◌, ◌^◌, List, [], ◌∷◌, ◌++◌, map, length, refl, sym, ap, ap₂, ◌∙◌, subst, arith, None, Some}
 use Rattle.std.specs.Prelude.{Option, All, Err, Ok, option_and_then, option_map}
-use Rattle.std.specs.Global.{Vec}
 use Rattle.std.specs.List.{AllZip}
 use Rattle.std.specs.Str.{IsUtf8}
 use Rattle.std.proofs.lemmas.List.{length-append, length-map}
@@ -15,7 +14,6 @@ use Rattle.wasm_entries.specs.declared.record.RawExport.{RawExport}
 use Rattle.wasm_entries.specs.declared.record.RawGlobal.{RawGlobal}
 use Rattle.wasm_entries.specs.declared.record.RawImport.{RawImport}
 use Rattle.wasm_entries.specs.declared.record.RawLimits.{RawLimits}
-use Rattle.wasm_entries.specs.declared.record.RawSub.{RawSub}
 use Rattle.wasm_entries.specs.declared.record.RawTable.{RawTable}
 use Rattle.wasm_entries.specs.Spelling.{DataStands, ElementStands, GlobalStands, TableStands}
 use Rattle.wasm_entries.specs.TypeSpelling.{LimitsStand}

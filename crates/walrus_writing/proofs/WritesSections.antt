@@ -1,6 +1,6 @@
 -- A section written from records, and the sections of a module one behind the other.
 use Rattle.std.proofs.Common.{◌≡◌, ℕ, List, [], ◌++◌, map, refl, sym, ap, ◌∙◌, subst}
-use Rattle.std.specs.Prelude.{All, IfSome, Option, Some, None}
+use Rattle.std.specs.Prelude.{All, IfSome, Option, Some}
 use Rattle.std.proofs.lemmas.List.{append-nil}
 use Rattle.wasm_entries.specs.Record.{Group, data_entry, element_entry, export_entry, global_entry, import_entry, table_entry}
 use Rattle.wasm_entries.specs.declared.record.RawLimits.{RawLimits}
