@@ -1,11 +1,11 @@
 -- Whether a function's type takes what its parameters hold, and what the locals hold that it declares.
 use Rattle.std.proofs.Common.{◌≡◌, ◌↔◌, ℕ, zero, suc, ◌<◌, ◌≤◌, ◌+◌, ◌++◌, Bool, true, false, IsTrue, List, [], ◌∷◌, length, map, take, Option, Some, None, Result, Ok, Err, refl, sym, ap, ap₂, ◌∙◌, subst, arith}
-use Rattle.std.specs.Prelude.{All, Contains, IsSome, slice_index_or}
+use Rattle.std.specs.Prelude.{All, Contains, IsSome, slice_index_or, unwrap_or}
 use Rattle.std.proofs.lemmas.List.{length-map, take_all}
 use Rattle.std.proofs.lemmas.List.Elements.{All-head, All-tail, Contains-append_right}
 use Rattle.wasm_forms.specs.declared.types.RawVal.{RawVal}
 use Rattle.walrus_base.specs.Arena.{item_at}
-use Rattle.walrus_base.specs.Types.{ValType}
+use Rattle.walrus_base.specs.Types.{ValType, I32}
 use Rattle.walrus_base.specs.TypeDef.{TypeDef}
 use Rattle.walrus_base.specs.Value.{val_type}
 use Rattle.walrus_base.specs.contracts.value.ValTypePartialEq.TheImpl as equality
@@ -16,6 +16,7 @@ use Rattle.walrus_code.specs.declared.error.IrError.{IrError}
 use Rattle.walrus_code.specs.declared.error.IrError.TheVariants.{Malformed, Memory, NoIndex, NotWritable, TooLarge}
 use Rattle.walrus_functions.specs.Declaring.{AreRuns, Declares}
 use Rattle.walrus_functions.specs.EmittedBody.{takes}
+use Rattle.walrus_functions.specs.Held.{held_at}
 use Rattle.walrus_functions.specs.Writing.{HasSignature, HasOneOf, DeclaresLocals}
 use Rattle.walrus_functions.proofs.RunLemmas.{type_among}
 use Rattle.wasm_forms.proofs.Bind.{some_same}
@@ -74,12 +75,12 @@ fit def slots parameters wanted r taken same = (
 
 -- ---- locals that are there
 
-pub held_by : {A : Type 0} (f : A → ℕ) (slots : List (Option (ValType ℕ))) (ids : List A) → All (λ id. IsSome (item_at slots (f id))) ids → (types : List (ValType ℕ)) × (map (item_at slots) (map f ids) ≡ map Some types)
-held_by f slots [] h = ([], refl)
-held_by {A} f slots (id ∷ ids) h =
+pub all_held : {A : Type 0} (f : A → ℕ) (slots : List (Option (ValType ℕ))) (ids : List A) → All (λ id. IsSome (item_at slots (f id))) ids → map (item_at slots) (map f ids) ≡ map Some (map (λ id. held_at slots (f id)) ids)
+all_held f slots [] h = refl
+all_held {A} f slots (id ∷ ids) h =
     let first = there (item_at slots (f id)) (All-head (λ (id : A). IsSome (item_at slots (f id))) id ids h) in
-    let rest = held_by f slots ids (All-tail (λ (id : A). IsSome (item_at slots (f id))) id ids h) in
-    (first.0 ∷ rest.0, ap₂ (λ (o : Option (ValType ℕ)) (os : List (Option (ValType ℕ))). o ∷ os) first.1 rest.1)
+    let rest = all_held f slots ids (All-tail (λ (id : A). IsSome (item_at slots (f id))) id ids h) in
+    ap₂ (λ (o : Option (ValType ℕ)) (os : List (Option (ValType ℕ))). o ∷ os) (first.1 ∙ ap (λ (o : Option (ValType ℕ)). Some (unwrap_or o I32)) (sym first.1)) rest
 
 -- the local of a type that is held
 holder : (slots : List (Option (ValType ℕ))) (order : List ℕ) (types : List (ValType ℕ)) (v : ValType ℕ) → map (item_at slots) order ≡ map Some types → Contains types v → (x : ℕ) × (Contains order x × (item_at slots x ≡ Some v))

@@ -1,10 +1,16 @@
 -- Groups of locals of one type.
-use Rattle.std.proofs.Common.{◌≡◌, ◌≢◌, ℕ, zero, suc, ◌+◌, ◌<◌, ◌≤◌, List, [], ◌∷◌, ◌++◌, length, replicate, refl, sym, ap, ◌∙◌, arith, append_assoc, length-append}
-use Rattle.std.specs.Prelude.{All, Contains}
+use Rattle.std.proofs.Common.{◌≡◌, ◌≢◌, ℕ, zero, suc, ◌+◌, ◌<◌, ◌≤◌, List, [], ◌∷◌, ◌++◌, length, replicate, map, take, Option, Some, refl, sym, ap, ◌∙◌, arith, append_assoc, length-append}
+use Rattle.std.specs.Prelude.{All, Contains, slice_index_or, unwrap_or}
 use Rattle.std.proofs.lemmas.List.{append-nil}
 use Rattle.std.proofs.lemmas.List.Elements.{All-push, All-head, All-tail, All-cons, Contains-append_right}
-use Rattle.walrus_base.specs.Types.{ValType}
+use Rattle.walrus_base.specs.Arena.{item_at}
+use Rattle.walrus_base.specs.Id.{place}
+use Rattle.walrus_base.specs.Types.{ValType, I32}
+use Rattle.walrus_base.specs.declared.id.Id.{Id}
+use Rattle.walrus_base.specs.declared.keys.LocalKey.{LocalKey}
+use Rattle.walrus_base.proofs.Turns.{map_more}
 use Rattle.walrus_functions.specs.Declaring.{AreRuns, Changes, spread}
+use Rattle.walrus_functions.specs.Held.{held_at}
 
 abbrev Group : Type 0
 Group = ℕ × ValType ℕ
@@ -55,6 +61,31 @@ runs-next types more gs n v w is apart h = record {
   filled = All-push Filled (gs ++ (n, v) ∷ []) (1, w) h.filled (omega arith);
   changes = changes-push gs n v (1, w) h.changes apart;
 }
+
+-- the first one
+pub runs-one : (v w : ValType ℕ) → w ≡ v → AreRuns (w ∷ []) ((1, v) ∷ [])
+runs-one v w same = record {
+  all = ap (λ (u : ValType ℕ). u ∷ []) (sym same);
+  filled = All-push Filled [] (1, v) (λ k d low. absurd (omega (arith, low))) (omega arith);
+  changes = tt;
+}
+
+-- ---- the types of locals
+
+abbrev Local : Type 0
+Local = Id LocalKey
+
+abbrev held : List (Option (ValType ℕ)) → Local → ValType ℕ
+held slots id = held_at slots (place id)
+
+-- the type of a local that is there
+pub held-is : (slots : List (Option (ValType ℕ))) (id : Local) (v : ValType ℕ) → Some v ≡ item_at slots (place id) → held slots id ≡ v
+held-is slots id v at = ap (λ (o : Option (ValType ℕ)). unwrap_or o I32) (sym at)
+
+-- one local more
+pub held-more : (slots : List (Option (ValType ℕ))) (first : ValType ℕ) (rest : List Local) (i : ℕ) (d : Local) (v : ValType ℕ) → i < length rest → Some v ≡ item_at slots (place (slice_index_or rest i d)) → first ∷ map (held slots) (take (i + 1) rest) ≡ (first ∷ map (held slots) (take i rest)) ++ v ∷ []
+held-more slots first rest i d v low at =
+    ap (λ (vs : List (ValType ℕ)). first ∷ vs) (map_more (held slots) rest i d low ∙ ap (λ (u : ValType ℕ). map (held slots) (take i rest) ++ u ∷ []) (held-is slots (slice_index_or rest i d) v at))
 
 -- ---- what groups hold
 

@@ -1,5 +1,5 @@
--- The types of locals, and the locals that are declared.
-use Rattle.std.proofs.Common.{◌≡◌, ℕ, zero, suc, ◌<◌, ◌⊎◌, ⊎_elim, inl, inr, Bool, true, false, List, [], ◌∷◌, ◌++◌, ◌+◌, ◌≤◌, length, map, drop, Option, Some, None, sym, ap, ap₂, ◌∙◌, subst, arith, append_assoc}
+-- The locals that are declared, and that they rise.
+use Rattle.std.proofs.Common.{◌≡◌, ℕ, ◌<◌, ◌⊎◌, ⊎_elim, inl, inr, Bool, true, false, List, [], ◌∷◌, ◌++◌, ◌+◌, ◌≤◌, length, map, drop, Option, Some, None, sym, ap, ap₂, ◌∙◌, subst, arith, append_assoc}
 use Rattle.std.specs.Prelude.{slice_index_or, All, Contains}
 use Rattle.std.specs.List.{AllByRecursion}
 use Rattle.std.specs.List.Sorted.{IsStrictlySortedBy}
@@ -13,18 +13,6 @@ use Rattle.walrus_base.specs.Types.{ValType}
 use Rattle.walrus_base.specs.declared.id.Id.{Id}
 use Rattle.walrus_base.specs.declared.keys.LocalKey.{LocalKey}
 use Rattle.walrus_functions.specs.Declaring.{AreTyped}
-use Rattle.walrus_base.proofs.FunctionSame.{cons_tail as tail_same}
-
-none_next : {B : Type 0} (o : Option B) (rest : List (Option B)) (ys : List B) → o ≡ None → o ∷ rest ≡ map Some ys → ⊥
-none_next o rest [] none h = absurd cc
-none_next o rest (y ∷ ys) none h = let there : o ≡ Some y = cc in absurd cc
-
--- where one isn't there, not all are
-pub not_there : {A C B : Type 0} (h : A → C) (f : C → Option B) (xs : List A) (i : ℕ) (d : A) → i < length xs → f (h (slice_index_or xs i d)) ≡ None → (ys : List B) → map f (map h xs) ≡ map Some ys → ⊥
-not_there h f [] i d low none ys all = absurd (omega arith)
-not_there h f (x ∷ xs) zero d low none ys all = none_next (f (h x)) (map f (map h xs)) ys none all
-not_there h f (x ∷ xs) (suc i) d low none [] all = absurd cc
-not_there h f (x ∷ xs) (suc i) d low none (y ∷ ys) all = not_there h f xs i d (omega arith) none ys (tail_same _ _ _ _ all)
 
 abbrev entry : ℕ → ValType ℕ → ℕ × ValType ℕ
 entry x v = (x, v)

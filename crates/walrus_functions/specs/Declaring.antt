@@ -39,11 +39,6 @@ pub record HasPlaces (places : List ℕ) (taken : TakenPlaces) : Type 0 where
   pub distinct : IsDistinct nat_eq places
   pub are : (x : ℕ) → is_taken taken x ≡ list_any (nat_eq x) places
 
--- the types of these locals, one for each; none where one of them isn't there
-abbrev pub AreTypes : List (Option (ValType ℕ)) → List ℕ → Option (List (ValType ℕ)) → Type 0
-AreTypes slots places (Some types) = map (item_at slots) places ≡ map Some types
-AreTypes slots places None = (types : List (ValType ℕ)) → map (item_at slots) places ≡ map Some types → ⊥
-
 -- ---- the locals that operators name
 
 -- these are the locals that stand in a list, each once, by rising place

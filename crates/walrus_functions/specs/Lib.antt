@@ -4,6 +4,7 @@ pub mod DeclaredLocals
 pub mod Declaring
 pub mod EmittedBody
 pub mod Handlers
+pub mod Held
 pub mod Kept
 pub mod Known
 pub mod Laws

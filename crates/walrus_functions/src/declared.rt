@@ -10,7 +10,7 @@ ghost use Rattle.walrus_base.specs.Operators.{locals_of};
 ghost use Rattle.walrus_base.specs.Value.{val_type};
 ghost use Rattle.walrus_code.specs.Code.{ops_of};
 ghost use Rattle.walrus_functions.specs.DeclaredLocals.{rank, AreDeclared};
-ghost use Rattle.walrus_functions.specs.Declaring.{HasPlaces, is_taken, AreOnce, AreTyped, same_local, typed, AreLowest, lowest_of, key_of, AreTypes, AreInOrder};
+ghost use Rattle.walrus_functions.specs.Declaring.{HasPlaces, is_taken, AreOnce, AreTyped, same_local, typed, AreLowest, lowest_of, key_of, AreInOrder};
 ghost use Rattle.walrus_functions.specs.EmittedBody.{types_of};
 
 use crate::lowest::Lowest;
@@ -47,25 +47,6 @@ pub(crate) fn type_at(module_locals: &ModuleLocals, id: LocalId) -> Option<ValTy
     } else {
         None
     }
-}
-
-// The types of locals; none where one of them isn't there.
-pub(crate) fn types_at(
-    alloc: Global,
-    module_locals: &ModuleLocals,
-    ids: &[LocalId],
-) -> Result<Option<Vec<ValType>>, AllocError>
-    ensures { IfOk result (λ found. AreTypes (types_of (locals module_locals.now)) (map place ids.now)
-        (option_map (λ types. map val_type types.items) found)) }
-{
-    let mut types = Vec::with_capacity(alloc, ids.len())?;
-    for id in ids {
-        let Some(ty) = type_at(module_locals, *id) else {
-            return Ok(None);
-        };
-        types.push(ty)?;
-    }
-    Ok(Some(types))
 }
 
 // The locals that operators name, in order.

@@ -16,7 +16,7 @@ ghost use Rattle.walrus_functions.specs.EmittedBody.{EmitsBody, source_of, types
 ghost use Rattle.walrus_functions.specs.Writing.{HasSignature, FindsDeclared, DeclaresLocals, WritesBehind};
 
 use crate::code::{Code, append_code, code_holds, code_locals, code_of, code_uses, likely_length};
-use crate::declared::{distinct_places, order_declared, type_at, types_at};
+use crate::declared::{distinct_places, order_declared, type_at};
 use crate::groups::{declarations, number_locals, runs};
 use std::alloc::{AllocError, Global};
 use walrus_base::{LocalId, ModuleLocals, ModuleTypes, ValType};
@@ -291,10 +291,7 @@ pub(crate) fn declare(
     ensures { DeclaresLocals (index_of indices.now) (types_of (locals module_locals.now))
         (map place declared.now) (λ ds. declarations_of ds.items) result }
 {
-    let Some(held) = types_at(alloc, module_locals, declared)? else {
-        unreachable!()
-    };
-    let groups = runs(alloc, held.as_slice())?;
+    let groups = runs(alloc, module_locals, declared)?;
     declarations(alloc, groups.as_slice(), indices)
 }
 

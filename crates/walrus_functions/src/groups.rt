@@ -1,48 +1,76 @@
 //! The declarations of a body's locals (Binary Format > Modules > Code Section): one for each type.
-ghost use Rattle.std.specs.Prelude.{◌≡◌, ◌≤◌, ◌<◌, ◌-◌, ◌^◌, ◌∷◌, ℕ, length, map, IfOk, nat_eq};
+ghost use Rattle.std.specs.Prelude.{◌≡◌, ◌≤◌, ◌<◌, ◌-◌, ◌^◌, ◌∷◌, ℕ, Some, length, map, All, IfOk, IsSome, nat_eq};
 ghost use Rattle.std.specs.List.{IsDistinct};
+ghost use Rattle.walrus_base.specs.Arena.{item_at};
 ghost use Rattle.walrus_base.specs.Id.{place};
+ghost use Rattle.walrus_base.specs.Locals.{locals};
 ghost use Rattle.walrus_base.specs.Shape.{place_in};
 ghost use Rattle.walrus_base.specs.Value.{val_type};
 ghost use Rattle.walrus_code.specs.Indices.{index_of, local_index};
 ghost use Rattle.walrus_bodies.specs.Declarations.{declarations_of};
 ghost use Rattle.walrus_functions.specs.Declaring.{group_of, AreRuns, Declares};
+ghost use Rattle.walrus_functions.specs.EmittedBody.{types_of};
+ghost use Rattle.walrus_functions.specs.Held.{held_at};
 
+use crate::declared::type_at;
 use std::alloc::{AllocError, Global};
-use walrus_base::{LocalId, ValType};
+use walrus_base::{LocalId, ModuleLocals, ValType};
 use walrus_bodies::Declaration;
 use walrus_code::{IdsToIndices, IrError, LocalNumbers, index_value};
 
-// The types, each with how often it stands there before another one comes.
-pub(crate) fn runs(alloc: Global, types: &[ValType]) -> Result<Vec<(u32, ValType)>, AllocError>
-    requires { length types.now < 2 ^ 32 }
-    ensures { IfOk result (λ groups. AreRuns (map val_type types.now) (map group_of groups.items)) }
+// The type of a local that is there.
+fn type_of(module_locals: &ModuleLocals, id: LocalId) -> ValType
+    requires { IsSome (item_at (types_of (locals module_locals.now)) (place id)) }
+    ensures { Some (val_type result) ≡ item_at (types_of (locals module_locals.now)) (place id) }
 {
-    match types {
+    let Some(ty) = type_at(module_locals, id) else {
+        unreachable!()
+    };
+    ty
+}
+
+// The types of locals, each with how often it stands there before another one comes.
+pub(crate) fn runs(
+    alloc: Global,
+    module_locals: &ModuleLocals,
+    ids: &[LocalId],
+) -> Result<Vec<(u32, ValType)>, AllocError>
+    requires there { All (λ id. IsSome (item_at (types_of (locals module_locals.now)) (place id))) ids.now }
+    requires few { length ids.now < 2 ^ 32 }
+    ensures { IfOk result (λ groups. AreRuns
+        (map (λ id. held_at (types_of (locals module_locals.now)) (place id)) ids.now)
+        (map group_of groups.items)) }
+{
+    match ids {
         [] => Ok(Vec::new(alloc)),
-        [first, rest @ ..] => runs_from(alloc, *first, rest),
+        [first, rest @ ..] => runs_from(alloc, module_locals, *first, rest),
     }
 }
 
-// The same, with the first type apart.
+// The same, with the first local apart.
 fn runs_from(
     alloc: Global,
-    first: ValType,
-    rest: &[ValType],
+    module_locals: &ModuleLocals,
+    first: LocalId,
+    rest: &[LocalId],
 ) -> Result<Vec<(u32, ValType)>, AllocError>
-    requires { length rest.now < 2 ^ 32 - 1 }
-    ensures { IfOk result (λ groups. AreRuns (val_type first ∷ map val_type rest.now)
+    requires there { All (λ id. IsSome (item_at (types_of (locals module_locals.now)) (place id)))
+        (first ∷ rest.now) }
+    requires few { length rest.now < 2 ^ 32 - 1 }
+    ensures { IfOk result (λ groups. AreRuns
+        (map (λ id. held_at (types_of (locals module_locals.now)) (place id)) (first ∷ rest.now))
         (map group_of groups.items)) }
 {
     let mut groups = Vec::new(alloc);
-    let mut current = first;
+    let mut current = type_of(module_locals, first);
     let mut count = 1;
-    for ty in rest {
-        if *ty == current {
+    for id in rest {
+        let ty = type_of(module_locals, *id);
+        if ty == current {
             count += 1;
         } else {
             groups.push((count, current))?;
-            current = *ty;
+            current = ty;
             count = 1;
         }
     }

@@ -1,5 +1,6 @@
 //! Places of parameters.
 ghost use Rattle.std.specs.Prelude.{◌≡◌, ◌+◌, ◌||◌, ◌<◌, ◌^◌, ℕ, false, nat_eq, not, IfOk, IsTrue};
+ghost use Rattle.std.specs.HashSet as set;
 ghost use Rattle.walrus_functions.specs.Declaring.{is_in_range, is_taken};
 
 use std::alloc::{AllocError, Global};
@@ -44,11 +45,21 @@ impl TakenPlaces {
         place >= self.first && place - self.first == self.count && self.count < usize::MAX
     }
 
+    // Whether a place was taken out of turn. Where none was, as mostly, no hash is made.
+    fn has_other(&self, place: usize) -> bool
+        ensures { result ≡ set.contains nat_eq self.now.others place }
+    {
+        if self.others.is_empty() {
+            return false;
+        }
+        self.others.contains(&place)
+    }
+
     // Whether a place is taken.
     pub(crate) fn contains(&self, place: usize) -> bool
         ensures { result ≡ is_taken self.now place }
     {
-        self.has(place) || self.others.contains(&place)
+        self.has(place) || self.has_other(place)
     }
 
     // Takes a place, and tells whether it wasn't taken before.
