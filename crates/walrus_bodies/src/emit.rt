@@ -112,6 +112,11 @@ fn note_place(
     Ok(())
 }
 
+// How many places are told of so many operators.
+fn told_count(asks_places: bool, count: usize) -> usize {
+    if asks_places { count } else { 0 }
+}
+
 // Appends operators, and answers each one's location with its place, if that is asked for.
 fn write_all(
     alloc: Global,
@@ -127,7 +132,7 @@ fn write_all(
     ensures located { IfOk result (λ placed. map (λ p. p.0) placed.items
         ≡ kept_if asks_places (locations operators.now)) }
 {
-    let mut placed = Vec::new(alloc);
+    let mut placed = Vec::with_capacity(alloc, told_count(asks_places, operators.len()))?;
     for operator in operators {
         note_place(&mut placed, asks_places, operator.loc, to.len())?;
         write_one(alloc, to, operator, indices, locals)?;

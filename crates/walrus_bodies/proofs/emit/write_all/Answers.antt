@@ -13,8 +13,8 @@ use Rattle.walrus_bodies.proofs.emit.write_all.Goals as goal
 
 pub loop-operator-init : goal.loop-operator-init
 loop-operator-init c = record {
-  appended = ([], (record { texts = []; named = refl; spelled = sym (append-nil c.args.to.now.items); placed = refl; stand = tt }, none-noted (λ p. p.1) c.args.asks_places _ c.new-placed.ensures.items));
-  located = none-noted (λ p. p.0) c.args.asks_places _ c.new-placed.ensures.items;
+  appended = ([], (record { texts = []; named = refl; spelled = sym (append-nil c.args.to.now.items); placed = refl; stand = tt }, none-noted (λ p. p.1) c.args.asks_places _ c.in_ok-placed.ensures.items));
+  located = none-noted (λ p. p.0) c.args.asks_places _ c.in_ok-placed.ensures.items;
 }
 
 pub returns-in_err-write_one-clause-written : goal.returns-in_err-write_one-clause-written
@@ -62,10 +62,10 @@ loop-operator-preserved c =
     }
 
 pub returns-in_err-note_place-clause-written : goal.returns-in_err-note_place-clause-written
-returns-in_err-note_place-clause-written c = let p = err_from_is_err_and c.from_residual.result c.from_residual.ensures.1 in rw (p.1, p.2) ([], (tt, tt))
+returns-in_err-note_place-clause-written c = let p = err_from_is_err_and c.from_residual-in_err-note_place.result c.from_residual-in_err-note_place.ensures.1 in rw (p.1, p.2) ([], (tt, tt))
 
 pub returns-in_err-note_place-clause-located : goal.returns-in_err-note_place-clause-located
-returns-in_err-note_place-clause-located c = let p = err_from_is_err_and c.from_residual.result c.from_residual.ensures.1 in rw p.1 tt
+returns-in_err-note_place-clause-located c = let p = err_from_is_err_and c.from_residual-in_err-note_place.result c.from_residual-in_err-note_place.ensures.1 in rw p.1 tt
 
 pub returns-in_err-write_one-clause-located : goal.returns-in_err-write_one-clause-located
 returns-in_err-write_one-clause-located c = let p = err_from_is_err_and c.from_residual-in_err-write_one.result c.from_residual-in_err-write_one.ensures.1 in rw p.1 tt
