@@ -139,15 +139,6 @@ fn push_body(
     push_places(to, range.start, range.end, body.places.as_slice())
 }
 
-// How many locations bodies have, as far as that can be counted.
-fn location_count(bodies: &[LocatedBody]) -> usize {
-    let mut count: usize = 0;
-    'bodies: for body in bodies {
-        count = count.saturating_add(body.places.len());
-    }
-    count
-}
-
 // The locations of all bodies, each with its place, body for body in the order of these turns.
 fn placed_in_turn(
     alloc: Global,
@@ -163,7 +154,7 @@ fn placed_in_turn(
         (map (λ b. map location_of b.places.items) bodies.now)) (map (λ t. t.1) turns.now)) }
     ensures fails { IsOkUnless result out_of_memory }
 {
-    let mut found = Vec::with_capacity(alloc, location_count(bodies))?;
+    let mut found = Vec::new(alloc);
     'turns: for turn in turns {
         push_body(&mut found, ranges, bodies, turn.1)?;
     }
