@@ -1,3 +1,4 @@
+pub mod AppendedGroups
 mod Each
 pub mod Kept
 mod GroupLemmas

@@ -4,3 +4,4 @@ pub mod Reading
 pub mod Indexed
 pub mod Written
 pub mod Ordered
+pub mod Appended

@@ -12,4 +12,4 @@ mod write;
 
 pub use order::are_in_order;
 pub use read::read_types;
-pub use write::index_types;
+pub use write::{append_types, index_types};

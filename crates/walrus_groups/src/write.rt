@@ -16,7 +16,8 @@ ghost use Rattle.walrus_code.specs.FromRaw.{val_of};
 ghost use Rattle.walrus_code.specs.Indices.{index_of};
 ghost use Rattle.walrus_code.specs.Results.{IndexesIn};
 ghost use Rattle.walrus_groups.specs.Groups.{storage_of, field_of, comp_of, sub_of};
-ghost use Rattle.walrus_groups.specs.Indexed.{NumbersTypes, IndexesTypes};
+ghost use Rattle.walrus_groups.specs.Appended.{AppendsGroup, AppendsGroups};
+ghost use Rattle.walrus_groups.specs.Indexed.{NumbersTypes, AreIndexed, IndexesTypes};
 ghost use Rattle.walrus_groups.specs.Named.{named_vals, named_storage, named_field, named_fields, named_comp, named_types, named_sub};
 ghost use Rattle.walrus_groups.specs.Written.{vals_are_exact, storage_is_exact, field_is_exact, fields_are_exact, comp_is_exact, sub_is_exact, StandsFor, UnlessRefused, starts_at};
 
@@ -25,7 +26,7 @@ use walrus_base::{
     CompositeType, FieldType, FunctionType, ModuleTypes, StorageType, Type, TypeId, ValType,
 };
 use walrus_code::{IdsToIndices, IrError, index_value};
-use wasm_entries::{RawComp, RawFieldType, RawFuncType, RawGroup, RawStorage, RawSub};
+use wasm_entries::{RawComp, RawFieldType, RawFuncType, RawGroup, RawStorage, RawSub, write_group};
 use wasm_forms::RawVal;
 
 /// The groups of a type section: the types in the order of their ids, each as the member of its group that it is, with the index
@@ -53,6 +54,32 @@ pub fn index_types(
         }
     }
     Ok(groups)
+}
+
+/// The same groups, appended to bytes one after another, with no record of all of them: how many they are.
+///
+/// # Errors
+///
+/// Those of [`index_types`], and [`IrError::TooLarge`] where a count is 2^32 or more. Refused, what was appended means nothing.
+pub fn append_types(
+    alloc: Global,
+    types: &ModuleTypes,
+    indices: &IdsToIndices,
+    to: &mut Vec<u8>,
+) -> Result<u32, IrError>
+    requires numbered { NumbersTypes (index_of indices.now) (type_slots types.now) }
+    ensures { IfOk result (λ count.
+        AppendsGroups (AreIndexed (index_of indices.now) (items (type_slots types.now))) count
+        to.old.items to.new.items) }
+{
+    types.groups_are_whole();
+    let mut count: u32 = 0;
+    for ty in types.iter() {
+        if is_first(types, ty) {
+            count = append_group(alloc, types, ty.id(), indices, count, to)?;
+        }
+    }
+    Ok(count)
 }
 
 // Whether a type of these is the first of its group.
@@ -85,6 +112,29 @@ fn index_group(
         members.push(index_member(alloc, types, member, indices)?)?;
     }
     Ok(members)
+}
+
+// Appends the group of a type behind so many others: how many they are then.
+fn append_group(
+    alloc: Global,
+    types: &ModuleTypes,
+    id: TypeId,
+    indices: &IdsToIndices,
+    count: u32,
+    to: &mut Vec<u8>,
+) -> Result<u32, IrError>
+    requires there { IsLive (type_slots types.now) (place id) }
+    ensures { IfOk result (λ more. AppendsGroup
+        (AllZip (StandsFor (index_of indices.now) (type_slots types.now))
+        (group_at (type_slots types.now) (place id)))
+        count more to.old.items to.new.items) }
+{
+    let members = index_group(alloc, types, id, indices)?;
+    write_group(to, &members)?;
+    match count.checked_add(1) {
+        Some(more) => Ok(more),
+        None => Err(IrError::TooLarge),
+    }
 }
 
 // The type of a live id.

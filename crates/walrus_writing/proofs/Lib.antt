@@ -1,4 +1,5 @@
 pub mod AppendedBodies
+pub mod AppendedTypes
 pub mod Bare
 pub mod BodiesTold
 pub mod CarriedOver

@@ -33,19 +33,20 @@ use crate::imports::raw_imports;
 use crate::memories::raw_memories;
 use crate::tables::raw_tables;
 use crate::tags::raw_tags;
-use crate::types::raw_types;
 use std::alloc::Global;
 use walrus_base::ModuleTypes;
 use walrus_code::IdsToIndices;
 use walrus_contents::Parts;
+use walrus_groups::append_types;
 use walrus_items::{
     ModuleElements, ModuleExports, ModuleGlobals, ModuleMemories, ModuleTables, ModuleTags, Result,
 };
+use wasm_forms::write_u32;
 use wasm_frames::RawCustom;
 use wasm_wire::CustomGroup;
 use wasm_writer::{Section, Writer, measure};
 
-/// The type section.
+/// The type section. Its groups are appended one by one, with no record of all of them.
 pub fn write_types(
     alloc: Global,
     to: &mut Writer,
@@ -58,8 +59,15 @@ pub fn write_types(
         (AreIndexed (index_of indices.now) (items (type_slots types.now)))
         (written to.old) (written to.new)) }
 {
-    let raw = raw_types(alloc, types, indices)?;
-    to.type_section(raw.as_slice())?;
+    let mut row = Vec::new(alloc);
+    let count = append_types(alloc, types, indices, &mut row)?;
+    if count == 0 {
+        return Ok(());
+    }
+    let mut content = Vec::with_capacity(alloc, row.len().saturating_add(5))?;
+    write_u32(&mut content, count)?;
+    content.extend_from_slice(row.as_slice())?;
+    to.section(1, content.as_slice())?;
     Ok(())
 }
 
