@@ -1,4 +1,4 @@
-use Rattle.std.proofs.Common.{◌≡◌, ◌<◌, ◌≤◌, ℕ, List, [], ◌∷◌, ◌++◌, ◌+◌, suc, length, map, take, drop, get_or, ap, ◌∙◌, subst, sym, refl, rules, arith}
+use Rattle.std.proofs.Common.{◌≡◌, ◌<◌, ◌≤◌, ℕ, List, [], ◌∷◌, ◌++◌, ◌+◌, suc, length, take, drop, get_or, ap, ◌∙◌, subst, sym, refl, rules, arith}
 use Rattle.std.proofs.lemmas.List.{append-nil, map-append, take_all}
 use Rattle.walrus_base.specs.Operators.{Op}
 use Rattle.walrus_code.specs.Code.{op_of, ops_of}
