@@ -1,5 +1,5 @@
 -- The type section of groups that were appended one by one.
-use Rattle.std.proofs.Common.{◌≡◌, ℕ, ◌+◌, ◌<◌, ◌^◌, List, [], ◌∷◌, ◌++◌, length, refl, sym, ap, ap₂, ◌∙◌, subst, arith}
+use Rattle.std.proofs.Common.{◌≡◌, ℕ, ◌<◌, List, [], ◌∷◌, ◌++◌, length, refl, sym, ap, ap₂, ◌∙◌, subst, arith}
 use Rattle.wasm_entries.specs.Record.{Group}
 use Rattle.wasm_entries.specs.TypeSpelling.{GroupFits, group_bytes}
 use Rattle.wasm_forms.specs.Spelling.{number_bytes, row_bytes, vector_bytes}
