@@ -234,6 +234,9 @@ impl LocalFunction {
         ensures body { MatchResult result
             (λ _. body_of self.new ≡ ops_of front.items ++ body_of self.old)
             (λ _. body_of self.new ≡ body_of self.old) }
+        ensures locations { MatchResult result
+            (λ _. locations_of self.new ≡ locations front.items ++ locations_of self.old)
+            (λ _. locations_of self.new ≡ locations_of self.old) }
         ensures others { KeepsOthers self.old self.new }
     {
         self.list(alloc)?;

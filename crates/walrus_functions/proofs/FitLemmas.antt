@@ -24,6 +24,11 @@ use Rattle.walrus_base.proofs.FunctionSame.{cons_head as head_same, cons_tail as
 use Rattle.walrus_base.proofs.Turns.{map_more, map_snoc}
 use Rattle.walrus_base.proofs.Standing.{some_of as there}
 
+-- no test both passes and fails
+pub untrue : (b : Bool) → b ≡ true → b ≡ false → ⊥
+untrue true t f = cc
+untrue false t f = cc
+
 -- lists that are the same where each element is there
 pub all_same : {T : Type 0} (xs ys : List T) → map Some xs ≡ map Some ys → xs ≡ ys
 all_same [] [] h = refl

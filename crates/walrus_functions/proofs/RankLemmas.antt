@@ -1,5 +1,5 @@
 -- Locals rank by rank stand in the order of declarations, where none of them is a reference.
-use Rattle.std.proofs.Common.{◌≡◌, ℕ, zero, suc, ◌+◌, ◌<◌, ◌≤◌, ◌⊎◌, inl, inr, Bool, true, false, List, [], ◌∷◌, ◌++◌, length, map, filter, Some, Result, Ok, Err, IfOk, refl, sym, ap, ◌∙◌, subst, arith}
+use Rattle.std.proofs.Common.{◌≡◌, ℕ, zero, suc, ◌<◌, ◌≤◌, ◌⊎◌, inl, inr, Bool, true, false, List, [], ◌∷◌, ◌++◌, length, map, filter, Some, Result, Ok, Err, IfOk, refl, sym, ap, ◌∙◌, subst, arith}
 use Rattle.std.specs.Prelude.{All, AllPairs, Contains, Option, nat_eq, slice_index_or}
 use Rattle.std.specs.List.{list_any, AllByRecursion}
 use Rattle.std.specs.List.Sorted.{IsStrictlySortedBy}
@@ -8,7 +8,6 @@ use Rattle.std.specs.declared.cmp.Ordering.TheVariants.{Less}
 use Rattle.std.proofs.lemmas.Bool.{cond_both, eqb-true}
 use Rattle.std.proofs.lemmas.Bool.Decides.{eqb_tells}
 use Rattle.std.proofs.lemmas.Cmp.{ranked}
-use Rattle.std.proofs.lemmas.List.{map-append}
 use Rattle.std.proofs.lemmas.List.Elements.{All-append, All-cons, All-contains, All-contains_itself, All-filter, All-map, All-nil, Contains-append_cases, Contains-append_left, Contains-append_right, Contains-get_or, filter_passes}
 use Rattle.std.proofs.lemmas.List.Kept.{AllPairs-cons, AllPairs-filter}
 use Rattle.std.proofs.lemmas.Map.Keys.{sorted_head, sorted_tail}
@@ -31,22 +30,6 @@ rank_of e = rank (val_type e.1)
 
 abbrev first : Local → ℕ
 first e = e.0
-
--- ---- steps
-
--- one local more
-pub of_rank_cons : (r : ℕ) (e : Local) (es : List Local) → map first (of_rank r (e ∷ es)) ≡ map first (of_rank r (e ∷ [])) ++ map first (of_rank r es)
-of_rank_cons r e es = go (has_rank r e) refl
-  where
-    go : (b : Bool) → has_rank r e ≡ b → map first (of_rank r (e ∷ es)) ≡ map first (of_rank r (e ∷ [])) ++ map first (of_rank r es)
-    go true h = rw h refl
-    go false h = rw h refl
-
--- one rank more
-pub by_ranks_more : (r : ℕ) (found : List Local) (had now : List ℕ) → had ≡ map first (by_ranks r found) → now ≡ had ++ map first (of_rank r found) → now ≡ map first (by_ranks (r + 1) found)
-by_ranks_more r found had now so_far is =
-    let next : suc r ≡ r + 1 = omega arith in
-    is ∙ ap (λ (xs : List ℕ). xs ++ map first (of_rank r found)) so_far ∙ sym (map-append first (by_ranks r found) (of_rank r found)) ∙ ap (λ (n : ℕ). map first (by_ranks n found)) next
 
 -- ---- what stands in these lists
 

@@ -3,7 +3,7 @@ use Rattle.std.proofs.Common.{◌≡◌, ℕ, zero, suc, ◌+◌, ◌<◌, ◌�
 use Rattle.std.specs.Prelude.{slice_index_or, zip}
 use Rattle.std.specs.List.{AllZip}
 use Rattle.std.proofs.lemmas.List.{drop_all, drop_more}
-use Rattle.walrus_writing.specs.Located.{all_placed_from, first_if_last, is_first_last, is_last_of, lasts, placed_from, placed_one}
+use Rattle.walrus_writing.specs.Located.{first_if_last, is_first_last, is_last_of, lasts, placed_from, placed_one}
 
 -- part of what was left is done
 pub turn : {C : Type 0} (done new part left rest all : List C) → left ≡ part ++ rest → new ≡ done ++ part → done ++ left ≡ all → new ++ rest ≡ all
@@ -43,19 +43,6 @@ places_step {A} view start places i d low = ap (λ (l : List A). placed_from sta
 
 pub places_end : {A : Type 0} (view : A → ℕ × ℕ) (start : ℕ) (places : List A) (i : ℕ) → length places ≤ i → placed_from start (map view (drop i places)) ≡ []
 places_end {A} view start places i past = ap (λ (l : List A). placed_from start (map view l)) (drop_all i places past)
-
-pub all_step : {A B : Type 0} (start : A → ℕ) (offsets : B → List (ℕ × ℕ)) (ranges : List A) (bodies : List B) (i j : ℕ) (d : A) (e : B) → i < length bodies → length bodies ≡ length ranges → j ≡ i
-    → all_placed_from (map start (drop i ranges)) (map offsets (drop i bodies)) ≡ placed_from (start (slice_index_or ranges j d)) (offsets (slice_index_or bodies i e)) ++ all_placed_from (map start (drop (i + 1) ranges)) (map offsets (drop (i + 1) bodies))
-all_step {A} {B} start offsets ranges bodies i j d e low as_many same =
-    ap₂ (λ (a : List A) (b : List B). all_placed_from (map start a) (map offsets b)) (drop_more ranges i d (omega (arith, low, as_many))) (drop_more bodies i e low)
-    ∙ ap (λ (n : ℕ). placed_from (start (slice_index_or ranges n d)) (offsets (slice_index_or bodies i e)) ++ all_placed_from (map start (drop (i + 1) ranges)) (map offsets (drop (i + 1) bodies))) (sym same)
-
-none_placed : (starts : List ℕ) → all_placed_from starts [] ≡ []
-none_placed [] = refl
-none_placed (s ∷ starts) = refl
-
-pub all_end : {A B : Type 0} (start : A → ℕ) (offsets : B → List (ℕ × ℕ)) (ranges : List A) (bodies : List B) (i : ℕ) → length bodies ≤ i → all_placed_from (map start (drop i ranges)) (map offsets (drop i bodies)) ≡ []
-all_end {A} {B} start offsets ranges bodies i past = ap (λ (b : List B). all_placed_from (map start (drop i ranges)) (map offsets b)) (drop_all i bodies past) ∙ none_placed (map start (drop i ranges))
 
 -- ---- the last of each location
 

@@ -1,4 +1,4 @@
-use Rattle.std.proofs.Common.{◌≡◌, ◌<◌, ◌+◌, [], inl, inr, ℕ, Bool, true, false, List, Option, Some, None, Ok, Err, map, sym, ap, ◌∙◌, subst, refl, arith}
+use Rattle.std.proofs.Common.{◌≡◌, ◌<◌, ◌+◌, [], inl, inr, ℕ, true, List, Option, Some, None, Ok, Err, map, sym, ap, ◌∙◌, subst, refl, arith}
 use Rattle.std.specs.Prelude.{IfSome}
 use Rattle.std.specs.List.{range_with_len}
 use Rattle.std.proofs.lemmas.Result.{err_from_is_err_and}
@@ -20,11 +20,8 @@ use Rattle.walrus_functions.specs.declared.append.AppendedBody.{AppendedBody}
 use Rattle.walrus_functions.proofs.AppendLemmas.{refused_behind, same_ground}
 use Rattle.walrus_functions.proofs.BareWritten as bare
 use Rattle.walrus_functions.proofs.KeptLemmas.{no_locals}
+use Rattle.walrus_functions.proofs.FitLemmas.{untrue}
 use Rattle.walrus_functions.proofs.append.append_bare.Goals as goal
-
-untrue : (b : Bool) → b ≡ true → b ≡ false → ⊥
-untrue true t f = cc
-untrue false t f = cc
 
 without : (o : Option Text) (t : Text) (args : List ℕ) (params : ℕ) → o ≡ Some t → IfSome o (λ text. args ≡ range_with_len (first_local_of text) params) → params ≡ 0 → args ≡ []
 without o t args params is h none = subst (λ (p : Option Text). IfSome p (λ text. args ≡ range_with_len (first_local_of text) params)) is h ∙ ap (range_with_len (first_local_of t)) none

@@ -1,4 +1,4 @@
-use Rattle.std.proofs.Common.{◌≡◌, ◌≤◌, ◌<◌, ◌^◌, [], ◌++◌, inl, inr, ℕ, Bool, true, false, List, length, map, Result, Ok, Err, IfOk, sym, ap, ap₂, ◌∙◌, subst, arith, rules}
+use Rattle.std.proofs.Common.{◌≡◌, ◌≤◌, ◌<◌, ◌^◌, [], ◌++◌, inl, inr, ℕ, Bool, List, length, map, Result, Ok, Err, IfOk, sym, ap, ap₂, ◌∙◌, subst, arith, rules}
 use Rattle.std.specs.Prelude.{Vec, nat_eq}
 use Rattle.std.specs.Global.{Global}
 use Rattle.walrus_bodies.specs.declared.declarations.Declaration.{Declaration}
@@ -26,6 +26,7 @@ use Rattle.walrus_functions.specs.declared.emit.KnownBody.{KnownBody}
 use Rattle.walrus_functions.proofs.AmongLemmas.{of_places}
 use Rattle.walrus_functions.proofs.WrittenLemmas.{emitted, refused_declared, refused_found, all_there, all_differ, few_declarations, fits_type}
 use Rattle.std.proofs.lemmas.Result.{err_from_is_err_and}
+use Rattle.walrus_functions.proofs.FitLemmas.{untrue}
 use Rattle.walrus_functions.proofs.emit.append_all.Goals as goal
 
 abbrev Local : Type 0
@@ -36,10 +37,6 @@ view_ids ids = map place ids.items
 
 abbrev view_declarations : Vec Declaration Global → List (ℕ × RawVal)
 view_declarations ds = declarations_of ds.items
-
-untrue : (b : Bool) → b ≡ true → b ≡ false → ⊥
-untrue true t f = cc
-untrue false t f = cc
 
 -- the places of all locals
 all_places : (all declared first second : List Local) (args : List ℕ) → all ≡ first ++ second → map place first ≡ args → second ≡ declared → map place all ≡ args ++ map place declared

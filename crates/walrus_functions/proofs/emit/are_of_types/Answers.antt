@@ -1,19 +1,15 @@
-use Rattle.std.proofs.Common.{◌≡◌, ◌≤◌, ◌<◌, ℕ, Bool, true, false, Option, Some, length, refl, arith}
+use Rattle.std.proofs.Common.{◌≤◌, ◌<◌, ℕ, Option, Some, length, refl, arith}
 use Rattle.walrus_base.specs.Arena.{item_at}
 use Rattle.walrus_base.specs.Id.{place}
 use Rattle.walrus_base.specs.Locals.{locals}
 use Rattle.walrus_base.specs.Types.{ValType}
 use Rattle.walrus_base.specs.Value.{val_type}
 use Rattle.walrus_functions.specs.EmittedBody.{types_of}
-use Rattle.walrus_functions.proofs.FitLemmas.{as_long, same_all, same_at, same_more}
+use Rattle.walrus_functions.proofs.FitLemmas.{as_long, same_all, same_at, same_more, untrue}
 use Rattle.walrus_functions.proofs.emit.are_of_types.Goals as goal
 
 abbrev some : ValType ℕ → Option (ValType ℕ)
 some v = Some v
-
-untrue : (b : Bool) → b ≡ true → b ≡ false → ⊥
-untrue true t f = cc
-untrue false t f = cc
 
 pub returns-then-wanted-count : goal.returns-then-wanted-count
 returns-then-wanted-count c = (
