@@ -1,5 +1,5 @@
 -- What stands at marks, and what it names.
-use Rattle.std.specs.Prelude.{◌≡◌, ℕ, List, ◌++◌, map}
+use Rattle.std.specs.Prelude.{◌≡◌, ◌↔◌, ℕ, List, ◌++◌, Contains, map}
 use Rattle.wasm_text.specs.RawArg.{RawArg}
 use Rattle.wasm_text.specs.Marks.{form_of, kind_of, place_of}
 use Rattle.wasm_text.specs.Places.{Stands}
@@ -19,3 +19,9 @@ items_named arg = arg_names (arg_of arg)
 -- what the argument at a mark names is put behind others
 abbrev pub PutsAt : List ℕ → (mark : ℕ) → (old new : List ItemId) → Type 0
 PutsAt bytes mark old new = OfArgument bytes mark (λ arg. map item_of new ≡ map item_of old ++ items_named arg)
+
+-- behind the items that were there stand just these, in any order, each once or more often
+pub record PutsThese (old new : List ItemId) (names : List Item) : Type 0 where
+  pub added : List Item
+  pub behind : map item_of new ≡ map item_of old ++ added
+  pub are : (x : Item) → Contains added x ↔ Contains names x

@@ -111,3 +111,29 @@ fn push_times(types: &mut Vec<ValType>, ty: ValType, count: u32) -> Result<(), A
     }
     Ok(())
 }
+
+// The rank of a type in the order in which locals are declared; none of a reference.
+fn rank_of(value: RawVal) -> Option<u8> {
+    match value {
+        RawVal::I32 => Some(0),
+        RawVal::I64 => Some(1),
+        RawVal::F32 => Some(2),
+        RawVal::F64 => Some(3),
+        RawVal::V128 => Some(4),
+        RawVal::Ref(_) => None,
+    }
+}
+
+/// The index of the first local that is declared behind so many parameters, if these locals stand by the ranks of their types: numbers and
+/// vectors in the order in which a body that is written declares them. None where they don't, or one is a reference.
+pub fn first_ranked(params: u32, declarations: &[Declaration]) -> Option<u32> {
+    let mut least = 0;
+    for declaration in declarations {
+        let rank = rank_of(declaration.value)?;
+        if rank < least {
+            return None;
+        }
+        least = rank;
+    }
+    Some(params)
+}

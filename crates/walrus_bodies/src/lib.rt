@@ -33,7 +33,7 @@ mod write;
 
 pub use blocks::{OpenBlocks, Opened};
 pub use body::{ReadBody, declare, read_body_over};
-pub use declarations::{Declaration, read_declarations};
+pub use declarations::{Declaration, first_ranked, read_declarations};
 pub use emit::{append_operators, emit_operators};
 pub use features::Features;
 pub use function::LocalFunction;

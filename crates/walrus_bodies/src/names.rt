@@ -6,7 +6,7 @@ ghost use Rattle.wasm_text.specs.Marks.{AreInOrder, HasArgument, args_at, kind_o
 ghost use Rattle.wasm_text.specs.declared.mark.TheConstants.{MARK_ACCESS, MARK_BLOCK};
 ghost use Rattle.walrus_base.specs.Operators.{names_of};
 ghost use Rattle.walrus_code.specs.Code.{item_of};
-ghost use Rattle.walrus_bodies.specs.Names.{OfArgument, PutsAt, items_named};
+ghost use Rattle.walrus_bodies.specs.Names.{OfArgument, PutsAt, PutsThese, items_named};
 ghost use Rattle.walrus_bodies.specs.Text.{ops_in};
 
 use crate::place::place_arg;
@@ -82,15 +82,13 @@ fn push_items(to: &mut Vec<ItemId>, bytes: &[u8], marks: &[u32]) -> Result<(), A
 }
 
 impl Text {
-    /// Puts the items that its operators name behind those of `to`, in the order in which they stand in it. Where memory runs out, some
-    /// may stand there.
+    /// Puts the items that its operators name behind those of `to`, each once or more often. Where memory runs out, some may stand there.
     ///
     /// # Errors
     ///
     /// `AllocError` where no memory is left.
     pub fn push_names(&self, to: &mut Vec<ItemId>) -> Result<(), AllocError>
-        ensures { OnOk result (map item_of to.new.items ≡ map item_of to.old.items
-            ++ names_of (ops_in self.now)) }
+        ensures { OnOk result (PutsThese to.old.items to.new.items (names_of (ops_in self.now))) }
     {
         push_items(to, self.bytes(), self.marks())
     }

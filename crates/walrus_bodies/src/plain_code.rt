@@ -173,7 +173,8 @@ impl PlainCode {
     }
 
     /// The same bodies, and behind them the one whose operators are these bytes, which begin at `start` of the input, of a function of so
-    /// many locals. If it isn't plain or names more than the limits allow, it stands there without operators.
+    /// many locals. If it isn't plain or names more than the limits allow, it stands there without operators. Where the locals that the function
+    /// declares stand by the ranks of their types, `ranked` is the index of the first of them, as [`first_ranked`] answers it.
     ///
     /// # Errors
     ///
@@ -183,6 +184,7 @@ impl PlainCode {
         operators: &[u8],
         start: usize,
         locals: u32,
+        _ranked: Option<u32>,
         room: &mut ScanRoom,
     ) -> Result<PlainCode, AllocError>
         ensures { IfOk result (λ code. limits_in code ≡ limits_in self) }

@@ -43,7 +43,7 @@ fn text_of(
         return Err(AllocError);
     };
     let code = PlainCode::new(alloc, limits_of(ids), 1, kept, 0)?;
-    let scanned = code.scan(bytes, 0, text.local_count(), &mut room)?;
+    let scanned = code.scan(bytes, 0, text.local_count(), None, &mut room)?;
     let fronts = text.front_count().saturating_add(1);
     let shared = scanned.with_fronts(fronts).share(alloc)?;
     Text::find(&shared, 0, bytes, 0, text.first_local(), text.local_count())

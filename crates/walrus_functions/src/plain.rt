@@ -24,7 +24,7 @@ use std::alloc::{AllocError, Global};
 use std::rc::Rc;
 use walrus_base::{ModuleLocals, ModuleTypes, TypeId};
 use walrus_bodies::{
-    Declaration, LocalFunction, PlainCode, ScanRoom, Text, declare, read_declarations,
+    Declaration, LocalFunction, PlainCode, ScanRoom, Text, declare, first_ranked, read_declarations,
 };
 use walrus_code::{IndicesToIds, IrError};
 
@@ -72,7 +72,8 @@ pub fn scan_body(
         return code.skip();
     };
     let begin = start.saturating_add(bytes.len().saturating_sub(rest.len()));
-    code.scan(rest, begin, locals, room)
+    let ranked = first_ranked(params, declarations.as_slice());
+    code.scan(rest, begin, locals, ranked, room)
 }
 
 // The body of this number in the code, if it is that of these bytes, which begin at `start` of the input, where its function has so many
