@@ -1,5 +1,5 @@
 -- Plain bodies: operators that nest, with their marks (Structure > Instructions > Control Instructions).
-use Rattle.std.specs.Prelude.{◌≡◌, ℕ, Bool, true, false, ◌||◌, List, [], ◌∷◌, length, reverse, Vec, Option, Some, None, nat_eq, if◌then◌else◌}
+use Rattle.std.specs.Prelude.{◌≡◌, ℕ, Bool, true, false, ◌||◌, List, [], ◌∷◌, ◌++◌, length, reverse, Vec, Option, Some, None, nat_eq, if◌then◌else◌}
 use Rattle.std.specs.List.{list_all}
 use Rattle.std.specs.declared.alloc.Global.{Global}
 use Rattle.wasm_forms.specs.Writing.{EachFits}
@@ -9,8 +9,10 @@ use Rattle.wasm_text.specs.declared.limits.Limits.{Limits}
 use Rattle.wasm_text.specs.declared.class.Class.{Class}
 use Rattle.wasm_text.specs.declared.class.Class.TheVariants as class
 use Rattle.wasm_text.specs.Classes.{is_plain}
-use Rattle.wasm_text.specs.Marks.{Holds}
+use Rattle.wasm_text.specs.Marks.{Holds, all_args}
 use Rattle.wasm_text.specs.Scans.{HasOperator, IsWithin}
+use Rattle.wasm_text.specs.Unmarked.{AreLeft, AreNamed, Flags}
+use Rattle.wasm_text.specs.declared.unmarked.Unmarked.{Unmarked}
 
 -- ---- open blocks
 
@@ -55,10 +57,15 @@ abbrev pub Turns : Class → ℕ → Type 0
 Turns class.Other b = Unit {0}
 Turns c b = (blocks : List Bool) → blocks_behind b blocks ≡ class_behind c b blocks
 
--- a plain operator in these blocks, which leaves those open
-pub record IsNext (limits : Limits) (bytes : List ℕ) (at behind : ℕ) (blocks after : List Bool) (old new : List ℕ) : Type 0 where
-  pub found : HasOperator limits bytes at behind old new
-  pub turns : blocks_behind found.text.op blocks ≡ Some after
+-- a plain operator in these blocks, which leaves those open; those of its marks that are needed are put behind others
+pub record IsNext (limits : Limits) (before after : Unmarked) (bytes : List ℕ) (at behind : ℕ) (blocks blocks_after : List Bool) (old new : List ℕ) : Type 0 where
+  pub marks : List ℕ
+  pub found : HasOperator limits bytes at behind [] marks
+  pub turns : blocks_behind found.text.op blocks ≡ Some blocks_after
+  pub left : List ℕ
+  pub are_left : AreLeft after.first after.accessed bytes marks left
+  pub put : new ≡ old ++ left
+  pub flags : Flags before after found.text.args
 
 -- ---- bodies
 
@@ -71,10 +78,14 @@ Nest limits (block ∷ around) (o ∷ ops) =
     EachFits (IsWithin (record limits { labels = length (block ∷ around) })) o.args
     × ((after : List Bool) × ((blocks_behind o.op (block ∷ around) ≡ Some after) × Nest limits after ops))
 
--- the bytes are so many plain operators, which nest in a function, and the marks show their arguments
-pub record IsBody (limits : Limits) (bytes marks : List ℕ) (count : ℕ) : Type 0 where
+-- The bytes are so many plain operators, which nest in a function. Their arguments have marks, of which those are left that are needed; what is flagged
+-- is named by them.
+pub record IsBody (limits : Limits) (unmarked : Unmarked) (bytes left : List ℕ) (count : ℕ) : Type 0 where
   pub texts : List Op
   pub counted : count ≡ length texts
+  pub marks : List ℕ
   pub holds : Holds bytes marks texts
+  pub are_left : AreLeft unmarked.first unmarked.accessed bytes marks left
+  pub named : AreNamed unmarked (all_args texts)
   pub plain : list_all (λ o. is_plain o.op) texts ≡ true
   pub nested : Nest limits (false ∷ []) texts

@@ -2,6 +2,7 @@ pub mod Places
 pub mod Marks
 pub mod Classes
 pub mod Scans
+pub mod Unmarked
 pub mod Bodies
 pub mod Filling
 pub use Rattle.wasm_operators.specs.Forms

@@ -14,6 +14,7 @@ mod mark;
 mod places;
 mod renumbering;
 mod scan;
+mod unmarked;
 
 pub use append::{append_filled, read_at_mark};
 pub use law::{
@@ -29,3 +30,4 @@ pub use mark::{
 pub use places::{NO_PLACE, number_at, past_number, past_s32, past_s64, past_u64, rest_from};
 pub use renumbering::{NO_NUMBER, Numbers};
 pub use scan::scan_body;
+pub use unmarked::Unmarked;

@@ -1,16 +1,18 @@
 //! Plain bodies, scanned operator by operator as they stand in bytes.
 
-ghost use Rattle.std.specs.Prelude.{◌≡◌, ◌+◌, ◌<◌, ◌≤◌, ◌∷◌, [], ◌^◌, ◌⊎◌, length, drop, false, Some, IfOk, IfSome, OnOk, vec_capacity, vec_len};
+ghost use Rattle.std.specs.Prelude.{◌≡◌, ◌+◌, ◌<◌, ◌≤◌, ◌∷◌, [], ◌^◌, ◌⊎◌, ℕ, length, drop, slice_index_or, true, false, Some, IfOk, IfSome, OnOk, vec_capacity, vec_len};
 ghost use Rattle.wasm_opcodes.specs.declared.one_byte.TheConstants.{END};
 ghost use Rattle.wasm_operators.specs.declared.kind.Kind.TheVariants as kinds;
 ghost use Rattle.wasm_operators.specs.Forms.{args_form};
 ghost use Rattle.wasm_text.specs.Places.{IfPlace};
 ghost use Rattle.wasm_text.specs.Bodies.{IsBody, IsNext, behind_else, behind_end, blocks_of};
 ghost use Rattle.wasm_text.specs.Scans.{HasRoom, IsMarked, IsMarkedIfPadded, IsIndexed, Scans, ScansArgs, ScansClass, labels_form};
+ghost use Rattle.wasm_text.specs.Unmarked.{AreNamed, IsShortAccess, ScansLeft};
 ghost use Rattle.wasm_text.specs.declared.limits.Limits.{Limits as Limited};
 ghost use Rattle.wasm_text.specs.declared.class.Class.TheVariants as class;
 
 use crate::class::{Class, class_of};
+use crate::unmarked::Unmarked;
 use crate::limits::Limits;
 use crate::mark::{
     MARK_ACCESS, MARK_BLOCK, MARK_FUNCTION, MARK_GLOBAL, MARK_LOCAL, MARK_MEMORY, MARK_NUMBER,
@@ -198,9 +200,78 @@ fn scan_memories(bytes: &[u8], at: usize, limits: &Limits, marks: &mut Vec<u32>)
     scan_index(bytes, source, limits.memories, MARK_MEMORY, marks)
 }
 
-// An access to memory 0.
+// Flags a local, where there are flags.
 #[inline]
-fn scan_access(bytes: &[u8], at: usize, limits: &Limits, marks: &mut Vec<u32>) -> usize
+fn name_local(unmarked: &mut Unmarked, index: usize)
+    ensures first { unmarked.new.first ≡ unmarked.old.first }
+    ensures accessed { unmarked.new.accessed ≡ unmarked.old.accessed }
+    ensures named { (n : ℕ) → slice_index_or unmarked.new.named.items n false ≡ true
+        → (slice_index_or unmarked.old.named.items n false ≡ true) ⊎ (n ≡ index) }
+{
+    if index < unmarked.named.len() {
+        unmarked.named[index] = true;
+    }
+}
+
+// The index of a local that isn't one byte.
+#[inline(never)]
+fn scan_long_local(
+    bytes: &[u8],
+    at: usize,
+    limits: &Limits,
+    unmarked: &mut Unmarked,
+    marks: &mut Vec<u32>,
+) -> usize
+    requires room { HasRoom marks.old bytes.now at }
+    ensures scans { ScansLeft (kinds.Local ∷ []) limits.now unmarked.old unmarked.new bytes.now at
+        marks.old.items marks.new.items result }
+    ensures capacity { vec_capacity marks.new ≡ vec_capacity marks.old }
+{
+    let index = number_at(bytes, at);
+    if index >= u64::from(limits.locals) {
+        return NO_PLACE;
+    }
+    let behind = past_number(bytes, at, 5);
+    if index < u64::from(unmarked.first) {
+        return put_mark(marks, at, MARK_LOCAL, behind);
+    }
+    name_local(unmarked, index as usize);
+    put_mark_if_padded(bytes, marks, at, MARK_LOCAL, behind)
+}
+
+// The index of a local: without a mark where it needs none.
+#[inline]
+fn scan_local(
+    bytes: &[u8],
+    at: usize,
+    limits: &Limits,
+    unmarked: &mut Unmarked,
+    marks: &mut Vec<u32>,
+) -> usize
+    requires room { HasRoom marks.old bytes.now at }
+    ensures scans { ScansLeft (kinds.Local ∷ []) limits.now unmarked.old unmarked.new bytes.now at
+        marks.old.items marks.new.items result }
+    ensures capacity { vec_capacity marks.new ≡ vec_capacity marks.old }
+{
+    match byte_from(bytes, at) {
+        Some(byte) if byte < 128 => {
+            let index = u32::from(byte);
+            if index >= limits.locals {
+                return NO_PLACE;
+            }
+            if index < unmarked.first {
+                return put_mark(marks, at, MARK_LOCAL, at + 1);
+            }
+            name_local(unmarked, index as usize);
+            at + 1
+        }
+        _ => scan_long_local(bytes, at, limits, unmarked, marks),
+    }
+}
+
+// An access to memory 0, with a mark.
+#[inline(never)]
+fn scan_padded_access(bytes: &[u8], at: usize, limits: &Limits, marks: &mut Vec<u32>) -> usize
     requires room { HasRoom marks.old bytes.now at }
     ensures scans { Scans (kinds.Access ∷ []) limits.now bytes.now at
         marks.old.items marks.new.items result }
@@ -213,6 +284,45 @@ fn scan_access(bytes: &[u8], at: usize, limits: &Limits, marks: &mut Vec<u32>) -
     let offset = past_number(bytes, at, 5);
     let behind = past_u64(bytes, offset);
     put_mark(marks, at, MARK_ACCESS, behind)
+}
+
+// The place behind an access to memory 0, with flags of one byte and an offset in its one spelling.
+#[inline]
+fn past_short_access(bytes: &[u8], at: usize) -> usize
+    ensures { IfPlace result (IsShortAccess bytes.now at result) }
+{
+    match byte_from(bytes, at) {
+        Some(flags) if flags < 64 => {
+            let behind = past_u64(bytes, at + 1);
+            if behind != NO_PLACE && is_shortest(bytes, at + 1, behind) {
+                return behind;
+            }
+            NO_PLACE
+        }
+        _ => NO_PLACE,
+    }
+}
+
+// An access to memory 0: without a mark where it stands in its one spelling.
+#[inline]
+fn scan_access(
+    bytes: &[u8],
+    at: usize,
+    limits: &Limits,
+    unmarked: &mut Unmarked,
+    marks: &mut Vec<u32>,
+) -> usize
+    requires room { HasRoom marks.old bytes.now at }
+    ensures scans { ScansLeft (kinds.Access ∷ []) limits.now unmarked.old unmarked.new bytes.now at
+        marks.old.items marks.new.items result }
+    ensures capacity { vec_capacity marks.new ≡ vec_capacity marks.old }
+{
+    let behind = past_short_access(bytes, at);
+    if behind == NO_PLACE || limits.memories == 0 {
+        return scan_padded_access(bytes, at, limits, marks);
+    }
+    unmarked.accessed = true;
+    behind
 }
 
 // The constant of `i32.const`.
@@ -313,7 +423,8 @@ fn scan_prefixed(bytes: &[u8], at: usize, limits: &Limits, marks: &mut Vec<u32>)
     }
 }
 
-// What stands behind the first byte of an operator of this class. One that opens or closes a block isn't scanned here.
+// What stands behind the first byte of an operator of this class. One that opens or closes a block, names a local or accesses memory isn't scanned
+// here.
 #[inline]
 fn scan_class(class: Class, bytes: &[u8], at: usize, limits: &Limits, marks: &mut Vec<u32>) -> usize
     requires room { HasRoom marks.old bytes.now at }
@@ -322,9 +433,7 @@ fn scan_class(class: Class, bytes: &[u8], at: usize, limits: &Limits, marks: &mu
 {
     match class {
         Class::Bare => at,
-        Class::Local => scan_index(bytes, at, limits.locals, MARK_LOCAL, marks),
         Class::S32 => scan_s32(bytes, at, marks),
-        Class::Access => scan_access(bytes, at, limits, marks),
         Class::Label => scan_label(bytes, at, limits, marks),
         Class::Function => scan_index(bytes, at, limits.functions, MARK_FUNCTION, marks),
         Class::Global => scan_index(bytes, at, limits.globals, MARK_GLOBAL, marks),
@@ -337,6 +446,7 @@ fn scan_class(class: Class, bytes: &[u8], at: usize, limits: &Limits, marks: &mu
         Class::Table => scan_index(bytes, at, limits.tables, MARK_TABLE, marks),
         Class::Memory => scan_index(bytes, at, limits.memories, MARK_MEMORY, marks),
         Class::Prefix => scan_prefixed(bytes, at, limits, marks),
+        Class::Local | Class::Access => NO_PLACE,
         Class::Block | Class::Else | Class::End | Class::Other => NO_PLACE,
     }
 }
@@ -393,14 +503,16 @@ fn scan_operator(
     at: usize,
     limits: &mut Limits,
     opened: &mut Vec<bool>,
+    unmarked: &mut Unmarked,
     marks: &mut Vec<u32>,
 ) -> Result<usize, AllocError>
     requires there { at < length bytes.now }
     requires room { HasRoom marks.old bytes.now (at + 1) }
     requires some { 0 < vec_len opened.old }
     requires labels { limits.old.labels ≡ vec_len opened.old }
-    ensures scans { IfOk result (λ behind. IfPlace behind (IsNext limits.old bytes.now at behind
-        (blocks_of opened.old) (blocks_of opened.new) marks.old.items marks.new.items)) }
+    ensures scans { IfOk result (λ behind. IfPlace behind (IsNext limits.old unmarked.old unmarked.new
+        bytes.now at behind (blocks_of opened.old) (blocks_of opened.new) marks.old.items
+        marks.new.items)) }
     ensures some { IfOk result (λ behind. IfPlace behind (0 < vec_len opened.new)) }
     ensures labels { IfOk result (λ behind. IfPlace behind
         (limits.new ≡ record limits.old { labels = vec_len opened.new })) }
@@ -423,6 +535,8 @@ fn scan_operator(
             limits.labels = opened.len();
             Ok(behind)
         }
+        Class::Local => Ok(scan_local(bytes, at + 1, limits, unmarked, marks)),
+        Class::Access => Ok(scan_access(bytes, at + 1, limits, unmarked, marks)),
         _ => Ok(scan_class(class, bytes, at + 1, limits, marks)),
     }
 }
@@ -446,19 +560,21 @@ fn scan_operators(
     bytes: &[u8],
     limits: &Limits,
     opened: &mut Vec<bool>,
+    unmarked: &mut Unmarked,
     marks: &mut Vec<u32>,
 ) -> Result<Option<usize>, AllocError>
     requires room { HasRoom marks.old bytes.now 0 }
     requires none { marks.old.items ≡ [] }
     requires alone { opened.old.items ≡ false ∷ [] }
-    ensures { IfOk result (λ found. IfSome found (IsBody limits.now bytes.now marks.new.items)) }
+    requires unnamed { AreNamed unmarked.old [] }
+    ensures { IfOk result (λ found. IfSome found (IsBody limits.now unmarked.new bytes.now marks.new.items)) }
 {
     let mut here = *limits;
     here.labels = opened.len();
     let mut count: usize = 0;
     let mut at: usize = 0;
     'operators: while at + 1 < bytes.len() {
-        let behind = scan_operator(bytes, at, &mut here, opened, marks)?;
+        let behind = scan_operator(bytes, at, &mut here, opened, unmarked, marks)?;
         if behind == NO_PLACE {
             return Ok(None);
         }
@@ -475,9 +591,23 @@ fn scan_operators(
     Ok(Some(count + 1))
 }
 
+// No local is flagged, nor memory 0.
+fn begin(unmarked: &mut Unmarked, locals: u32) -> Result<(), AllocError>
+    ensures unnamed { OnOk result (AreNamed unmarked.new []) }
+    ensures first { unmarked.new.first ≡ unmarked.old.first }
+{
+    unmarked.accessed = false;
+    unmarked.named.clear();
+    if unmarked.first < locals {
+        unmarked.named.resize(locals as usize, false)?;
+    }
+    Ok(())
+}
+
 /// How many operators the bytes are, if they are a plain body (Binary Format > Instructions > Expressions) that names only what is within the
-/// limits: its operators nest up to the `end` of the function, and no byte stands behind that. Then its marks stand in `marks`, with offsets counted
-/// from the first byte. `opened` is room for a flag of each open block. Both may hold anything before.
+/// limits: its operators nest up to the `end` of the function, and no byte stands behind that. Then those of its marks that are needed stand in `marks`,
+/// with offsets counted from the first byte, and `unmarked`, which says which aren't needed, has flags of what these name. `opened` is room for a
+/// flag of each open block. All may hold anything before but for `unmarked.first`.
 ///
 /// How many blocks the limits say are open counts for nothing, and whether the type of a block is a function type isn't looked at. None is answered
 /// of 2^28 bytes and more.
@@ -489,9 +619,11 @@ pub fn scan_body(
     bytes: &[u8],
     limits: &Limits,
     opened: &mut Vec<bool>,
+    unmarked: &mut Unmarked,
     marks: &mut Vec<u32>,
 ) -> Result<Option<usize>, AllocError>
-    ensures { IfOk result (λ found. IfSome found (IsBody limits.now bytes.now marks.new.items)) }
+    ensures body { IfOk result (λ found. IfSome found (IsBody limits.now unmarked.new bytes.now marks.new.items)) }
+    ensures first { unmarked.new.first ≡ unmarked.old.first }
 {
     if bytes.len() >= 1 << 28 {
         return Ok(None);
@@ -500,5 +632,6 @@ pub fn scan_body(
     marks.reserve(bytes.len() + 1)?;
     opened.clear();
     opened.push(false)?;
-    scan_operators(bytes, limits, opened, marks)
+    begin(unmarked, limits.locals)?;
+    scan_operators(bytes, limits, opened, unmarked, marks)
 }
