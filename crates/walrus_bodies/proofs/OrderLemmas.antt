@@ -1,6 +1,6 @@
 -- That arguments stand at marks in order is told by a test, so it is known of a body as data.
 use Rattle.std.proofs.Common.{◌≡◌, ℕ, ◌+◌, ◌-◌, ◌<◌, Bool, true, false, List, [], ◌∷◌, length, take, drop, map, Option, Some, None, refl, sym, ap, subst, ◌∙◌, arith}
-use Rattle.std.specs.Prelude.{nat_le, nat_lt, ◌&&◌}
+use Rattle.std.specs.Prelude.{◌≤◌, filter, nat_le, nat_lt, ◌&&◌}
 use Rattle.std.proofs.Math.Logic.{∥∥₁_elim}
 use Rattle.std.proofs.Props.{props}
 use Rattle.std.proofs.lemmas.Bool.{le-leb, leb-true, lt-ltb, ltb-true, and_parts as parts, and_from as both}
@@ -9,15 +9,19 @@ use Rattle.wasm_forms.specs.Grammar.{Is}
 use Rattle.wasm_forms.proofs.Exact.{exact}
 use Rattle.wasm_text.specs.RawArg.{RawArg}
 use Rattle.wasm_text.specs.Places.{Stands}
-use Rattle.wasm_text.specs.Marks.{place_of, kind_of, form_of, found, AreInOrder, Leaves, fill, with, naming, all_args, args_at}
-use Rattle.walrus_bodies.specs.Texts.{AreShown, texts_at}
+use Rattle.wasm_text.specs.Marks.{place_of, kind_of, form_of, found, AreInOrder, Leaves, arg_names, fill, with, all_args, args_at}
+use Rattle.walrus_bodies.specs.Shown.{AreShown, NameLeftOut, StaysUnmarked, needs_mark}
+use Rattle.walrus_bodies.specs.Texts.{texts_at}
+use Rattle.wasm_text.specs.Unmarked.{is_access, is_local}
+use Rattle.wasm_forms.specs.Writing.{EachFits}
+use Rattle.std.specs.List.{list_any}
 use Rattle.wasm_text.specs.Operators.{Op}
 use Rattle.wasm_text.specs.Spelling.{op_bytes}
 use Rattle.wasm_forms.specs.Spelling.{row_bytes}
 use Rattle.wasm_text.proofs.Filling.{found_is}
-use Rattle.walrus_bodies.specs.Text.{bytes_of, entry_of, marks_of}
+use Rattle.walrus_bodies.specs.Text.{bytes_of, entry_of, left_out_of, marks_of}
 use Rattle.walrus_bodies.specs.declared.text.Text.{Text}
-use Rattle.walrus_bodies.proofs.HeldLemmas.{shown_in}
+use Rattle.walrus_bodies.proofs.HeldLemmas.{left_out_in_text, shown_in}
 
 -- an argument ends behind its mark, and the next ones follow
 abbrev goes_on : (ℕ → Bool) → List ℕ → ℕ → Option (RawArg × List ℕ) → Bool
@@ -73,11 +77,12 @@ pub in_order : (t : Text) → AreInOrder (bytes_of t) 0 (marks_of t)
 in_order t = order_of (bytes_of t) 0 (marks_of t) (∥∥₁_elim t.body (hlevel props) (λ b. let s = shown_in t b in order_told (bytes_of t) 0 (marks_of t) s.ordered))
 
 -- what the marks of a body show, as data
-pub shown_of : (t : Text) → AreShown (bytes_of t) (marks_of t) (texts_at (entry_of t).count (bytes_of t))
+pub shown_of : (t : Text) → AreShown (left_out_of t) (bytes_of t) (marks_of t) (texts_at (entry_of t).count (bytes_of t))
 shown_of t = record {
   ordered = in_order t;
   becomes = ∥∥₁_elim t.body becomes_prop (λ b. (shown_in t b).becomes);
-  named = ∥∥₁_elim t.body named_prop (λ b. (shown_in t b).named);
+  needed = ∥∥₁_elim t.body needed_prop (λ b. (shown_in t b).needed);
+  among = ∥∥₁_elim t.body among_prop (λ b. (shown_in t b).among);
 }
   where
     bytes : List ℕ
@@ -86,8 +91,27 @@ shown_of t = record {
     texts : List Op
     texts = texts_at (entry_of t).count bytes
 
-    becomes_prop : IsProp ((f : RawArg → RawArg) → Leaves f → row_bytes op_bytes (map (with f) texts) ≡ fill f bytes 0 (marks_of t))
+    becomes_prop : IsProp ((f : RawArg → RawArg) → Leaves f → EachFits (StaysUnmarked (left_out_of t) f) (all_args texts) → row_bytes op_bytes (map (with f) texts) ≡ fill f bytes 0 (marks_of t))
     becomes_prop = hlevel props
 
-    named_prop : IsProp (naming (all_args texts) ≡ naming (args_at bytes (marks_of t)))
-    named_prop = hlevel props
+    needed_prop : IsProp (filter (needs_mark (left_out_of t)) (all_args texts) ≡ filter (needs_mark (left_out_of t)) (args_at bytes (marks_of t)))
+    needed_prop = hlevel props
+
+    among_prop : IsProp ((asks : RawArg → Bool) → ((arg : RawArg) → arg_names arg ≡ false → asks arg ≡ false) → list_any asks (args_at bytes (marks_of t)) ≡ true → list_any asks (all_args texts) ≡ true)
+    among_prop = hlevel props
+
+-- what a body names whose marks are left out, as data
+pub left_out_named : (t : Text) → NameLeftOut (left_out_of t) (entry_of t).locals (texts_at (entry_of t).count (bytes_of t))
+left_out_named t = record {
+  each_local = ∥∥₁_elim t.body locals_prop (λ b. (left_out_in_text t b).each_local);
+  memory = ∥∥₁_elim t.body memory_prop (λ b. (left_out_in_text t b).memory);
+}
+  where
+    texts : List Op
+    texts = texts_at (entry_of t).count (bytes_of t)
+
+    locals_prop : IsProp ((n : ℕ) → (left_out_of t).first ≤ n → n < (entry_of t).locals → list_any (is_local n) (all_args texts) ≡ true)
+    locals_prop = hlevel props
+
+    memory_prop : IsProp ((left_out_of t).accessed ≡ true → list_any is_access (all_args texts) ≡ true)
+    memory_prop = hlevel props

@@ -1,8 +1,9 @@
 -- The plain bodies of a module, by their numbers.
-use Rattle.std.specs.Prelude.{◌≡◌, ℕ, ◌+◌, List, length, slice_index_or}
+use Rattle.std.specs.Prelude.{◌≡◌, ℕ, ◌+◌, false, List, length, slice_index_or}
 use Rattle.wasm_text.specs.declared.limits.Limits.{Limits}
 use Rattle.wasm_text.specs.Places.{between}
 use Rattle.walrus_bodies.specs.declared.plain_code.Entry.{Entry}
+use Rattle.walrus_bodies.specs.declared.plain_code.LeftOut.{LeftOut}
 use Rattle.walrus_bodies.specs.declared.plain_code.PlainCode.{PlainCode}
 use Rattle.walrus_bodies.specs.PlainBody.{with_locals}
 
@@ -16,7 +17,7 @@ fronts_in code = code.fronts
 
 -- where nothing stands
 abbrev pub nowhere : Entry
-nowhere = record { begin = 0; end = 0; first_mark = 0; last_mark = 0; count = 0; start = 0; locals = 0 }
+nowhere = record { begin = 0; end = 0; first_mark = 0; last_mark = 0; count = 0; start = 0; locals = 0; left_out = record { first = 4294967295; accessed = false } }
 
 -- what is told of a number
 abbrev pub entry_at : PlainCode → ℕ → Entry
@@ -41,10 +42,11 @@ abbrev pub limits_at : PlainCode → ℕ → Limits
 limits_at code number = with_locals code.limits (entry_at code number).locals
 
 -- what is told of a body with these bytes, which stand among those that are kept, and these marks, behind all others
-pub record IsBehind (code : PlainCode) (bytes marks : List ℕ) (count start locals : ℕ) (entry : Entry) : Type 0 where
+pub record IsBehind (code : PlainCode) (bytes marks : List ℕ) (count start locals : ℕ) (out : LeftOut) (entry : Entry) : Type 0 where
   pub stands : bytes_in code entry ≡ bytes
   pub first : entry.first_mark ≡ length code.marks.items
   pub last : entry.last_mark ≡ length code.marks.items + length marks
   pub counted : entry.count ≡ count
   pub starts : entry.start ≡ start
   pub locals_are : entry.locals ≡ locals
+  pub left_out_is : entry.left_out ≡ out

@@ -7,12 +7,17 @@ use Rattle.walrus_code.specs.declared.location.InstrLocId.{InstrLocId}
 use Rattle.walrus_bodies.specs.Placed.{placed_ops}
 use Rattle.walrus_bodies.specs.Texts.{texts_at, places_at}
 use Rattle.walrus_bodies.specs.declared.plain_code.Entry.{Entry}
+use Rattle.walrus_bodies.specs.declared.plain_code.LeftOut.{LeftOut}
 use Rattle.walrus_bodies.specs.declared.text.Text.{Text}
 use Rattle.walrus_bodies.specs.PlainCode.{bytes_at, entry_at, fronts_in, marks_at}
 
 -- what the code tells of it
 abbrev pub entry_of : Text → Entry
 entry_of text = entry_at text.code.value text.number
+
+-- which of its marks are left out
+abbrev pub left_out_of : Text → LeftOut
+left_out_of text = (entry_of text).left_out
 
 -- the bytes of its operators
 abbrev pub bytes_of : Text → List ℕ

@@ -1,10 +1,7 @@
 -- Bytes as so many operators, one behind another (Binary Format > Instructions > Expressions).
-use Rattle.std.specs.Prelude.{ℕ, zero, suc, ◌-◌, length, Bool, true, false, List, [], ◌∷◌, Option, Some, None, map}
+use Rattle.std.specs.Prelude.{ℕ, zero, suc, ◌-◌, length, Bool, true, false, List, [], ◌∷◌, Option, Some, None}
 use Rattle.wasm_forms.specs.Grammar.{Row, at}
-use Rattle.wasm_forms.specs.Spelling.{row_bytes}
 use Rattle.wasm_text.specs.Operators.{Op}
-use Rattle.wasm_text.specs.Spelling.{op_bytes}
-use Rattle.wasm_text.specs.Marks.{Shows, all_args, with}
 use Rattle.wasm_text.specs.Forms.{operator}
 
 -- so many operators in front, and the bytes behind them
@@ -36,7 +33,3 @@ behind_first next (Some x) = next x.1
 unfoldable pub places_at : (end count : ℕ) → List ℕ → List ℕ
 places_at end zero bytes = []
 places_at end (suc count) bytes = (end - length bytes) ∷ behind_first (λ rest. places_at end count rest) (at operator bytes)
-
--- the marks show the arguments of these operators, and with what stands there the bytes can be written anew
-abbrev pub AreShown : (bytes marks : List ℕ) → List Op → Type 0
-AreShown bytes marks texts = Shows bytes marks (all_args texts) (λ f. row_bytes op_bytes (map (with f) texts))

@@ -1,7 +1,7 @@
 //! The locals that a body names.
 #![tactic(auto, unfolding(crate::specs::PlainCode::limits_in, crate::specs::Function::name_of, crate::specs::Function::as_text, crate::specs::Function::body_of, crate::specs::Function::locations_of, crate::specs::Function::args_of, crate::specs::Function::handlers_in, crate::specs::Function::listed_in, crate::specs::Function::located_in))]
 
-ghost use Rattle.std.specs.Prelude.{◌≡◌, ◌++◌, [], List, ℕ, flat_map, length, map, IfOk, IfSome};
+ghost use Rattle.std.specs.Prelude.{◌≡◌, ◌↔◌, ◌⊎◌, ◌<◌, ◌≤◌, ◌++◌, [], List, ℕ, false, flat_map, length, map, slice_index_or, true, IfOk, IfSome};
 ghost use Rattle.wasm_text.specs.Marks.{AreInOrder, args_at};
 ghost use Rattle.walrus_base.specs.Operators.{arg_locals, locals_of};
 ghost use Rattle.walrus_code.specs.FromRaw as from_raw;
@@ -41,6 +41,17 @@ fn flag_marks(flags: &mut Vec<bool>, bytes: &[u8], marks: &[u32])
     }
 }
 
+// Flags all from one on.
+fn flag_from(flags: &mut Vec<bool>, first: u32)
+    ensures flagged { (x : ℕ) → (slice_index_or flags.new.items x false ≡ true)
+        ↔ ((slice_index_or flags.old.items x false ≡ true) ⊎ ((first ≤ x) × (x < length flags.old.items))) }
+    ensures as_many { length flags.new.items ≡ length flags.old.items }
+{
+    'flags: for index in first as usize..flags.len() {
+        flags[index] = true;
+    }
+}
+
 impl Text {
     /// A flag for each local of the function, parameters and then declared ones: whether its operators name it.
     ///
@@ -55,6 +66,7 @@ impl Text {
         let mut flags = Vec::new(alloc);
         flags.resize(self.local_count() as usize, false)?;
         flag_marks(&mut flags, self.bytes(), self.marks());
+        flag_from(&mut flags, self.entry().left_out.first);
         Ok(flags)
     }
 }

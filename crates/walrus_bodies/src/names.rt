@@ -90,6 +90,9 @@ impl Text {
     pub fn push_names(&self, to: &mut Vec<ItemId>) -> Result<(), AllocError>
         ensures { OnOk result (PutsThese to.old.items to.new.items (names_of (ops_in self.now))) }
     {
+        if self.entry().left_out.accessed {
+            to.push(ItemId::Memory(Id::at(0)))?;
+        }
         push_items(to, self.bytes(), self.marks())
     }
 }

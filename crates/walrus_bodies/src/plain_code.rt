@@ -11,6 +11,15 @@ use std::alloc::{AllocError, Global};
 use std::rc::Rc;
 use wasm_text::Limits;
 
+// Which marks of a body are left out where the argument stands in its one spelling.
+#[derive(Clone, Copy)]
+pub(crate) struct LeftOut {
+    // Those of locals from this one on, each of which is named.
+    pub(crate) first: u32,
+    // Those of accesses to memory 0, if this is true: then there is one.
+    pub(crate) accessed: bool,
+}
+
 // Where a plain body stands in the code of its module, and what is told of it. Of a body that isn't plain there are no operators.
 #[derive(Clone, Copy)]
 pub(crate) struct Entry {
@@ -26,6 +35,8 @@ pub(crate) struct Entry {
     pub(crate) start: u32,
     // How many locals its function has.
     pub(crate) locals: u32,
+    // Which of its marks are left out.
+    pub(crate) left_out: LeftOut,
 }
 
 // Where nothing stands.
@@ -37,6 +48,10 @@ const NOWHERE: Entry = Entry {
     count: 0,
     start: 0,
     locals: 0,
+    left_out: LeftOut {
+        first: u32::MAX,
+        accessed: false,
+    },
 };
 
 /// The plain bodies of a module: bytes of the input, in which their operators stand as they were read, with marks where an argument stands
@@ -150,9 +165,10 @@ impl PlainCode {
         count: usize,
         start: usize,
         locals: u32,
+        left_out: LeftOut,
     ) -> Option<Entry>
         ensures { IfSome result (λ entry.
-            IsBehind self.now operators.now marks.now count start locals entry) }
+            IsBehind self.now operators.now marks.now count start locals left_out entry) }
     {
         let begin = u32::try_from(start.checked_sub(self.origin)?).ok()?;
         let end = begin.checked_add(u32::try_from(operators.len()).ok()?)?;
@@ -169,6 +185,7 @@ impl PlainCode {
             count: u32::try_from(count).ok()?,
             start: u32::try_from(start).ok()?,
             locals,
+            left_out,
         })
     }
 
@@ -184,14 +201,20 @@ impl PlainCode {
         operators: &[u8],
         start: usize,
         locals: u32,
-        _ranked: Option<u32>,
+        ranked: Option<u32>,
         room: &mut ScanRoom,
     ) -> Result<PlainCode, AllocError>
         ensures { IfOk result (λ code. limits_in code ≡ limits_in self) }
     {
         let limits = with_locals(self.limits, locals);
-        match scan_body(operators, &limits, room)? {
-            Some(count) => self.push(operators, &room.marks, count, start, locals),
+        match scan_body(operators, &limits, ranked, room)? {
+            Some(count) => {
+                let left = LeftOut {
+                    first: room.unmarked.first,
+                    accessed: room.unmarked.accessed,
+                };
+                self.push(operators, &room.marks, count, start, locals, left)
+            }
             None => self.skip(),
         }
     }
@@ -204,11 +227,12 @@ impl PlainCode {
         count: usize,
         start: usize,
         locals: u32,
+        left_out: LeftOut,
     ) -> Result<PlainCode, AllocError>
-        requires plain { IsPlainBody (with_locals self.limits locals) operators.now marks.now count }
+        requires plain { IsPlainBody (with_locals self.limits locals) left_out operators.now marks.now count }
         ensures { IfOk result (λ code. limits_in code ≡ limits_in self) }
     {
-        let Some(entry) = self.entry_behind(operators, marks, count, start, locals) else {
+        let Some(entry) = self.entry_behind(operators, marks, count, start, locals, left_out) else {
             return self.skip();
         };
         let mut code = self;

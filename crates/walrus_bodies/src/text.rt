@@ -20,8 +20,8 @@ pub struct Text {
     pub(crate) number: u32,
     // The place of the function's first local.
     pub(crate) first_local: u32,
-    ghost body: { ∥ IsPlainBody (limits_at code.value number) (bytes_at code.value number)
-        (marks_at code.value number) (entry_at code.value number).count ∥₁ },
+    ghost body: { ∥ IsPlainBody (limits_at code.value number)
+        (entry_at code.value number).left_out (bytes_at code.value number) (marks_at code.value number) (entry_at code.value number).count ∥₁ },
 }
 
 impl Text {

@@ -1,17 +1,20 @@
 //! Writing a body with new numbers (Binary Format > Instructions).
 #![tactic(auto, unfolding(crate::specs::PlainCode::limits_in, crate::specs::Function::name_of, crate::specs::Function::as_text, crate::specs::Function::body_of, crate::specs::Function::locations_of, crate::specs::Function::args_of, crate::specs::Function::handlers_in, crate::specs::Function::listed_in, crate::specs::Function::located_in))]
 
-ghost use Rattle.std.specs.Prelude.{◌≡◌, ◌+◌, ◌<◌, ℕ, List, None, Option, Some, map, slice_index_or, IfOk};
+ghost use Rattle.std.specs.Prelude.{◌≡◌, ◌+◌, ◌<◌, ◌≤◌, ℕ, List, None, Option, Some, length, map, slice_index_or, true, IfOk, IsTrue};
 ghost use Rattle.std.specs.List.{range_with_len};
 ghost use Rattle.wasm_forms.specs.Number.{AreBytes};
 ghost use Rattle.wasm_text.specs.Filling.{Answers};
+ghost use Rattle.walrus_base.specs.Operators.{Memories};
 ghost use Rattle.walrus_code.specs.Names.{Lookup};
 ghost use Rattle.walrus_code.specs.Indices.{index_of, local_index};
 ghost use Rattle.walrus_bodies.specs.Emitting.{EmitsOperators};
 ghost use Rattle.walrus_bodies.specs.declared.features.Features.{Features as Proposals};
 ghost use Rattle.walrus_bodies.specs.Numbers.{item_number, kept_numbers_in, numbering, numbers_in};
-ghost use Rattle.walrus_bodies.specs.Text.{first_local_of, local_count_of, ops_in};
+ghost use Rattle.walrus_bodies.specs.Text.{first_local_of, left_out_of, local_count_of, ops_in};
 
+use crate::emit::append_operators;
+use crate::features::Features;
 use crate::text::Text;
 use std::alloc::{AllocError, Global};
 use walrus_base::Id;
@@ -160,6 +163,9 @@ impl Text {
     {
         let alloc = *to.allocator();
         let table = new_numbers(alloc, locals, self.first_local, self.local_count())?;
+        if !self.memory_stays(indices) || !are_kept(&table, self.entry().left_out.first) {
+            return self.append_listed(alloc, to, indices, locals);
+        }
         let numbers = BodyNumbers {
             indices,
             table: table.as_slice(),
@@ -179,10 +185,68 @@ impl Text {
             → (places : List ℕ) × EmitsOperators (index_of indices.now) locals features (ops_in self.now)
             to.old.items to.new.items (λ _. places) result }
     {
+        if !self.memory_stays(indices) {
+            let alloc = *to.allocator();
+            let locals = same_numbers(alloc, self.first_local, self.local_count())?;
+            return self.append_listed(alloc, to, indices, &locals);
+        }
         let numbers = KeptNumbers {
             indices,
             first_local: self.first_local,
         };
         append_numbered(self, to, &numbers)
     }
+
+    // Whether it accesses memory 0 nowhere without a mark, or that keeps its index.
+    fn memory_stays(&self, indices: &IdsToIndices) -> bool
+        ensures { IsTrue result → (left_out_of self.now).accessed ≡ true → index_of indices.now Memories 0 ≡ Some 0 }
+    {
+        !self.entry().left_out.accessed || indices.get_memory_index(Id::at(0)) == Some(0)
+    }
+
+    // Appends its operators one by one, whatever the proposals are.
+    fn append_listed(
+        &self,
+        alloc: Global,
+        to: &mut Vec<u8>,
+        indices: &IdsToIndices,
+        locals: &LocalNumbers,
+    ) -> Result<(), IrError>
+        ensures { (features : Proposals) → (places : List ℕ) × EmitsOperators (index_of indices.now)
+            (local_index locals.now) features (ops_in self.now) to.old.items to.new.items
+            (λ _. places) result }
+    {
+        let operators = self.operators(alloc)?;
+        let listed = operators.as_slice();
+        let features = Features {
+            legacy_exceptions: false,
+            only_stable: true,
+        };
+        let _placed = append_operators(alloc, to, listed, indices, locals, &features, false)?;
+        Ok(())
+    }
+}
+
+// Whether each local from one on keeps its index.
+fn are_kept(table: &[Option<u32>], first: u32) -> bool
+    ensures { IsTrue result → (n : ℕ) → first ≤ n → n < length table.now
+        → slice_index_or table.now n None ≡ Some n }
+{
+    'table: for index in first as usize..table.len() {
+        if table[index] != Some(index as u32) {
+            return false;
+        }
+    }
+    true
+}
+
+// The numbers of so many locals from a place on, of which each keeps its index.
+fn same_numbers(alloc: Global, first: u32, count: u32) -> Result<LocalNumbers, AllocError>
+    ensures { IfOk result (λ numbers. (i : ℕ) → i < count → local_index numbers (first + i) ≡ Some i) }
+{
+    let mut numbers = LocalNumbers::new(alloc);
+    'locals: for offset in 0..count {
+        numbers.push(Id::at(first as usize + offset as usize))?;
+    }
+    Ok(numbers)
 }
