@@ -15,6 +15,7 @@ pub mod AtMarks
 pub mod FlagLemmas
 mod HeldLemmas
 mod KeptLemmas
+mod LeftLemmas
 mod LocationLemmas
 mod PlacedLemmas
 pub mod NamesShown

@@ -1,6 +1,6 @@
 -- A body that was scanned is a plain one: its operators nest as a function's do.
-use Rattle.std.proofs.Common.{◌≡◌, ℕ, Bool, true, false, List, [], ◌∷◌, length, map, Option, Some, None, refl, sym, ap, ap₂, subst, ◌∙◌}
-use Rattle.std.specs.Prelude.{nat_eq, ◌&&◌, ◌||◌, Result, Ok, Err, IfOk, IfSome, option_map, if◌then◌else◌}
+use Rattle.std.proofs.Common.{◌≡◌, ℕ, ◌<◌, ◌≤◌, Bool, true, false, List, [], ◌∷◌, length, map, Option, Some, None, refl, sym, ap, ap₂, subst, ◌∙◌}
+use Rattle.std.specs.Prelude.{nat_eq, ◌&&◌, ◌||◌, Result, Ok, Err, IfOk, IfSome, slice_index_or, option_map, if◌then◌else◌}
 use Rattle.std.specs.List.{list_all}
 use Rattle.std.proofs.lemmas.Bool.{eqb-true, lt-ltb}
 use Rattle.std.proofs.lemmas.List.{length-map}
@@ -20,7 +20,9 @@ use Rattle.walrus_code.specs.FromRaw.{arg_of, ops_of}
 use Rattle.walrus_bodies.specs.declared.blocks.Opened.{Opened}
 use Rattle.walrus_bodies.specs.declared.blocks.Opened.TheVariants.{Plain, If}
 use Rattle.walrus_bodies.specs.Blocks.{opens_plain, behind_else, behind_end, blocks_behind, blocks_meant, blocks_after, label_below, labels_below, nests}
-use Rattle.walrus_bodies.specs.PlainBody.{IsNamed, IsPlainBody}
+use Rattle.walrus_bodies.specs.PlainBody.{IsNamed, IsScannedBody}
+use Rattle.walrus_bodies.specs.declared.scan.ScanRoom.{ScanRoom}
+use Rattle.walrus_bodies.proofs.LeftLemmas.{left_shown}
 use Rattle.walrus_bodies.proofs.BlockLemmas.{after_near}
 
 -- ---- arguments
@@ -144,19 +146,23 @@ nests_of limits (flag ∷ around) (o ∷ texts) plain h =
 
 -- ---- the body
 
-plain_body : (limits : Limits) (bytes marks : List ℕ) (count : ℕ) → text.IsBody limits bytes marks count → IsPlainBody limits bytes marks count
-plain_body limits bytes marks count body = record {
+-- the locals that are left out are named where each of them is flagged
+pub plain_body : (limits : Limits) (room : ScanRoom) (bytes : List ℕ) (count : ℕ) → text.IsBody limits room.unmarked bytes room.marks.items count
+    → ((n : ℕ) → room.unmarked.first ≤ n → n < limits.locals → slice_index_or room.unmarked.named.items n false ≡ true) → IsScannedBody limits room bytes count
+plain_body limits room bytes count body flagged = record {
   texts = body.texts;
   counted = body.counted;
-  holds = body.holds;
+  row = body.holds.row;
+  shown = left_shown room.unmarked.first room.unmarked.accessed bytes body.marks room.marks.items body.texts body.holds.shown body.are_left;
+  named = record { each_local = λ n low high. body.named.locals n (flagged n low high); memory = body.named.memory };
   fit = named_of limits (false ∷ []) body.texts body.nested;
   plain = body.plain;
   nested = nests_of limits (false ∷ []) body.texts body.plain body.nested;
 }
 
 -- the same of what the scan answers
-pub plain_answer : {E : Type 0} (limits : Limits) (bytes marks : List ℕ) (answer : Result (Option ℕ) E) → IfOk answer (λ found. IfSome found (text.IsBody limits bytes marks))
-    → IfOk answer (λ found. IfSome found (IsPlainBody limits bytes marks))
-plain_answer limits bytes marks (Err e) h = tt
-plain_answer limits bytes marks (Ok None) h = tt
-plain_answer limits bytes marks (Ok (Some count)) h = plain_body limits bytes marks count h
+pub plain_answer : {E : Type 0} (limits : Limits) (room : ScanRoom) (bytes : List ℕ) (answer : Result (Option ℕ) E) → IfOk answer (λ found. IfSome found (text.IsBody limits room.unmarked bytes room.marks.items))
+    → ((n : ℕ) → room.unmarked.first ≤ n → n < limits.locals → slice_index_or room.unmarked.named.items n false ≡ true) → IfOk answer (λ found. IfSome found (IsScannedBody limits room bytes))
+plain_answer limits room bytes (Err e) h flagged = tt
+plain_answer limits room bytes (Ok None) h flagged = tt
+plain_answer limits room bytes (Ok (Some count)) h flagged = plain_body limits room bytes count h flagged

@@ -49,15 +49,23 @@ impl ScanRoom {
         ranked.unwrap_or(u32::MAX)
     }
 
+    // Whether a local is flagged.
+    #[inline]
+    fn is_flagged(&self, index: u32) -> bool
+        ensures { result ≡ slice_index_or self.now.unmarked.named.items index false }
+    {
+        let place = index as usize;
+        place < self.unmarked.named.len() && self.unmarked.named[place]
+    }
+
     // Whether each local of so many is named whose marks were left out.
     fn are_named(&self, locals: u32) -> bool
         ensures { IsTrue result → (n : ℕ) → self.now.unmarked.first ≤ n → n < locals
             → slice_index_or self.now.unmarked.named.items n false ≡ true }
     {
         'locals: for index in self.unmarked.first..locals {
-            match self.unmarked.named.get(index as usize) {
-                Some(true) => {}
-                _ => return false,
+            if !self.is_flagged(index) {
+                return false;
             }
         }
         true
@@ -85,6 +93,11 @@ impl ScanRoom {
     }
 }
 
+// That no local of so many has the index 2^32 - 1. Nothing runs.
+fn none_is_last(locals: u32)
+    ensures { locals ≤ 4294967295 }
+{}
+
 // How many operators the bytes are, if they are a plain body that names only what is within the limits. Those of its marks stand in the room then that
 // are needed: marks of locals are left out where each of these from `ranked` on is named.
 pub(crate) fn scan_body(
@@ -96,10 +109,13 @@ pub(crate) fn scan_body(
     ensures { IfOk result (λ found. IfSome found (IsScannedBody limits.now room.new bytes.now)) }
 {
     let first = room.first_tried(ranked);
-    let found = room.scan_from(first, bytes, limits)?;
-    if found.is_none() || room.are_named(limits.locals) {
-        return Ok(found);
+    let Some(count) = room.scan_from(first, bytes, limits)? else {
+        return Ok(None);
+    };
+    if room.are_named(limits.locals) {
+        return Ok(Some(count));
     }
     room.waits = MOST_WAITS;
+    none_is_last(limits.locals);
     room.scan_from(u32::MAX, bytes, limits)
 }
