@@ -1,6 +1,6 @@
 -- Flags of the locals that arguments at marks name.
 use Rattle.std.proofs.Common.{◌≡◌, ℕ, zero, suc, ◌+◌, ◌-◌, ◌<◌, ◌≤◌, ◌⊎◌, inl, inr, Bool, true, false, List, [], ◌∷◌, ◌++◌, length, take, drop, get_or, map, refl, sym, ap, ap₂, subst, ◌∙◌, arith, replicate}
-use Rattle.std.specs.Prelude.{◌≢◌, Contains, nat_eq, nat_le, nat_lt, flat_map, slice_set}
+use Rattle.std.specs.Prelude.{◌≢◌, ◌↔◌, Contains, nat_eq, nat_le, nat_lt, flat_map, slice_set}
 use Rattle.std.specs.List.{list_all}
 use Rattle.std.proofs.lemmas.Bool.{ltb-true, and_parts as parts}
 use Rattle.std.proofs.lemmas.Bool.Decides.{eqb_tells}
@@ -19,12 +19,16 @@ use Rattle.walrus_bodies.specs.Names.{OfArgument}
 use Rattle.walrus_bodies.specs.Placed.{moved_arg, placed_ops}
 use Rattle.walrus_bodies.specs.Plain.{is_plain_arg, is_plain_op, are_plain}
 use Rattle.walrus_bodies.specs.Texts.{texts_at}
-use Rattle.walrus_bodies.specs.Text.{bytes_of, entry_of, marks_of, texts_of, first_local_of, local_count_of, ops_in}
+use Rattle.walrus_bodies.specs.Text.{bytes_of, entry_of, left_out_of, marks_of, texts_of, first_local_of, local_count_of, ops_in}
 use Rattle.walrus_bodies.specs.declared.text.Text.{Text}
-use Rattle.walrus_bodies.proofs.OrderLemmas.{shown_of}
+use Rattle.walrus_bodies.proofs.OrderLemmas.{left_out_named, shown_of}
+use Rattle.walrus_bodies.proofs.LeftNames.{FromLeft, asked_gives, from_marks, local_is, to_marks}
+use Rattle.wasm_text.specs.RawArg.TheVariants as raw
+use Rattle.wasm_text.specs.Unmarked.{is_local}
+use Rattle.wasm_text.specs.Operators as wire
 use Rattle.wasm_text.proofs.Marked.{by_kind}
 use Rattle.walrus_bodies.proofs.AtMarks.{local_at}
-use Rattle.walrus_bodies.proofs.NamesShown.{AreLeft, next_at, left_at, indices_quiet, flat_shown, flat_texts}
+use Rattle.walrus_bodies.proofs.NamesShown.{AreLeft, next_at, left_at, indices_quiet, flat_texts}
 use Rattle.walrus_bodies.proofs.HeldLemmas.{plain}
 use Rattle.walrus_base.proofs.InSet.{none_in as nothing}
 
@@ -124,6 +128,52 @@ flag_more bytes marks i d old now next h g one long =
 pub flag_all : (bytes marks : List ℕ) (i : ℕ) (old now : List Bool) → length marks ≤ i → Flagging bytes marks (drop i marks) old now → Flags old now (flat_map indices_named (args_at bytes marks))
 flag_all bytes marks i old now h g = g.then_all now (flags_none now (flat_map indices_named (args_at bytes (drop i marks))) (ap (λ l. flat_map indices_named (args_at bytes l)) (drop_all i marks h)))
 
+-- ---- from one on
+
+-- flagged are those that were, and those from one up to another, as far as they have flags
+abbrev pub FlagsTo : (first i : ℕ) → (old new : List Bool) → Type 0
+FlagsTo first i old new = (x : ℕ) → (get_or new x false ≡ true) ↔ ((get_or old x false ≡ true) ⊎ ((first ≤ x) × (x < i) × (x < length old)))
+
+pub none_from : (first : ℕ) (old : List Bool) → FlagsTo first first old old
+none_from first old x = (
+  λ h. inl h,
+  λ h. elim h as (λ _. get_or old x false ≡ true) [
+    | inl k ↦ k
+    | inr k ↦ absurd (omega (arith, k.0, k.1))
+  ],
+)
+
+module _ (first i : ℕ) (old now : List Bool) (f : FlagsTo first i old now) (behind : first ≤ i) (low : i < length now) (long : length now ≡ length old) where
+  one_to : (x : ℕ) → (get_or now x false ≡ true) ⊎ (Contains (i ∷ []) x × (x < length now)) → (get_or old x false ≡ true) ⊎ ((first ≤ x) × (x < i + 1) × (x < length old))
+  one_to x (inr h) = let e = only i x h.0 in inr (omega (arith, e, behind), omega (arith, e), omega (arith, h.1, long))
+  one_to x (inl h) = elim ((f x).0 h) as (λ _. (get_or old x false ≡ true) ⊎ ((first ≤ x) × (x < i + 1) × (x < length old))) [
+    | inl k ↦ inl k
+    | inr k ↦ inr (k.0, omega (arith, k.1), k.2)
+  ]
+
+  one_from : (x : ℕ) → (nat_eq x i ≡ true) × (x ≡ i) ⊎ ((nat_eq x i ≡ false) × (x ≢ i)) → (get_or old x false ≡ true) ⊎ ((first ≤ x) × (x < i + 1) × (x < length old)) → (get_or now x false ≡ true) ⊎ (Contains (i ∷ []) x × (x < length now))
+  one_from x t (inl h) = inl ((f x).1 (inl h))
+  one_from x (inl e) (inr h) = inr ((0, omega arith, sym e.1), omega (arith, h.2, long))
+  one_from x (inr e) (inr h) = let n : x < i = ne_lt x i e.1 h.1 in inl ((f x).1 (inr (h.0, n, h.2)))
+    where
+      ne_lt : (a b : ℕ) → (a ≡ b → ⊥) → a < b + 1 → a < b
+      ne_lt a b n l = omega (arith, n, l)
+
+  pub one_more : FlagsTo first (i + 1) old (slice_set now i true)
+  one_more x = (λ h. one_to x ((flags_one now i low x).0 h), λ h. (flags_one now i low x).1 (one_from x (eqb_tells x i) h))
+
+pub all_from : (first i : ℕ) (old now : List Bool) → FlagsTo first i old now → length old ≤ i → (x : ℕ) → (get_or now x false ≡ true) ↔ ((get_or old x false ≡ true) ⊎ ((first ≤ x) × (x < length old)))
+all_from first i old now f past x = (
+  λ h. elim ((f x).0 h) as (λ _. (get_or old x false ≡ true) ⊎ ((first ≤ x) × (x < length old))) [
+    | inl k ↦ inl k
+    | inr k ↦ inr (k.0, k.2)
+  ],
+  λ h. elim h as (λ _. get_or now x false ≡ true) [
+    | inl k ↦ (f x).1 (inl k)
+    | inr k ↦ (f x).1 (inr (k.0, omega (arith, k.1, past), k.1))
+  ],
+)
+
 -- ---- the locals of a body lie one behind another
 
 moved_locals : (by : ℕ) (a : Arg) → arg_locals (moved_arg by a) ≡ map (λ x. by + x) (arg_locals a)
@@ -146,14 +196,11 @@ flat_moved : (by : ℕ) (xs : List RawArg) → flat_map (λ a. map (λ x. by + x
 flat_moved by [] = refl
 flat_moved by (x ∷ xs) = ap (λ l. map (λ n. by + n) (indices_named x) ++ l) (flat_moved by xs) ∙ sym (map-append (λ n. by + n) (indices_named x) (flat_map indices_named xs))
 
-locals_shown : (t : Text) → locals_of (placed_ops t.first_local (texts_at (entry_of t).count (bytes_of t))) ≡ map (λ x. t.first_local + x) (flat_map indices_named (args_at (bytes_of t) (marks_of t)))
-locals_shown t =
+locals_named : (t : Text) → locals_of (placed_ops t.first_local (texts_at (entry_of t).count (bytes_of t))) ≡ map (λ x. t.first_local + x) (flat_map indices_named (all_args (texts_at (entry_of t).count (bytes_of t))))
+locals_named t =
     let first = t.first_local in
     let texts = texts_at (entry_of t).count (bytes_of t) in
-    let f = λ (a : RawArg). map (λ x. first + x) (indices_named a) in
-    flat_texts arg_locals f first (λ a. moved_locals first (arg_of a)) texts
-    ∙ sym (flat_shown f (λ a e. ap (map (λ x. first + x)) (indices_quiet a e)) (all_args texts) (args_at (bytes_of t) (marks_of t)) (shown_of t).named)
-    ∙ flat_moved first (args_at (bytes_of t) (marks_of t))
+    flat_texts arg_locals (λ (a : RawArg). map (λ x. first + x) (indices_named a)) first (λ a. moved_locals first (arg_of a)) texts ∙ flat_moved first (all_args texts)
 
 -- ---- each of them lies in the window
 
@@ -222,13 +269,47 @@ module _ (first count : ℕ) (start flags : List Bool) (indices places : List �
   window : AreMarked first flags places
   window x = (is_marked x, is_there x)
 
-pub used_shown : (t : Text) (bytes marks : List ℕ) (start flags : List Bool) → bytes ≡ (bytes_of t) → marks ≡ (marks_of t) → start ≡ replicate (entry_of t).locals false → Flags start flags (flat_map indices_named (args_at bytes marks))
-    → AreMarked (first_local_of t) flags (locals_of (ops_in t))
-unfolding texts_of first_local_of
-used_shown t bytes marks start flags b m s f =
-    let ops = placed_ops t.first_local (texts_at (entry_of t).count (bytes_of t)) in
-    window t.first_local (entry_of t).locals start flags (flat_map indices_named (args_at bytes marks)) (locals_of ops) (ap length s ∙ length-replicate (entry_of t).locals false) (λ x h. never (entry_of t).locals x (sym (ap (λ l. get_or l x false) s) ∙ h)) f
-    (locals_shown t ∙ ap₂ (λ b m. map (λ x. t.first_local + x) (flat_map indices_named (args_at b m))) (sym b) (sym m)) (ops_within t.first_local (entry_of t).locals ops (plain t))
+-- flagged at marks, and from the first local on whose marks are left out
+module _ (t : Text) (start mid flags : List Bool) (none : start ≡ replicate (entry_of t).locals false) (marked : Flags start mid (flat_map indices_named (args_at (bytes_of t) (marks_of t)))) (long : length mid ≡ length start)
+    (others : (x : ℕ) → (get_or flags x false ≡ true) ↔ ((get_or mid x false ≡ true) ⊎ (((left_out_of t).first ≤ x) × (x < length mid)))) where
+  abbrev texts : List wire.Op
+  texts = texts_at (entry_of t).count (bytes_of t)
+
+  abbrev named : List ℕ
+  named = flat_map indices_named (all_args texts)
+
+  alike : (flags offset flags' offset' : ℕ) → indices_named (raw.Access flags 0 offset) ≡ indices_named (raw.Access flags' 0 offset')
+  alike flags offset flags' offset' = refl
+
+  as_many : length start ≡ (entry_of t).locals
+  as_many = ap length none ∙ length-replicate (entry_of t).locals false
+
+  is_named : (x : ℕ) → (get_or mid x false ≡ true) ⊎ (((left_out_of t).first ≤ x) × (x < length mid)) → (get_or start x false ≡ true) ⊎ (Contains named x × (x < length start))
+  is_named x (inl h) = elim ((marked x).0 h) as (λ _. (get_or start x false ≡ true) ⊎ (Contains named x × (x < length start))) [
+    | inl k ↦ inl k
+    | inr k ↦ inr (from_marks (left_out_of t) (bytes_of t) (marks_of t) texts (shown_of t) indices_named indices_quiet alike x k.0, k.1)
+  ]
+  is_named x (inr h) =
+      let low : x < (entry_of t).locals = omega (arith, h.1, long, as_many) in
+      inr (asked_gives indices_named x (is_local x) (λ b e. subst (λ (a : RawArg). Contains (indices_named a) x) (sym (local_is x b e)) (0, omega arith, refl)) (all_args texts) ((left_out_named t).each_local x h.0 low), omega (arith, h.1, long))
+
+  of_left : (x : ℕ) → x < length start → FromLeft (left_out_of t) (bytes_of t) (marks_of t) texts (shown_of t) indices_named indices_quiet alike x → (get_or mid x false ≡ true) ⊎ (((left_out_of t).first ≤ x) × (x < length mid))
+  of_left x low (inl c) = inl ((marked x).1 (inr (c, low)))
+  of_left x low (inr (inl l)) = let is = only l.0 x l.1.1 in inr (omega (arith, is, l.1.0), omega (arith, low, long))
+  of_left x low (inr (inr m)) = absurd (nothing x m.1.2)
+
+  is_flagged : (x : ℕ) → (get_or start x false ≡ true) ⊎ (Contains named x × (x < length start)) → (get_or mid x false ≡ true) ⊎ (((left_out_of t).first ≤ x) × (x < length mid))
+  is_flagged x (inl h) = inl ((marked x).1 (inl h))
+  is_flagged x (inr h) = of_left x h.1 (to_marks (left_out_of t) (bytes_of t) (marks_of t) texts (shown_of t) indices_named indices_quiet alike x h.0)
+
+  all_flagged : Flags start flags named
+  all_flagged x = (λ h. is_named x ((others x).0 h), λ h. (others x).1 (is_flagged x h))
+
+  pub used_shown : AreMarked (first_local_of t) flags (locals_of (ops_in t))
+  unfolding texts_of first_local_of
+  used_shown =
+      let ops = placed_ops t.first_local texts in
+      window t.first_local (entry_of t).locals start flags named (locals_of ops) as_many (λ x h. never (entry_of t).locals x (sym (ap (λ l. get_or l x false) none) ∙ h)) all_flagged (locals_named t) (ops_within t.first_local (entry_of t).locals ops (plain t))
 
 pub all_off : (n k : ℕ) (old new : List Bool) → old ≡ [] → k ≡ 0 → new ≡ take n old ++ replicate (n - k) false → new ≡ replicate n false
 all_off n k old new e z is =

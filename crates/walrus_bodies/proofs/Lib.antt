@@ -16,6 +16,7 @@ pub mod FlagLemmas
 mod HeldLemmas
 mod KeptLemmas
 mod LeftLemmas
+mod LeftNames
 mod LocationLemmas
 mod PlacedLemmas
 pub mod NamesShown

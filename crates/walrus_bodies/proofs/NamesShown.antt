@@ -1,6 +1,6 @@
 -- What the arguments at marks name, one behind another, is what the operators name that they show.
-use Rattle.std.proofs.Common.{◌≡◌, ℕ, zero, suc, ◌+◌, ◌<◌, ◌≤◌, Bool, true, false, List, [], ◌∷◌, ◌++◌, length, drop, get_or, map, drop-cons, refl, sym, ap, ap₂, subst, ◌∙◌, arith, append_assoc, append-nil}
-use Rattle.std.specs.Prelude.{flat_map, if◌then◌else◌, ◌&&◌, ◌≢◌, ℤ}
+use Rattle.std.proofs.Common.{◌≡◌, ℕ, zero, suc, ◌+◌, ◌<◌, ◌≤◌, Bool, true, false, List, [], ◌∷◌, ◌++◌, length, drop, get_or, map, drop-cons, refl, sym, ap, ap₂, subst, ◌∙◌, arith, append_assoc, append-nil, inl, inr}
+use Rattle.std.specs.Prelude.{◌⊎◌, Contains, filter, flat_map, if◌then◌else◌, ◌&&◌, ◌≢◌, ℤ}
 use Rattle.std.specs.List.{All, list_all}
 use Rattle.std.proofs.lemmas.Grind.{flat_map-append}
 use Rattle.std.proofs.lemmas.List.Folds.{list_all-append}
@@ -9,7 +9,7 @@ use Rattle.wasm_text.specs.RawArg.{RawArg}
 use Rattle.wasm_text.specs.RawArg.TheVariants as args
 use Rattle.wasm_text.specs.Operators as wire
 use Rattle.wasm_text.specs.Places.{Stands}
-use Rattle.wasm_text.specs.Marks.{place_of, kind_of, form_of, AreInOrder, HasArgument, argument, args_at, heap_names as heap_names_any, value_names, block_names as block_names_any, arg_names as names_any, naming, all_args}
+use Rattle.wasm_text.specs.Marks.{place_of, kind_of, form_of, AreInOrder, HasArgument, argument, args_at, heap_names as heap_names_any, value_names, block_names as block_names_any, arg_names as names_any, all_args}
 use Rattle.wasm_text.proofs.Filling.{found_is}
 use Rattle.wasm_forms.specs.declared.types.RawHeap.{RawHeap}
 use Rattle.wasm_forms.specs.declared.types.RawHeap.TheVariants as raw_heap
@@ -18,19 +18,25 @@ use Rattle.wasm_forms.specs.declared.types.RawVal.TheVariants as raw_val
 use Rattle.wasm_text.specs.RawBlock.{RawBlock}
 use Rattle.wasm_text.specs.RawBlock.TheVariants as raw_block
 use Rattle.walrus_base.specs.Types.{heap_names, val_names}
-use Rattle.walrus_base.specs.Operators.{Arg, Block, arg_names, block_names, names_of, type_item}
+use Rattle.walrus_base.specs.Operators.{Arg, Block, Item, arg_names, block_names, names_of, type_item}
 use Rattle.walrus_bodies.specs.Blocks.{block_holds, blocks_hold}
 use Rattle.walrus_code.specs.FromRaw.{arg_of, heap_of, val_of, block_of}
 use Rattle.walrus_code.specs.declared.items.ItemId.{ItemId}
 use Rattle.walrus_code.specs.Code.{item_of}
-use Rattle.walrus_bodies.specs.Names.{OfArgument, PutsAt, items_named}
+use Rattle.walrus_bodies.specs.Names.{OfArgument, PutsAt, PutsThese, items_named, memory_if}
+use Rattle.walrus_bodies.specs.Shown.{needs_mark}
+use Rattle.walrus_bodies.specs.declared.plain_code.LeftOut.{LeftOut}
+use Rattle.wasm_text.specs.Unmarked.{is_access}
+use Rattle.walrus_base.proofs.Lists.{Contains-none}
+use Rattle.std.proofs.lemmas.List.Elements.{Contains-append_cases, Contains-append_left, Contains-append_right}
+use Rattle.walrus_bodies.proofs.LeftNames.{FromLeft, Unmarked, access_is, asked_gives, from_marks, passed_over, to_marks}
 use Rattle.walrus_bodies.specs.Locals.{indices_named}
 use Rattle.walrus_bodies.specs.Placed.{moved_arg, placed_ops}
 use Rattle.walrus_bodies.specs.Texts.{texts_at}
-use Rattle.walrus_bodies.specs.Text.{bytes_of, entry_of, marks_of, texts_of, first_local_of, ops_in}
+use Rattle.walrus_bodies.specs.Text.{bytes_of, entry_of, left_out_of, marks_of, texts_of, first_local_of, ops_in}
 use Rattle.walrus_bodies.specs.declared.text.Text.{Text}
 use Rattle.walrus_bodies.proofs.AtMarks.{holds_at, moved_names, moved_holds}
-use Rattle.walrus_bodies.proofs.OrderLemmas.{shown_of}
+use Rattle.walrus_bodies.proofs.OrderLemmas.{left_out_named, shown_of}
 
 -- ---- one mark behind another
 
@@ -178,26 +184,20 @@ block_quiet_holds holds (raw_block.OfType t) e = absurd (yes e)
 holds_quiet : (holds : ℕ → Bool) (arg : RawArg) → names_any arg ≡ false → block_holds holds (arg_of arg) ≡ true
 holds_quiet holds = quiet (λ a. block_holds holds (arg_of a) ≡ true) (λ n. refl) (λ n. refl) (λ n. refl) (λ n. refl) (λ z. refl) (λ z. refl) (λ n. refl) (λ n. refl) (λ v e. refl) (λ h e. refl) (block_quiet_holds holds)
 
--- ---- lists of arguments that differ in what names nothing
+-- ---- arguments without marks
 
-flat_front : {X : Type 0} (f : RawArg → List X) (x : RawArg) (xs : List RawArg) (t : Bool) → (t ≡ false → f x ≡ []) → flat_map f xs ≡ flat_map f (naming xs) → f x ++ flat_map f xs ≡ flat_map f (if t then x ∷ naming xs else naming xs)
-flat_front f x xs true none e = ap (λ r. f x ++ r) e
-flat_front f x xs false none e = ap (λ r. r ++ flat_map f xs) (none refl) ∙ e
+unmarked_holds : (holds : ℕ → Bool) (out : LeftOut) (arg : RawArg) → (names_any arg ≡ false) ⊎ Unmarked out arg → block_holds holds (arg_of arg) ≡ true
+unmarked_holds holds out arg (inl e) = holds_quiet holds arg e
+unmarked_holds holds out arg (inr (inl l)) = ap (λ a. block_holds holds (arg_of a)) l.1.0
+unmarked_holds holds out arg (inr (inr m)) = ap (λ a. block_holds holds (arg_of a)) m.0.is
 
-flat_naming : {X : Type 0} (f : RawArg → List X) → ((x : RawArg) → names_any x ≡ false → f x ≡ []) → (xs : List RawArg) → flat_map f xs ≡ flat_map f (naming xs)
-flat_naming f none [] = refl
-flat_naming f none (x ∷ xs) = flat_front f x xs (names_any x) (none x) (flat_naming f none xs)
+holds_front : (p q : RawArg → Bool) (x : RawArg) (xs : List RawArg) (t : Bool) → (t ≡ false → p x ≡ true) → list_all p xs ≡ list_all p (filter q xs) → (p x && list_all p xs) ≡ list_all p (if t then x ∷ filter q xs else filter q xs)
+holds_front p q x xs true none e = ap (λ r. p x && r) e
+holds_front p q x xs false none e = ap (λ r. r && list_all p xs) (none refl) ∙ e
 
-pub flat_shown : {X : Type 0} (f : RawArg → List X) → ((x : RawArg) → names_any x ≡ false → f x ≡ []) → (xs ys : List RawArg) → naming xs ≡ naming ys → flat_map f ys ≡ flat_map f xs
-flat_shown f none xs ys e = flat_naming f none ys ∙ ap (flat_map f) (sym e) ∙ sym (flat_naming f none xs)
-
-holds_front : (p : RawArg → Bool) (x : RawArg) (xs : List RawArg) (t : Bool) → (t ≡ false → p x ≡ true) → list_all p xs ≡ list_all p (naming xs) → (p x && list_all p xs) ≡ list_all p (if t then x ∷ naming xs else naming xs)
-holds_front p x xs true none e = ap (λ r. p x && r) e
-holds_front p x xs false none e = ap (λ r. r && list_all p xs) (none refl) ∙ e
-
-holds_naming : (p : RawArg → Bool) → ((x : RawArg) → names_any x ≡ false → p x ≡ true) → (xs : List RawArg) → list_all p xs ≡ list_all p (naming xs)
-holds_naming p none [] = refl
-holds_naming p none (x ∷ xs) = holds_front p x xs (names_any x) (none x) (holds_naming p none xs)
+holds_passed : (p q : RawArg → Bool) → ((x : RawArg) → q x ≡ false → p x ≡ true) → (xs : List RawArg) → list_all p xs ≡ list_all p (filter q xs)
+holds_passed p q none [] = refl
+holds_passed p q none (x ∷ xs) = holds_front p q x xs (q x) (none x) (holds_passed p q none xs)
 
 -- ---- operators and their arguments
 
@@ -219,16 +219,52 @@ holds_texts g f first same (o ∷ texts) = ap₂ (λ a b. a && b) (holds_args g 
 
 -- ---- a body
 
-pub names_shown : (t : Text) → flat_map items_named (args_at (bytes_of t) (marks_of t)) ≡ names_of (ops_in t)
+-- what was put is what the operators name: memory 0, where its accesses have no marks, and what stands at marks
+pub names_shown : (t : Text) (old now new : List ItemId) → map item_of now ≡ map item_of old ++ memory_if (left_out_of t).accessed → map item_of new ≡ map item_of now ++ flat_map items_named (args_at (bytes_of t) (marks_of t))
+    → PutsThese old new (names_of (ops_in t))
 unfolding texts_of first_local_of
-names_shown t =
-    let texts = texts_at (entry_of t).count (bytes_of t) in
-    flat_shown items_named items_quiet (all_args texts) (args_at (bytes_of t) (marks_of t)) (shown_of t).named ∙ sym (flat_texts arg_names items_named t.first_local (λ a. moved_names t.first_local (arg_of a)) texts)
+names_shown t old now new first second = record {
+  added = memory_if (left_out_of t).accessed ++ marked;
+  behind = second ∙ ap (λ l. l ++ marked) first ∙ append_assoc (map item_of old) (memory_if (left_out_of t).accessed) marked;
+  are = λ x. (to x, from x);
+}
+  where
+    texts : List wire.Op
+    texts = texts_at (entry_of t).count (bytes_of t)
+
+    marked : List Item
+    marked = flat_map items_named (args_at (bytes_of t) (marks_of t))
+
+    alike : (flags offset flags' offset' : ℕ) → items_named (args.Access flags 0 offset) ≡ items_named (args.Access flags' 0 offset')
+    alike flags offset flags' offset' = refl
+
+    same : names_of (placed_ops t.first_local texts) ≡ flat_map items_named (all_args texts)
+    same = flat_texts arg_names items_named t.first_local (λ a. moved_names t.first_local (arg_of a)) texts
+
+    memory : (x : Item) → (accessed : Bool) → (left_out_of t).accessed ≡ accessed → Contains (memory_if accessed) x → Contains (flat_map items_named (all_args texts)) x
+    memory x false e c = absurd (Contains-none x c)
+    memory x true e c = asked_gives items_named x is_access (λ b h. let a = access_is b h in subst (λ (l : List Item). Contains l x) (sym (ap items_named a.is)) c) (all_args texts) ((left_out_named t).memory e)
+
+    to : (x : Item) → Contains (memory_if (left_out_of t).accessed ++ marked) x → Contains (names_of (placed_ops t.first_local texts)) x
+    to x c = subst (λ (l : List Item). Contains l x) (sym same) (elim (Contains-append_cases (memory_if (left_out_of t).accessed) marked x c) as (λ _. Contains (flat_map items_named (all_args texts)) x) [
+      | inl k ↦ memory x (left_out_of t).accessed refl k
+      | inr k ↦ from_marks (left_out_of t) (bytes_of t) (marks_of t) texts (shown_of t) items_named items_quiet alike x k
+    ])
+
+    left : (x : Item) → FromLeft (left_out_of t) (bytes_of t) (marks_of t) texts (shown_of t) items_named items_quiet alike x → Contains (memory_if (left_out_of t).accessed ++ marked) x
+    left x (inl c) = Contains-append_right (memory_if (left_out_of t).accessed) marked x c
+    left x (inr (inl l)) = absurd (Contains-none x l.1.1)
+    left x (inr (inr m)) = Contains-append_left (memory_if (left_out_of t).accessed) marked x (subst (λ (b : Bool). Contains (memory_if b) x) (sym m.0) m.1.2)
+
+    from : (x : Item) → Contains (names_of (placed_ops t.first_local texts)) x → Contains (memory_if (left_out_of t).accessed ++ marked) x
+    from x c = left x (to_marks (left_out_of t) (bytes_of t) (marks_of t) texts (shown_of t) items_named items_quiet alike x (subst (λ (l : List Item). Contains l x) same c))
 
 pub blocks_shown : (holds : ℕ → Bool) (t : Text) → list_all (λ arg. block_holds holds (arg_of arg)) (args_at (bytes_of t) (marks_of t)) ≡ blocks_hold holds (ops_in t)
 unfolding texts_of first_local_of
 blocks_shown holds t =
     let texts = texts_at (entry_of t).count (bytes_of t) in
     let p = λ (a : RawArg). block_holds holds (arg_of a) in
-    holds_naming p (holds_quiet holds) (args_at (bytes_of t) (marks_of t)) ∙ ap (list_all p) (sym (shown_of t).named) ∙ sym (holds_naming p (holds_quiet holds) (all_args texts))
+    let q = needs_mark (left_out_of t) in
+    let none : (a : RawArg) → q a ≡ false → p a ≡ true = λ a e. unmarked_holds holds (left_out_of t) a (passed_over (left_out_of t) a e) in
+    holds_passed p q none (args_at (bytes_of t) (marks_of t)) ∙ ap (list_all p) (sym (shown_of t).needed) ∙ sym (holds_passed p q none (all_args texts))
     ∙ sym (holds_texts (block_holds holds) p t.first_local (λ a. moved_holds holds t.first_local (arg_of a)) texts)

@@ -12,21 +12,22 @@ use Rattle.walrus_bodies.specs.Placed.{placed_ops}
 use Rattle.walrus_bodies.specs.PlainBody.{IsPlainBody}
 use Rattle.walrus_bodies.specs.Text.{bytes_of, entry_of, texts_of, first_local_of, local_count_of, ops_in, at_place, locations_in}
 use Rattle.walrus_bodies.specs.Scanned.{IsPlace, IsScanned}
+use Rattle.walrus_bodies.specs.declared.plain_code.LeftOut.{LeftOut}
 use Rattle.walrus_bodies.specs.declared.text.Text.{Text}
 use Rattle.walrus_bodies.proofs.TextLemmas.{row_of}
 use Rattle.walrus_bodies.proofs.HeldLemmas.{whole_so, nested_so, simple_so, named_so}
 use Rattle.walrus_bodies.proofs.PlainLemmas.{nested_moved, texts_allowed}
 use Rattle.walrus_bodies.proofs.LocationLemmas.{stand}
 
-pub is_scanned : (limits : Limits) (first start : ℕ) (bytes marks : List ℕ) (text : Text) → bytes_of text ≡ bytes → text.first_local ≡ first → (entry_of text).locals ≡ limits.locals → (entry_of text).start ≡ start
-    → ∥ IsPlainBody limits bytes marks (entry_of text).count ∥₁ → IsScanned limits first start bytes text
+pub is_scanned : (limits : Limits) (out : LeftOut) (first start : ℕ) (bytes marks : List ℕ) (text : Text) → bytes_of text ≡ bytes → text.first_local ≡ first → (entry_of text).locals ≡ limits.locals → (entry_of text).start ≡ start
+    → ∥ IsPlainBody limits out bytes marks (entry_of text).count ∥₁ → IsScanned limits first start bytes text
 unfolding texts_of first_local_of local_count_of locations_in
-is_scanned limits first start bytes marks text same begins counted starts body =
+is_scanned limits out first start bytes marks text same begins counted starts body =
     let count = (entry_of text).count in
     let texts = texts_at count bytes in
-    let whole = ∥∥₁_elim body (hlevel props) (λ b. whole_so limits bytes marks count b) in
+    let whole = ∥∥₁_elim body (hlevel props) (λ b. whole_so limits out bytes marks count b) in
     let row = row_of count bytes whole in
-    let simple = ∥∥₁_elim body (hlevel props) (λ b. simple_so limits bytes marks count b) in
+    let simple = ∥∥₁_elim body (hlevel props) (λ b. simple_so limits out bytes marks count b) in
     let ops : ops_in text ≡ placed_ops first texts = ap₂ (λ (n : ℕ) (bs : List ℕ). placed_ops n (texts_at count bs)) begins same in
     let locs : locations_in text ≡ map at_place (places_at (start + length bytes) (length texts) bytes) = rw (starts, same, row.1) refl in
     record {
@@ -35,8 +36,8 @@ is_scanned limits first start bytes marks text same begins counted starts body =
       reads = λ c locals in_place from blocks. subst (λ (os : List Op). OperatorsRead c locals bytes os) (sym ops) (record {
         texts = texts;
         spelled = row.0;
-        named = ∥∥₁_elim body (hlevel props) (λ b. named_so limits bytes marks count b first c.names locals in_place from);
-        nested = nested_moved first texts ∙ ∥∥₁_elim body (hlevel props) (λ b. nested_so limits bytes marks count b);
+        named = ∥∥₁_elim body (hlevel props) (λ b. named_so limits out bytes marks count b first c.names locals in_place from);
+        nested = nested_moved first texts ∙ ∥∥₁_elim body (hlevel props) (λ b. nested_so limits out bytes marks count b);
         allowed = texts_allowed c.features first texts simple;
         blocks = subst (λ (os : List Op). blocks_hold c.is_function_type os ≡ true) ops blocks;
       });

@@ -1,9 +1,9 @@
 -- What stands at marks, and what it names.
-use Rattle.std.specs.Prelude.{◌≡◌, ◌↔◌, ℕ, List, ◌++◌, Contains, map}
+use Rattle.std.specs.Prelude.{◌≡◌, ◌↔◌, ℕ, Bool, true, false, List, [], ◌∷◌, ◌++◌, Contains, map}
 use Rattle.wasm_text.specs.RawArg.{RawArg}
 use Rattle.wasm_text.specs.Marks.{form_of, kind_of, place_of}
 use Rattle.wasm_text.specs.Places.{Stands}
-use Rattle.walrus_base.specs.Operators.{Item, arg_names}
+use Rattle.walrus_base.specs.Operators.{Item, Memories, arg_names}
 use Rattle.walrus_code.specs.Code.{item_of}
 use Rattle.walrus_code.specs.FromRaw.{arg_of}
 use Rattle.walrus_code.specs.declared.items.ItemId.{ItemId}
@@ -25,3 +25,8 @@ pub record PutsThese (old new : List ItemId) (names : List Item) : Type 0 where
   pub added : List Item
   pub behind : map item_of new ≡ map item_of old ++ added
   pub are : (x : Item) → Contains added x ↔ Contains names x
+
+-- memory 0, or nothing
+abbrev pub memory_if : Bool → List Item
+memory_if true = (Memories, 0) ∷ []
+memory_if false = []

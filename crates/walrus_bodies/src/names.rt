@@ -6,7 +6,7 @@ ghost use Rattle.wasm_text.specs.Marks.{AreInOrder, HasArgument, args_at, kind_o
 ghost use Rattle.wasm_text.specs.declared.mark.TheConstants.{MARK_ACCESS, MARK_BLOCK};
 ghost use Rattle.walrus_base.specs.Operators.{names_of};
 ghost use Rattle.walrus_code.specs.Code.{item_of};
-ghost use Rattle.walrus_bodies.specs.Names.{OfArgument, PutsAt, PutsThese, items_named};
+ghost use Rattle.walrus_bodies.specs.Names.{OfArgument, PutsAt, PutsThese, items_named, memory_if};
 ghost use Rattle.walrus_bodies.specs.Text.{ops_in};
 
 use crate::place::place_arg;
@@ -81,6 +81,17 @@ fn push_items(to: &mut Vec<ItemId>, bytes: &[u8], marks: &[u32]) -> Result<(), A
     Ok(())
 }
 
+// Puts memory 0 behind the others, if it is to be put.
+#[inline]
+fn push_memory(to: &mut Vec<ItemId>, accessed: bool) -> Result<(), AllocError>
+    ensures { OnOk result (map item_of to.new.items ≡ map item_of to.old.items ++ memory_if accessed) }
+{
+    if accessed {
+        to.push(ItemId::Memory(Id::at(0)))?;
+    }
+    Ok(())
+}
+
 impl Text {
     /// Puts the items that its operators name behind those of `to`, each once or more often. Where memory runs out, some may stand there.
     ///
@@ -90,9 +101,7 @@ impl Text {
     pub fn push_names(&self, to: &mut Vec<ItemId>) -> Result<(), AllocError>
         ensures { OnOk result (PutsThese to.old.items to.new.items (names_of (ops_in self.now))) }
     {
-        if self.entry().left_out.accessed {
-            to.push(ItemId::Memory(Id::at(0)))?;
-        }
+        push_memory(to, self.entry().left_out.accessed)?;
         push_items(to, self.bytes(), self.marks())
     }
 }

@@ -12,7 +12,7 @@ invariant_of-result c =
     let n = c.args.number in
     let told : c.entry-entry.result ≡ entry_at c.args.code.now.value n = c.entry-entry.ensures ∙ ap (λ (k : PlainCode). entry_at k n) c.as_ref-shared.ensures in
     let is = found c.args.code.now.value n (λ none. c.if-entry-eq0.false (ap (λ (e : Entry). e.count) told ∙ none)) in
-    record { body = subst (λ (k : PlainCode). ∥ IsPlainBody (limits_at k n) (bytes_at k n) (marks_at k n) (entry_at k n).count ∥₁) (sym c.in_ok-clone.ensures.cases) is }
+    record { body = subst (λ (k : PlainCode). ∥ IsPlainBody (limits_at k n) (entry_at k n).left_out (bytes_at k n) (marks_at k n) (entry_at k n).count ∥₁) (sym c.in_ok-clone.ensures.cases) is }
 
 pub returns : goal.returns
 unfolding limits_in
@@ -26,13 +26,13 @@ returns c =
     let locals : (entry_at code n).locals ≡ c.args.locals = ap (λ (e : Entry). e.locals) (sym told) ∙ c.if-entry-locals.false in
     let starts : (entry_at code n).start ≡ c.args.start = ap (λ (e : Entry). e.start) (sym told) ∙ c.if-entry-start.false in
     let same : bytes_at code n ≡ bytes = sym (c.bytes_of.ensures ∙ ap₂ bytes_in c.as_ref-shared.ensures told) ∙ c.are_same.ensures c.if-not-are_same.false in
-    let body : ∥ IsPlainBody limits bytes (marks_at code n) (entry_at code n).count ∥₁ =
-    subst (λ (l : ℕ). ∥ IsPlainBody (with_locals code.limits l) bytes (marks_at code n) (entry_at code n).count ∥₁) locals
-    (subst (λ (bs : List ℕ). ∥ IsPlainBody (limits_at code n) bs (marks_at code n) (entry_at code n).count ∥₁) same is) in
+    let body : ∥ IsPlainBody limits (entry_at code n).left_out bytes (marks_at code n) (entry_at code n).count ∥₁ =
+    subst (λ (l : ℕ). ∥ IsPlainBody (with_locals code.limits l) (entry_at code n).left_out bytes (marks_at code n) (entry_at code n).count ∥₁) locals
+    (subst (λ (bs : List ℕ). ∥ IsPlainBody (limits_at code n) (entry_at code n).left_out bs (marks_at code n) (entry_at code n).count ∥₁) same is) in
     let one = c.in_ok-clone.ensures.cases in
-    is_scanned limits c.args.first_local c.args.start bytes (marks_at code n) _
+    is_scanned limits (entry_at code n).left_out c.args.first_local c.args.start bytes (marks_at code n) _
     (ap (λ (k : PlainCode). bytes_at k n) one ∙ same)
     refl
     (ap (λ (k : PlainCode). (entry_at k n).locals) one ∙ locals)
     (ap (λ (k : PlainCode). (entry_at k n).start) one ∙ starts)
-    (subst (λ (k : PlainCode). ∥ IsPlainBody limits bytes (marks_at code n) (entry_at k n).count ∥₁) (sym one) body)
+    (subst (λ (k : PlainCode). ∥ IsPlainBody limits (entry_at code n).left_out bytes (marks_at code n) (entry_at k n).count ∥₁) (sym one) body)
