@@ -11,6 +11,7 @@ pub mod Together
 pub mod Blocks
 pub mod Floats
 pub mod Operator
+pub mod Leaving
 pub mod Read
 pub mod Bodies
 pub mod Marked

@@ -83,6 +83,12 @@ pub one_byte_found : (b : ℕ) (limits : Limits) (bytes : List ℕ) (at behind :
 one_byte_found b limits bytes at behind old new listed small first o h =
     coded (b ∷ []) b limits bytes at (at + 1) behind old new listed (omega arith) (one_byte bytes at b first) (omega arith) (one_code b small) o.has.plain (inl first) h (one_stands b listed (between (at + 1) behind bytes) h.args o h.is)
 
+-- its arguments
+pub one_byte_args : (b : ℕ) (limits : Limits) (bytes : List ℕ) (at behind : ℕ) (old new : List ℕ) (listed : List Kind) (small : b < 256) (first : drop at bytes ≡ b ∷ drop (at + 1) bytes) (o : IsOneByte b listed)
+    (h : HasArgs (args_form listed) limits bytes (at + 1) behind old new) → (one_byte_found b limits bytes at behind old new listed small first o h).text.args ≡ h.args
+unfolding one_byte_found coded
+one_byte_args b limits bytes at behind old new listed small first o h = refl
+
 two_bytes : (bytes : List ℕ) (at b n : ℕ) → drop at bytes ≡ b ∷ drop (at + 1) bytes → drop (at + 1) bytes ≡ n ∷ drop (at + 1 + 1) bytes → between at (at + 1 + 1) bytes ≡ b ∷ n ∷ []
 two_bytes bytes at b n e f =
     let k : at + 1 + 1 - at ≡ 2 = omega arith in

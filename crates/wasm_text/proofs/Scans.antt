@@ -45,6 +45,12 @@ marked_arg form limits bytes at behind kind old new arg found small stands is sa
   within = stands.within;
 }
 
+pub marked_args : (form : Form (List RawArg)) (limits : Limits) (bytes : List ℕ) (at behind kind : ℕ) (old new : List ℕ) (arg found : RawArg) (small : kind < 16)
+    (stands : Stands (form_of kind) bytes at behind found) (is : Is form (between at behind bytes) (arg ∷ [])) (same : (f : RawArg → RawArg) → Leaves f → arg_bytes (f arg) ≡ arg_bytes (f found))
+    (named : naming (arg ∷ []) ≡ naming (found ∷ [])) (fits : IsWithin limits arg) (put : new ≡ old ++ mark_at at kind ∷ []) → (marked_arg form limits bytes at behind kind old new arg found small stands is same named fits put).args ≡ arg ∷ []
+unfolding marked_arg
+marked_args form limits bytes at behind kind old new arg found small stands is same named fits put = refl
+
 -- an argument in its one spelling that names nothing
 pub plain_arg : (form : Form (List RawArg)) (limits : Limits) (bytes : List ℕ) (at behind : ℕ) (old : List ℕ) (arg : RawArg) → at ≤ behind → behind ≤ length bytes
     → Is form (between at behind bytes) (arg ∷ []) → arg_names arg ≡ false → arg_bytes arg ≡ between at behind bytes → IsWithin limits arg → HasArgs form limits bytes at behind old old

@@ -12,7 +12,6 @@ ghost use Rattle.wasm_text.specs.declared.limits.Limits.{Limits as Limited};
 ghost use Rattle.wasm_text.specs.declared.class.Class.TheVariants as class;
 
 use crate::class::{Class, class_of};
-use crate::unmarked::Unmarked;
 use crate::limits::Limits;
 use crate::mark::{
     MARK_ACCESS, MARK_BLOCK, MARK_FUNCTION, MARK_GLOBAL, MARK_LOCAL, MARK_MEMORY, MARK_NUMBER,
@@ -22,6 +21,7 @@ use crate::places::{
     NO_PLACE, byte_from, is_shortest, number_at, past_number, past_s32, past_s64, past_u64,
     rest_from,
 };
+use crate::unmarked::Unmarked;
 use std::alloc::AllocError;
 use wasm_forms::read_index_from;
 use wasm_opcodes::one_byte::{END, IF};
@@ -225,6 +225,7 @@ fn scan_long_local(
     requires room { HasRoom marks.old bytes.now at }
     ensures scans { ScansLeft (kinds.Local ∷ []) limits.now unmarked.old unmarked.new bytes.now at
         marks.old.items marks.new.items result }
+    ensures first { unmarked.new.first ≡ unmarked.old.first }
     ensures capacity { vec_capacity marks.new ≡ vec_capacity marks.old }
 {
     let index = number_at(bytes, at);
@@ -251,6 +252,7 @@ fn scan_local(
     requires room { HasRoom marks.old bytes.now at }
     ensures scans { ScansLeft (kinds.Local ∷ []) limits.now unmarked.old unmarked.new bytes.now at
         marks.old.items marks.new.items result }
+    ensures first { unmarked.new.first ≡ unmarked.old.first }
     ensures capacity { vec_capacity marks.new ≡ vec_capacity marks.old }
 {
     match byte_from(bytes, at) {
@@ -315,6 +317,7 @@ fn scan_access(
     requires room { HasRoom marks.old bytes.now at }
     ensures scans { ScansLeft (kinds.Access ∷ []) limits.now unmarked.old unmarked.new bytes.now at
         marks.old.items marks.new.items result }
+    ensures first { unmarked.new.first ≡ unmarked.old.first }
     ensures capacity { vec_capacity marks.new ≡ vec_capacity marks.old }
 {
     let behind = past_short_access(bytes, at);
@@ -516,6 +519,7 @@ fn scan_operator(
     ensures some { IfOk result (λ behind. IfPlace behind (0 < vec_len opened.new)) }
     ensures labels { IfOk result (λ behind. IfPlace behind
         (limits.new ≡ record limits.old { labels = vec_len opened.new })) }
+    ensures first { unmarked.new.first ≡ unmarked.old.first }
     ensures capacity { vec_capacity marks.new ≡ vec_capacity marks.old }
 {
     let Some(first) = byte_from(bytes, at) else {
@@ -567,7 +571,8 @@ fn scan_operators(
     requires none { marks.old.items ≡ [] }
     requires alone { opened.old.items ≡ false ∷ [] }
     requires unnamed { AreNamed unmarked.old [] }
-    ensures { IfOk result (λ found. IfSome found (IsBody limits.now unmarked.new bytes.now marks.new.items)) }
+    ensures body { IfOk result (λ found. IfSome found (IsBody limits.now unmarked.new bytes.now marks.new.items)) }
+    ensures first { unmarked.new.first ≡ unmarked.old.first }
 {
     let mut here = *limits;
     here.labels = opened.len();

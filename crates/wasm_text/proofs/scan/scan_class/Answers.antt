@@ -1,6 +1,6 @@
 use Rattle.std.proofs.Common.{inr}
 use Rattle.wasm_text.specs.declared.class.Class.TheVariants as class
-use Rattle.wasm_text.proofs.Scans.{local_scans, function_scans, global_scans, type_scans, table_scans, memory_scans}
+use Rattle.wasm_text.proofs.Scans.{function_scans, global_scans, type_scans, table_scans, memory_scans}
 use Rattle.wasm_text.proofs.Together.{bare_args}
 use Rattle.wasm_text.proofs.Floats.{f32_scans, f64_scans}
 use Rattle.wasm_text.proofs.Operator.{as_class}
@@ -11,15 +11,10 @@ returns-in-Bare-clause-scans c =
     as_class c.args.class class.Bare c.args.limits.now c.args.bytes.now c.args.at c.args.marks.now.items c.args.marks.now.items c.args.at c.in-Bare.is
     (inr (bare_args c.args.limits.now c.args.bytes.now c.args.at c.args.marks.now.items c.requires.room.0))
 
-pub returns-in-Local-clause-scans : goal.returns-in-Local-clause-scans
-returns-in-Local-clause-scans c =
-    as_class c.args.class class.Local c.args.limits.now c.args.bytes.now c.args.at c.args.marks.now.items c.scan_index.new.marks.items c.scan_index.result c.in-Local.is
-    (local_scans c.args.limits.now c.args.bytes.now c.args.at c.args.marks.now.items c.scan_index.new.marks.items c.scan_index.result c.scan_index.ensures.indexed)
-
 pub returns-in-Function-clause-scans : goal.returns-in-Function-clause-scans
 returns-in-Function-clause-scans c =
-    as_class c.args.class class.Function c.args.limits.now c.args.bytes.now c.args.at c.args.marks.now.items c.scan_index-in-Function.new.marks.items c.scan_index-in-Function.result c.in-Function.is
-    (function_scans c.args.limits.now c.args.bytes.now c.args.at c.args.marks.now.items c.scan_index-in-Function.new.marks.items c.scan_index-in-Function.result c.scan_index-in-Function.ensures.indexed)
+    as_class c.args.class class.Function c.args.limits.now c.args.bytes.now c.args.at c.args.marks.now.items c.scan_index.new.marks.items c.scan_index.result c.in-Function.is
+    (function_scans c.args.limits.now c.args.bytes.now c.args.at c.args.marks.now.items c.scan_index.new.marks.items c.scan_index.result c.scan_index.ensures.indexed)
 
 pub returns-in-Global-clause-scans : goal.returns-in-Global-clause-scans
 returns-in-Global-clause-scans c =
