@@ -9,7 +9,6 @@ use Rattle.walrus_base.specs.ConstOps.{const_ops}
 use Rattle.walrus_base.specs.declared.const_expr.ConstExpr.{ConstExpr}
 use Rattle.walrus_base.specs.declared.const_expr.ConstExpr.TheVariants as expressions
 use Rattle.walrus_base.specs.declared.const_expr.Value.{Value}
-use Rattle.walrus_base.specs.declared.const_expr.Value.TheVariants as constants
 use Rattle.walrus_base.specs.Operators.{Types, Tables, Globals, Item, Op, type_item, names_of}
 use Rattle.walrus_items.specs.Globals.{GlobalValue, globals, global_import, global_init}
 use Rattle.walrus_items.specs.Tables.{TableValue, tables}
