@@ -71,7 +71,7 @@ two_rows {Y = Y} old n1 n2 a b e1 e2 = e2 ∙ ap (λ (t : List Y). t ++ b) e1 �
 -- ---- items in any order
 
 -- those of a list, in order
-pub puts_list : (old new : Vec ItemId) (xs : List Item) → Puts old new xs → PutsAll old new (Contains xs)
+puts_list : (old new : Vec ItemId) (xs : List Item) → Puts old new xs → PutsAll old new (Contains xs)
 puts_list old new xs puts = record { added = xs; behind = puts; are = λ y. ((λ at. at), (λ at. at)) }
 
 -- those of one kind, and behind them those of another
@@ -86,7 +86,7 @@ puts_both P Q old now new first second = record {
 }
 
 -- those of two lists
-pub puts_lists : (xs ys : List Item) (old now new : Vec ItemId) → PutsAll old now (Contains xs) → PutsAll now new (Contains ys) → PutsAll old new (Contains (xs ++ ys))
+puts_lists : (xs ys : List Item) (old now new : Vec ItemId) → PutsAll old now (Contains xs) → PutsAll now new (Contains ys) → PutsAll old new (Contains (xs ++ ys))
 puts_lists xs ys old now new first second =
     let put = puts_both (Contains xs) (Contains ys) old now new first second in
     record {
