@@ -1,8 +1,7 @@
--- What an item keeps beside what is written in it, and how that and what is written come together.
-use Rattle.std.proofs.Common.{◌≡◌, inl, inr, ℕ, Bool, List, ◌++◌, map, Some, sym, ap, ◌∙◌, subst, ⊎_elim}
+-- What an item keeps beside what is written in it.
+use Rattle.std.proofs.Common.{◌≡◌, ℕ, Bool, List, map, Some, sym, ap, ◌∙◌, subst}
 use Rattle.std.specs.Prelude.{◌↔◌, Contains, IsTrue}
 use Rattle.std.specs.Global.{Vec}
-use Rattle.std.proofs.lemmas.List.Elements.{Contains-append_cases, Contains-append_left, Contains-append_right}
 use Rattle.walrus_base.specs.Arena.{item_at}
 use Rattle.walrus_base.specs.IdSet.{has_id, ids_in}
 use Rattle.walrus_base.specs.declared.keys.DataKey.{DataKey}
@@ -18,21 +17,9 @@ use Rattle.walrus_model.specs.Abstract.{Abstract}
 use Rattle.walrus_model.specs.Refers.{KeepsToo}
 use Rattle.walrus_base.proofs.Lists.{Contains-map}
 use Rattle.walrus_model.proofs.Reach.{Contains-unmap}
-use Rattle.walrus_contents.specs.Named.{NamesItself, Puts, PutsAll, items_in, own_written}
+use Rattle.walrus_contents.specs.Named.{Puts, PutsAll}
 use Rattle.walrus_contents.specs.View.{contents_view, handlers_at, kept_data, kept_elements, kind_handlers}
 use Rattle.walrus_contents.specs.declared.parts.Contents.{Contents}
-use Rattle.walrus_contents.proofs.NamedLemmas.{two_rows}
-
--- what is written in an item, and behind it what it keeps beside that
-pub puts_both : (v : Abstract) (x : Item) (old now new : Vec ItemId) → Puts old now (own_written v x) → PutsAll now new (KeepsToo v x) → PutsAll old new (NamesItself v x)
-puts_both v x old now new own kept = record {
-  added = own_written v x ++ kept.added;
-  behind = two_rows (items_in old) (items_in now) (items_in new) (own_written v x) kept.added own kept.behind;
-  are = λ y. (
-    (λ c. ⊎_elim (λ h. inl h) (λ h. inr ((kept.are y).0 h)) (Contains-append_cases (own_written v x) kept.added y c)),
-    (λ h. ⊎_elim (λ o. Contains-append_left (own_written v x) kept.added y o) (λ k. Contains-append_right (own_written v x) kept.added y ((kept.are y).1 k)) h),
-  );
-}
 
 -- ---- the segments of a set
 

@@ -1,6 +1,6 @@
 -- Where each item is whole, and what is exported is there, nothing that is named is missing; and where nothing is, all is there.
 use Rattle.std.proofs.Common.{◌≡◌, ℕ, ◌<◌, ◌+◌, List, [], ◌∷◌, length, map, take, get_or, Some, None, sym, ap, ◌∙◌, subst, refl, ⊎_elim}
-use Rattle.std.specs.Prelude.{Option, IsSome, Contains, option_map, Result, MatchResult}
+use Rattle.std.specs.Prelude.{◌↔◌, Option, IsSome, Contains, option_map, Result, MatchResult}
 use Rattle.walrus_base.specs.Arena.{item_at, items}
 use Rattle.walrus_base.specs.Operators.{Space, Types, Functions, Tables, Memories, Tags, Globals, Elements, DataSegments, Item}
 use Rattle.walrus_code.specs.Code.{item_of}
@@ -99,14 +99,14 @@ unsound_dead v x (NoBody i f same at e) = NoKind i f at e
 unsound_dead v x (NoLocal i f b l same at e used none) = DeadLocal i l b (ap body_of_function at ∙ ap body_of_kind e) used none
 
 -- what was named is what is written in an item itself; the members of its group are there
-pub item_checked : {T : Type 0} (v : Abstract) → GroupsAreWhole v → (x : Item) (named : List Item) → named ≡ own_written v x → IsSound v x → (r : Result T Error)
+pub item_checked : {T : Type 0} (v : Abstract) → GroupsAreWhole v → (x : Item) (named : List Item) → ((y : Item) → Contains named y ↔ Contains (own_written v x) y) → IsSound v x → (r : Result T Error)
     → MatchResult r (λ _. AreLive v named) (IsRefusal (OneIsDead v named)) → MatchResult r (λ _. IsWhole v x) (IsRefusal (HasDead v))
-item_checked v groups x named is sound r h = result_map (AreLive v named) (IsWhole v x) (OneIsDead v named) (HasDead v)
+item_checked v groups x named are sound r h = result_map (AreLive v named) (IsWhole v x) (OneIsDead v named) (HasDead v)
     (λ live. record {
       sound = sound;
-      written = λ y at. ⊎_elim (λ member. (groups x y member).0) (λ own. subst (AreLive v) is live y own) (written_split v x y at);
+      written = λ y at. ⊎_elim (λ member. (groups x y member).0) (λ own. live y ((are y).1 own)) (written_split v x y at);
     })
-    (λ dead. DeadName x dead.0 (own_is_written v x dead.0 (subst (λ (ys : List Item). Contains ys dead.0) is dead.1.0)) dead.1.1)
+    (λ dead. DeadName x dead.0 (own_is_written v x dead.0 ((are dead.0).0 dead.1.0)) dead.1.1)
     r h
 
 -- ---- what is seen of a thing is there where the thing is

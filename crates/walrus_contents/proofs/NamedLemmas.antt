@@ -1,26 +1,27 @@
 -- How what the parts of an item name comes together.
-use Rattle.std.proofs.Common.{◌≡◌, ℕ, zero, suc, ◌+◌, ◌<◌, ⊎_elim, List, [], ◌∷◌, ◌++◌, Option, Some, length, map, take, drop, get_or, ap, sym, ◌∙◌, subst, refl, arith, add-one, append_assoc, drop-cons}
-use Rattle.std.specs.Prelude.{Contains, IsSome, option_map, flat_map, Result, Ok, Err, MatchResult}
+use Rattle.std.proofs.Common.{inl, inr, ◌≡◌, ◌⊎◌, ℕ, zero, suc, ◌+◌, ◌<◌, ⊎_elim, List, [], ◌∷◌, ◌++◌, Option, Some, length, map, take, drop, get_or, ap, sym, ◌∙◌, subst, refl, arith, add-one, append_assoc, drop-cons}
+use Rattle.std.specs.Prelude.{◌↔◌, Contains, IsSome, option_map, flat_map, Result, Ok, Err, MatchResult}
 use Rattle.std.proofs.lemmas.List.{map-append, map_more}
-use Rattle.std.proofs.lemmas.List.Elements.{Contains-push_cases}
+use Rattle.std.proofs.lemmas.List.Elements.{Contains-append_cases, Contains-append_left, Contains-append_right, Contains-push_cases}
 use Rattle.std.specs.Global.{Vec}
 use Rattle.walrus_base.specs.Arena.{item_at}
 use Rattle.walrus_base.specs.declared.locals.ModuleLocals.{ModuleLocals}
-use Rattle.walrus_base.specs.Operators.{Functions, Item, locals_of, names_of}
+use Rattle.walrus_base.specs.Operators.{Functions, Item, locals_of, names_of, type_item}
 use Rattle.walrus_items.specs.Function.{body_of}
 use Rattle.walrus_items.specs.LocalFunction.{LocalFunction}
+use Rattle.walrus_code.specs.Code.{item_of}
 use Rattle.walrus_code.specs.declared.items.ItemId.{ItemId}
 use Rattle.walrus_items.specs.Functions.{FunctionValue, functions}
 use Rattle.walrus_items.specs.declared.function_kind.FunctionKind.{FunctionKind}
 use Rattle.walrus_items.specs.declared.function_kind.FunctionKind.TheVariants.{Import, Local, Uninitialized}
 use Rattle.walrus_model.specs.Abstract as abstract
-use Rattle.walrus_model.specs.Refers.{IsUsed, body_names, function_names, named_by, written_in}
+use Rattle.walrus_model.specs.Refers.{IsUsed, body_names, function_names, kind_names, named_by, written_in}
 use Rattle.walrus_contents.specs.View.{body, contents_view, function, kind_of}
 use Rattle.walrus_contents.specs.declared.parts.Contents.{Contents}
 use Rattle.walrus_items.specs.declared.error.Error.{Error}
 use Rattle.walrus_items.specs.declared.error.Error.TheVariants.{Memory, DeadItem}
 use Rattle.walrus_base.proofs.Lists.{Contains-head, Contains-tail}
-use Rattle.walrus_contents.specs.Named.{AreThere, IsReady, IsUnready, OneIsMissing, Puts, PutsTypes, items_in, local_type_names}
+use Rattle.walrus_contents.specs.Named.{AreThere, IsReady, IsUnready, OneIsMissing, Puts, PutsAll, PutsTypes, items_in, local_type_names}
 use Rattle.walrus_contents.specs.There.{IsRefusal, IsSound, IsUnsound, NoBody, NoLocal}
 use Rattle.walrus_model.proofs.KeptFollow.{not_none as some_none}
 
@@ -67,6 +68,41 @@ module _ {X Z : Type 0} (value : X → Z) where
 pub two_rows : {Y : Type 0} (old n1 n2 a b : List Y) → n1 ≡ old ++ a → n2 ≡ n1 ++ b → n2 ≡ old ++ (a ++ b)
 two_rows {Y = Y} old n1 n2 a b e1 e2 = e2 ∙ ap (λ (t : List Y). t ++ b) e1 ∙ append_assoc old a b
 
+-- ---- items in any order
+
+-- those of a list, in order
+puts_list : (old new : Vec ItemId) (xs : List Item) → Puts old new xs → PutsAll old new (Contains xs)
+puts_list old new xs puts = record { added = xs; behind = puts; are = λ y. ((λ at. at), (λ at. at)) }
+
+-- those of one kind, and behind them those of another
+pub puts_both : (P Q : Item → Type 0) (old now new : Vec ItemId) → PutsAll old now P → PutsAll now new Q → PutsAll old new (λ y. P y ⊎ Q y)
+puts_both P Q old now new first second = record {
+  added = first.added ++ second.added;
+  behind = two_rows (items_in old) (items_in now) (items_in new) first.added second.added first.behind second.behind;
+  are = λ y. (
+    (λ at. ⊎_elim (λ h. inl ((first.are y).0 h)) (λ h. inr ((second.are y).0 h)) (Contains-append_cases first.added second.added y at)),
+    (λ is. ⊎_elim (λ p. Contains-append_left first.added second.added y ((first.are y).1 p)) (λ q. Contains-append_right first.added second.added y ((second.are y).1 q)) is),
+  );
+}
+
+-- those of two lists
+puts_lists : (xs ys : List Item) (old now new : Vec ItemId) → PutsAll old now (Contains xs) → PutsAll now new (Contains ys) → PutsAll old new (Contains (xs ++ ys))
+puts_lists xs ys old now new first second =
+    let put = puts_both (Contains xs) (Contains ys) old now new first second in
+    record {
+      added = put.added;
+      behind = put.behind;
+      are = λ y. (
+        (λ at. ⊎_elim (λ h. Contains-append_left xs ys y h) (λ h. Contains-append_right xs ys y h) ((put.are y).0 at)),
+        (λ at. (put.are y).1 (Contains-append_cases xs ys y at)),
+      );
+    }
+
+-- what was put where nothing stood is all that stands there
+pub all_put : (P : Item → Type 0) (old new : Vec ItemId) → old.items ≡ [] → PutsAll old new P → (y : Item) → Contains (items_in new) y ↔ P y
+all_put P old new none put y =
+    subst (λ (xs : List Item). Contains xs y ↔ P y) (sym (put.behind ∙ ap (λ (ids : List ItemId). map item_of ids ++ put.added) none)) (put.are y)
+
 -- ---- functions
 
 pub same_some : {X : Type 0} (o : Option X) (x y : X) → o ≡ Some x → o ≡ Some y → x ≡ y
@@ -76,15 +112,30 @@ pub result_map : {T : Type 0} (A B P Q : Type 0) → (A → B) → (P → Q) →
 result_map A B P Q f g (Ok x) h = f h
 result_map A B P Q f g (Err e) h = refusal_map P Q g e h
 
--- what a body names: what its operators do, and then the types of its locals
-pub body_named : {T : Type 0} (all : ModuleLocals) (f : LocalFunction) (r : Result T Error) (old now new : Vec ItemId) → Puts old now (names_of (body_of f))
+-- what a body names: what its operators do, and the types of its locals
+pub body_named : {T : Type 0} (all : ModuleLocals) (f : LocalFunction) (r : Result T Error) (old now new : Vec ItemId) → PutsAll old now (Contains (names_of (body_of f)))
     → MatchResult r (λ _. PutsTypes all (locals_of (body_of f)) now new) (IsRefusal (OneIsMissing all (locals_of (body_of f))))
-    → MatchResult r (λ _. AreThere all (locals_of (body_of f)) × Puts old new (body_names (body all f))) (IsRefusal (OneIsMissing all (locals_of (body_of f))))
-body_named all f r old now new first h = result_map
-    (PutsTypes all (locals_of (body_of f)) now new) (AreThere all (locals_of (body_of f)) × Puts old new (body_names (body all f)))
-    (OneIsMissing all (locals_of (body_of f))) (OneIsMissing all (locals_of (body_of f)))
-    (λ x. (x.0, two_rows (items_in old) (items_in now) (items_in new) (names_of (body_of f)) (flat_map (local_type_names all) (locals_of (body_of f))) first x.1))
+    → MatchResult r (λ _. AreThere all (locals_of (body_of f)) × PutsAll old new (Contains (body_names (body all f)))) (IsRefusal (OneIsMissing all (locals_of (body_of f))))
+body_named all f r old now new first h =
+    let used = locals_of (body_of f) in
+    let types = flat_map (local_type_names all) used in
+    result_map (PutsTypes all used now new) (AreThere all used × PutsAll old new (Contains (body_names (body all f)))) (OneIsMissing all used) (OneIsMissing all used)
+    (λ x. (x.0, puts_lists (names_of (body_of f)) types old now new first (puts_list now new types x.1)))
     (λ missing. missing) r h
+
+-- what a function names: its type, and what its body does
+pub type_and_body : {T : Type 0} (all : ModuleLocals) (f : FunctionValue) (r : Result T Error) (old now new : Vec ItemId)
+    → (id : ItemId) → item_of id ≡ type_item (function all f).ty → now.items ≡ old.items ++ id ∷ []
+    → MatchResult r (λ _. IsReady all f.kind × PutsAll now new (Contains (kind_names (kind_of all f.kind)))) (IsRefusal (IsUnready all f.kind))
+    → MatchResult r (λ _. IsReady all f.kind × PutsAll old new (Contains (function_names (function all f)))) (IsRefusal (IsUnready all f.kind))
+type_and_body all f r old now new id is pushed h =
+    let ty = type_item (function all f).ty ∷ [] in
+    let names = kind_names (kind_of all f.kind) in
+    let first : Puts old now ty = ap (λ (ids : List ItemId). map item_of ids) pushed ∙ map-append item_of old.items (id ∷ []) ∙ ap (λ (y : Item). items_in old ++ y ∷ []) is in
+    result_map (IsReady all f.kind × PutsAll now new (Contains names)) (IsReady all f.kind × PutsAll old new (Contains (function_names (function all f))))
+    (IsUnready all f.kind) (IsUnready all f.kind)
+    (λ x. (x.0, puts_lists ty names old now new (puts_list old now ty first) x.1))
+    (λ unready. unready) r h
 
 module _ (c : Contents) where
   abbrev v : abstract.Abstract
@@ -122,12 +173,12 @@ module _ (c : Contents) where
 
     -- what stands written in a function, in the words of the abstract module
     pub function_named : {T : Type 0} (r : Result T Error) (old new : Vec ItemId)
-        → MatchResult r (λ _. IsReady c.locals f.kind × Puts old new (function_names (function c.locals f))) (IsRefusal (IsUnready c.locals f.kind))
-        → MatchResult r (λ _. IsSound v (Functions, i) × Puts old new (written_in v (Functions, i))) (IsRefusal (IsUnsound v (Functions, i)))
+        → MatchResult r (λ _. IsReady c.locals f.kind × PutsAll old new (Contains (function_names (function c.locals f)))) (IsRefusal (IsUnready c.locals f.kind))
+        → MatchResult r (λ _. IsSound v (Functions, i) × PutsAll old new (Contains (written_in v (Functions, i)))) (IsRefusal (IsUnsound v (Functions, i)))
     function_named r old new h = result_map
-        (IsReady c.locals f.kind × Puts old new (function_names (function c.locals f)))
-        (IsSound v (Functions, i) × Puts old new (written_in v (Functions, i)))
+        (IsReady c.locals f.kind × PutsAll old new (Contains (function_names (function c.locals f))))
+        (IsSound v (Functions, i) × PutsAll old new (Contains (written_in v (Functions, i))))
         (IsUnready c.locals f.kind) (IsUnsound v (Functions, i))
-        (λ x. (sound_ready x.0, subst (λ (o : Option FunctionValue). Puts old new (named_by function_names (option_map (function c.locals) o))) (sym is) x.1))
+        (λ x. (sound_ready x.0, subst (λ (o : Option FunctionValue). PutsAll old new (Contains (named_by function_names (option_map (function c.locals) o)))) (sym is) x.1))
         (unready_unsound f.kind refl)
         r h

@@ -1,6 +1,6 @@
 //! What the items of a module name.
 
-ghost use Rattle.std.specs.Prelude.{◌≡◌, ◌≤◌, ◌<◌, ◌+◌, ◌++◌, [], ℕ, map, Contains, IsSome, IsTrue, None, OnOk, MatchResult};
+ghost use Rattle.std.specs.Prelude.{◌≡◌, ◌≤◌, ◌<◌, ◌+◌, [], ℕ, map, Contains, IsSome, IsTrue, None, OnOk, MatchResult};
 ghost use Rattle.walrus_base.specs.Arena.{IsLive as IsLiveAt};
 ghost use Rattle.walrus_base.specs.Id.{place};
 ghost use Rattle.walrus_base.specs.IdSet.{ids_in};
@@ -116,9 +116,9 @@ fn push_export_names(
     Ok(())
 }
 
-/// Puts all that a live item refers to behind `to`, but the members of a type's group: what is written in it, and then what it keeps
-/// beside that, a function the types of its legacy handlers, a table or a memory the segments in its set. Refused as
-/// [`push_written_names`] is.
+/// Puts just the items that a live item refers to, but the members of a type's group, behind `to`, in any order, each once or more
+/// often: those that are written in it, and those that it keeps beside that, a function the types of its legacy handlers, a table or a
+/// memory the segments in its set. Refused as [`push_written_names`] is.
 pub fn push_item_names(
     alloc: Global,
     parts: Parts<'_>,
@@ -136,8 +136,9 @@ pub fn push_item_names(
     Ok(())
 }
 
-/// Puts what is written in a live item itself behind `to`: of a type all but the members of its group. Refused with `DeadItem`
-/// where it is an uninitialised function, or one that uses a local that isn't there, and with `Memory`.
+/// Puts just the items that are written in a live item itself behind `to`, in any order, each once or more often: of a type all but
+/// the members of its group. Refused with `DeadItem` where it is an uninitialised function, or one that uses a local that isn't there,
+/// and with `Memory`.
 pub fn push_written_names(
     alloc: Global,
     parts: Parts<'_>,
@@ -146,8 +147,8 @@ pub fn push_written_names(
 ) -> Result<()>
     requires { IsLive (parts_view parts) (item_of item) }
     ensures { MatchResult result
-        (λ _. IsSound (parts_view parts.entry) (item_of item) × Puts to.old to.new
-        (own_written (parts_view parts.entry) (item_of item)))
+        (λ _. IsSound (parts_view parts.entry) (item_of item) × PutsAll to.old to.new
+        (Contains (own_written (parts_view parts.entry) (item_of item))))
         (IsRefusal (IsUnsound (parts_view parts.entry) (item_of item))) }
 {
     match item {
@@ -247,7 +248,8 @@ fn push_type_ids(ids: &[TypeId], to: &mut Vec<ItemId>) -> result::Result<(), All
     Ok(())
 }
 
-// The same for a function: its type, and what its body names, or a refusal as of [`push_written_names`].
+// Puts just the type of a function and the items that its body names behind `to`, in any order, each once or more often. Refused as
+// [`push_written_names`] is.
 fn push_function_names(
     alloc: Global,
     locals: &ModuleLocals,
@@ -255,8 +257,8 @@ fn push_function_names(
     to: &mut Vec<ItemId>,
 ) -> Result<()>
     ensures { MatchResult result
-        (λ _. IsReady locals.now function.now.kind × Puts to.old to.new
-        (function_names (function_of locals.now (function_value function.now))))
+        (λ _. IsReady locals.now function.now.kind × PutsAll to.old to.new
+        (Contains (function_names (function_of locals.now (function_value function.now)))))
         (IsRefusal (IsUnready locals.now function.now.kind)) }
 {
     to.push(ItemId::Type(function.ty()))?;
@@ -271,8 +273,8 @@ fn push_kind_names(
     to: &mut Vec<ItemId>,
 ) -> Result<()>
     ensures { MatchResult result
-        (λ _. IsReady locals.now kind.now × Puts to.old to.new
-        (kind_names (kind_of locals.now kind.now)))
+        (λ _. IsReady locals.now kind.now × PutsAll to.old to.new
+        (Contains (kind_names (kind_of locals.now kind.now))))
         (IsRefusal (IsUnready locals.now kind.now)) }
 {
     match kind {
@@ -290,8 +292,8 @@ fn push_body_names(
     to: &mut Vec<ItemId>,
 ) -> Result<()>
     ensures { MatchResult result
-        (λ _. AreThere locals.now (locals_of (body_of function.now)) × Puts to.old to.new
-        (body_names (body locals.now function.now)))
+        (λ _. AreThere locals.now (locals_of (body_of function.now)) × PutsAll to.old to.new
+        (Contains (body_names (body locals.now function.now))))
         (IsRefusal (OneIsMissing locals.now (locals_of (body_of function.now)))) }
 {
     push_operator_names(function, to)?;
@@ -303,7 +305,7 @@ fn push_operator_names(
     function: &LocalFunction,
     to: &mut Vec<ItemId>,
 ) -> result::Result<(), AllocError>
-    ensures { OnOk result (Puts to.old to.new (names_of (body_of function.now))) }
+    ensures { OnOk result (PutsAll to.old to.new (Contains (names_of (body_of function.now)))) }
 {
     match function.text() {
         Some(text) => text.push_names(to),
@@ -311,7 +313,7 @@ fn push_operator_names(
     }
 }
 
-// The same for the operators of a list.
+// Puts what the operators of a list name behind `to`, in order.
 fn push_listed_names(operators: &[Operator], to: &mut Vec<ItemId>) -> result::Result<(), AllocError>
     ensures { OnOk result (Puts to.old to.new (names_of (ops_of operators.now))) }
 {

@@ -1,6 +1,6 @@
 -- What initialisers may read, item by item: from the test to the rule, and from its failing to what lacks an index.
 use Rattle.std.proofs.Common.{inl, inr, ◌≡◌, ℕ, ◌<◌, ◌⊎◌, ◌&&◌, ⊎_elim, Bool, true, false, List, [], ◌∷◌, ◌++◌, map, refl, sym, ap, ◌∙◌, subst, arith, Some, None}
-use Rattle.std.specs.Prelude.{Option, IsSome, Contains, not, nat_lt, option_map, IfOk, Result, Ok, Err}
+use Rattle.std.specs.Prelude.{◌↔◌, Option, IsSome, Contains, not, nat_lt, option_map, IfOk, Result, Ok, Err}
 use Rattle.std.specs.List.{list_all}
 use borrow.Author.Tests.{ltb-true, ltb-false}
 use Rattle.walrus_base.specs.Arena.{item_at}
@@ -9,7 +9,6 @@ use Rattle.walrus_base.specs.ConstOps.{const_ops}
 use Rattle.walrus_base.specs.declared.const_expr.ConstExpr.{ConstExpr}
 use Rattle.walrus_base.specs.declared.const_expr.ConstExpr.TheVariants as expressions
 use Rattle.walrus_base.specs.declared.const_expr.Value.{Value}
-use Rattle.walrus_base.specs.declared.const_expr.Value.TheVariants as constants
 use Rattle.walrus_base.specs.Operators.{Types, Tables, Globals, Item, Op, type_item, names_of}
 use Rattle.walrus_items.specs.Globals.{GlobalValue, globals, global_import, global_init}
 use Rattle.walrus_items.specs.Tables.{TableValue, tables}
@@ -55,6 +54,16 @@ fails_with p xs x at e = by (list_all p xs) refl
     by : (b : Bool) → list_all p xs ≡ b → false ≡ list_all p xs
     by false none = sym none
     by true all = absurd (none_there (sym e ∙ each_passes p xs x all at))
+
+-- whether all pass is the same of the same items in another order
+pub all_same : {X : Type 0} (p : X → Bool) (xs ys : List X) → ((x : X) → Contains xs x ↔ Contains ys x) → list_all p xs ≡ list_all p ys
+all_same {X} p xs ys same = by (list_all p xs) (list_all p ys) refl refl
+  where
+    by : (a b : Bool) → list_all p xs ≡ a → list_all p ys ≡ b → a ≡ b
+    by true true all also = refl
+    by false false none also = refl
+    by true false all some = let f = one_fails p ys some in absurd (none_there (sym f.1.1 ∙ each_passes p xs f.0 all ((same f.0).1 f.1.0)))
+    by false true some all = let f = one_fails p xs some in absurd (none_there (sym f.1.1 ∙ each_passes p ys f.0 all ((same f.0).0 f.1.0)))
 
 -- what names a global is an initialiser
 pub initialiser_reads : (ts : List ℕ) (i : Option (List Op)) (g : ℕ) → Contains (map type_item ts ++ named_by names_of i) (Globals, g) → (ops : List Op) × ((i ≡ Some ops) × Contains (names_of ops) (Globals, g))

@@ -1,9 +1,11 @@
+use Rattle.std.specs.Prelude.{Contains}
 use Rattle.std.proofs.lemmas.Result.{err_from_is_err_and}
 use Rattle.walrus_code.specs.Code.{item_of}
+use Rattle.walrus_model.specs.Refers.{KeepsToo}
+use Rattle.walrus_contents.specs.Named.{own_written}
 use Rattle.walrus_contents.specs.There.{IsSound, IsUnsound}
 use Rattle.walrus_contents.specs.View.{parts_view}
-use Rattle.walrus_contents.proofs.KeptNames.{puts_both}
-use Rattle.walrus_contents.proofs.NamedLemmas.{refusal_map, unsound_not}
+use Rattle.walrus_contents.proofs.NamedLemmas.{puts_both, refusal_map, unsound_not}
 use Rattle.walrus_contents.proofs.names.push_item_names.Goals as goal
 
 pub returns-in_err-push_written_names : goal.returns-in_err-push_written_names
@@ -18,4 +20,4 @@ returns c =
     let v = parts_view c.args.parts in
     let x = item_of c.args.item in
     let put = c.in_ok-push_written_names.ensures in
-    (put.0, puts_both v x c.args.to.now c.push_written_names.new.to c.push_kept_names.new.to put.1 c.in_ok-push_kept_names.ensures)
+    (put.0, puts_both (Contains (own_written v x)) (KeepsToo v x) c.args.to.now c.push_written_names.new.to c.push_kept_names.new.to put.1 c.in_ok-push_kept_names.ensures)
