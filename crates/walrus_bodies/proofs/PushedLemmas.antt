@@ -9,6 +9,7 @@ use Rattle.std.proofs.lemmas.List.{drop-append-le, take-append-le, length-drop}
 use Rattle.std.proofs.lemmas.List.Elements.{All-append}
 use Rattle.wasm_text.specs.Places.{between}
 use Rattle.wasm_text.specs.declared.limits.Limits.{Limits}
+use Rattle.walrus_bodies.specs.LeftOut.{unpacked}
 use Rattle.walrus_bodies.specs.PlainBody.{IsHeld, IsPlainBody, with_locals}
 use Rattle.walrus_bodies.specs.PlainCode.{IsBehind, entry_at, limits_at, bytes_at, marks_at, nowhere}
 use Rattle.walrus_bodies.specs.declared.plain_code.Entry.{Entry}
@@ -60,10 +61,10 @@ body_kept limits bytes marks others e h =
     marks_same : between e.first_mark e.last_mark marks ≡ between e.first_mark e.last_mark (marks ++ others)
     marks_same = sym (between_kept e.first_mark e.last_mark marks others h.marks_forward h.marks_within)
 
-    moved : (e.count ≡ 0) ⊎ IsPlainBody (with_locals limits e.locals) e.left_out here (between e.first_mark e.last_mark marks) e.count
-        → (e.count ≡ 0) ⊎ IsPlainBody (with_locals limits e.locals) e.left_out here (between e.first_mark e.last_mark (marks ++ others)) e.count
+    moved : (e.count ≡ 0) ⊎ IsPlainBody (with_locals limits e.locals) (unpacked e.left_out) here (between e.first_mark e.last_mark marks) e.count
+        → (e.count ≡ 0) ⊎ IsPlainBody (with_locals limits e.locals) (unpacked e.left_out) here (between e.first_mark e.last_mark (marks ++ others)) e.count
     moved (inl none) = inl none
-    moved (inr b) = inr (subst (λ (ms : List ℕ). IsPlainBody (with_locals limits e.locals) e.left_out here ms e.count) marks_same b)
+    moved (inr b) = inr (subst (λ (ms : List ℕ). IsPlainBody (with_locals limits e.locals) (unpacked e.left_out) here ms e.count) marks_same b)
 
 all_kept : (limits : Limits) (bytes marks others : List ℕ) (es : List Entry) → All (IsHeld limits bytes marks) es → All (IsHeld limits bytes (marks ++ others)) es
 all_kept limits bytes marks others es all k d low = body_kept limits bytes marks others (slice_index_or es k d) (all k d low)
@@ -88,7 +89,7 @@ module _ (code : PlainCode) (bytes marks : List ℕ) (count start locals : ℕ) 
   new_held = record {
     marks_forward = let b = behind.first in let e = behind.last in omega (arith, b, e);
     marks_within = let long : length all_marks ≡ length code.marks.items + length marks = length-append code.marks.items marks in let e = behind.last in omega (arith, long, e);
-    body = inr (subst (λ (n : ℕ). IsPlainBody (with_locals code.limits n) entry.left_out (between entry.begin entry.end kept) shown entry.count) (sym behind.locals_are)
+    body = inr (subst (λ (n : ℕ). IsPlainBody (with_locals code.limits n) (unpacked entry.left_out) (between entry.begin entry.end kept) shown entry.count) (sym behind.locals_are)
         (subst (λ (o : LeftOut). IsPlainBody (with_locals code.limits locals) o (between entry.begin entry.end kept) shown entry.count) (sym behind.left_out_is)
         (subst (λ (n : ℕ). IsPlainBody (with_locals code.limits locals) out (between entry.begin entry.end kept) shown n) (sym behind.counted)
         (subst (λ (bs : List ℕ). IsPlainBody (with_locals code.limits locals) out bs shown count) (sym behind.stands)
@@ -102,13 +103,13 @@ module _ (code : PlainCode) (bytes marks : List ℕ) (count start locals : ℕ) 
 -- ---- one of them
 
 module _ (code : PlainCode) (number : ℕ) (some : (entry_at code number).count ≡ 0 → ⊥) where
-  there : (h : IsHeld code.limits code.bytes.value.items code.marks.items (entry_at code number)) → IsPlainBody (limits_at code number) (entry_at code number).left_out (bytes_at code number) (marks_at code number) (entry_at code number).count
+  there : (h : IsHeld code.limits code.bytes.value.items code.marks.items (entry_at code number)) → IsPlainBody (limits_at code number) (unpacked (entry_at code number).left_out) (bytes_at code number) (marks_at code number) (entry_at code number).count
   there h = of_body h.body
     where
-      of_body : ((entry_at code number).count ≡ 0) ⊎ IsPlainBody (limits_at code number) (entry_at code number).left_out (bytes_at code number) (marks_at code number) (entry_at code number).count
-          → IsPlainBody (limits_at code number) (entry_at code number).left_out (bytes_at code number) (marks_at code number) (entry_at code number).count
+      of_body : ((entry_at code number).count ≡ 0) ⊎ IsPlainBody (limits_at code number) (unpacked (entry_at code number).left_out) (bytes_at code number) (marks_at code number) (entry_at code number).count
+          → IsPlainBody (limits_at code number) (unpacked (entry_at code number).left_out) (bytes_at code number) (marks_at code number) (entry_at code number).count
       of_body (inl none) = absurd (some none)
       of_body (inr b) = b
 
-  pub found : ∥ IsPlainBody (limits_at code number) (entry_at code number).left_out (bytes_at code number) (marks_at code number) (entry_at code number).count ∥₁
+  pub found : ∥ IsPlainBody (limits_at code number) (unpacked (entry_at code number).left_out) (bytes_at code number) (marks_at code number) (entry_at code number).count ∥₁
   found = ∥∥₁_elim code.held (hlevel props) (λ all. ∣ there (held_or (IsHeld code.limits code.bytes.value.items code.marks.items) code.entries.items number nowhere all (none_held code.limits code.bytes.value.items code.marks.items)) ∣₁)

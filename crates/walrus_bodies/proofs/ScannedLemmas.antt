@@ -10,7 +10,7 @@ use Rattle.walrus_bodies.specs.Blocks.{blocks_hold}
 use Rattle.walrus_bodies.specs.Texts.{texts_at, places_at}
 use Rattle.walrus_bodies.specs.Placed.{placed_ops}
 use Rattle.walrus_bodies.specs.PlainBody.{IsPlainBody}
-use Rattle.walrus_bodies.specs.Text.{bytes_of, entry_of, texts_of, first_local_of, local_count_of, ops_in, at_place, locations_in}
+use Rattle.walrus_bodies.specs.Text.{bytes_of, entry_of, texts_of, first_local_of, local_count_of, ops_in, start_of, at_place, locations_in}
 use Rattle.walrus_bodies.specs.Scanned.{IsPlace, IsScanned}
 use Rattle.walrus_bodies.specs.declared.plain_code.LeftOut.{LeftOut}
 use Rattle.walrus_bodies.specs.declared.text.Text.{Text}
@@ -19,7 +19,7 @@ use Rattle.walrus_bodies.proofs.HeldLemmas.{whole_so, nested_so, simple_so, name
 use Rattle.walrus_bodies.proofs.PlainLemmas.{nested_moved, texts_allowed}
 use Rattle.walrus_bodies.proofs.LocationLemmas.{stand}
 
-pub is_scanned : (limits : Limits) (out : LeftOut) (first start : ℕ) (bytes marks : List ℕ) (text : Text) → bytes_of text ≡ bytes → text.first_local ≡ first → (entry_of text).locals ≡ limits.locals → (entry_of text).start ≡ start
+pub is_scanned : (limits : Limits) (out : LeftOut) (first start : ℕ) (bytes marks : List ℕ) (text : Text) → bytes_of text ≡ bytes → text.first_local ≡ first → (entry_of text).locals ≡ limits.locals → start_of text ≡ start
     → ∥ IsPlainBody limits out bytes marks (entry_of text).count ∥₁ → IsScanned limits first start bytes text
 unfolding texts_of first_local_of local_count_of locations_in
 is_scanned limits out first start bytes marks text same begins counted starts body =

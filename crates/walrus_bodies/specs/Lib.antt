@@ -22,6 +22,7 @@ pub mod PlainCode
 pub mod Scanned
 pub mod Text
 pub mod Texts
+pub mod LeftOut
 pub mod Shown
 pub use Rattle.walrus_base.specs.Operators
 pub use Rattle.walrus_code.specs.Code

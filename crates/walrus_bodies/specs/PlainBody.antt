@@ -13,6 +13,7 @@ use Rattle.wasm_text.specs.Places.{between}
 use Rattle.wasm_text.specs.Scans.{IsWithin}
 use Rattle.walrus_code.specs.FromRaw.{ops_of}
 use Rattle.walrus_bodies.specs.Blocks.{are_nested}
+use Rattle.walrus_bodies.specs.LeftOut.{unpacked}
 use Rattle.walrus_bodies.specs.Shown.{AreShown, NameLeftOut}
 use Rattle.walrus_bodies.specs.declared.plain_code.Entry.{Entry}
 use Rattle.walrus_bodies.specs.declared.plain_code.LeftOut.{LeftOut}
@@ -41,7 +42,7 @@ with_locals limits locals = record limits { locals = locals }
 pub record IsHeld (limits : Limits) (bytes marks : List ℕ) (entry : Entry) : Type 0 where
   pub marks_forward : entry.first_mark ≤ entry.last_mark
   pub marks_within : entry.last_mark ≤ length marks
-  pub body : (entry.count ≡ 0) ⊎ IsPlainBody (with_locals limits entry.locals) entry.left_out (between entry.begin entry.end bytes) (between entry.first_mark entry.last_mark marks) entry.count
+  pub body : (entry.count ≡ 0) ⊎ IsPlainBody (with_locals limits entry.locals) (unpacked entry.left_out) (between entry.begin entry.end bytes) (between entry.first_mark entry.last_mark marks) entry.count
 
 -- the same of a scanned body, whose marks stand in the room; and what is left out there
 abbrev pub left_out_in : ScanRoom → LeftOut

@@ -1,10 +1,11 @@
 -- The plain bodies of a module, by their numbers.
-use Rattle.std.specs.Prelude.{◌≡◌, ℕ, ◌+◌, false, List, length, slice_index_or}
+use Rattle.std.specs.Prelude.{◌≡◌, ℕ, ◌+◌, List, length, slice_index_or}
 use Rattle.wasm_text.specs.declared.limits.Limits.{Limits}
 use Rattle.wasm_text.specs.Places.{between}
 use Rattle.walrus_bodies.specs.declared.plain_code.Entry.{Entry}
 use Rattle.walrus_bodies.specs.declared.plain_code.LeftOut.{LeftOut}
 use Rattle.walrus_bodies.specs.declared.plain_code.PlainCode.{PlainCode}
+use Rattle.walrus_bodies.specs.LeftOut.{unpacked}
 use Rattle.walrus_bodies.specs.PlainBody.{with_locals}
 
 -- what all of them name is within these, and within what is told of their locals
@@ -17,11 +18,15 @@ fronts_in code = code.fronts
 
 -- where nothing stands
 abbrev pub nowhere : Entry
-nowhere = record { begin = 0; end = 0; first_mark = 0; last_mark = 0; count = 0; start = 0; locals = 0; left_out = record { first = 4294967295; accessed = false } }
+nowhere = record { begin = 0; end = 0; first_mark = 0; last_mark = 0; count = 0; locals = 0; left_out = 4294967294 }
 
 -- what is told of a number
 abbrev pub entry_at : PlainCode → ℕ → Entry
 entry_at code number = slice_index_or code.entries.items number nowhere
+
+-- where the first operator stood in the input
+abbrev pub start_in : PlainCode → Entry → ℕ
+start_in code entry = code.origin + entry.begin
 
 abbrev pub bytes_in : PlainCode → Entry → List ℕ
 bytes_in code entry = between entry.begin entry.end code.bytes.value.items
@@ -47,6 +52,6 @@ pub record IsBehind (code : PlainCode) (bytes marks : List ℕ) (count start loc
   pub first : entry.first_mark ≡ length code.marks.items
   pub last : entry.last_mark ≡ length code.marks.items + length marks
   pub counted : entry.count ≡ count
-  pub starts : entry.start ≡ start
+  pub starts : start_in code entry ≡ start
   pub locals_are : entry.locals ≡ locals
-  pub left_out_is : entry.left_out ≡ out
+  pub left_out_is : unpacked entry.left_out ≡ out

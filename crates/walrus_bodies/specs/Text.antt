@@ -9,7 +9,8 @@ use Rattle.walrus_bodies.specs.Texts.{texts_at, places_at}
 use Rattle.walrus_bodies.specs.declared.plain_code.Entry.{Entry}
 use Rattle.walrus_bodies.specs.declared.plain_code.LeftOut.{LeftOut}
 use Rattle.walrus_bodies.specs.declared.text.Text.{Text}
-use Rattle.walrus_bodies.specs.PlainCode.{bytes_at, entry_at, fronts_in, marks_at}
+use Rattle.walrus_bodies.specs.PlainCode.{bytes_at, entry_at, fronts_in, marks_at, start_in}
+use Rattle.walrus_bodies.specs.LeftOut.{unpacked}
 
 -- what the code tells of it
 abbrev pub entry_of : Text → Entry
@@ -17,7 +18,11 @@ entry_of text = entry_at text.code.value text.number
 
 -- which of its marks are left out
 abbrev pub left_out_of : Text → LeftOut
-left_out_of text = (entry_of text).left_out
+left_out_of text = unpacked (entry_of text).left_out
+
+-- where the first of its operators stood in the input
+abbrev pub start_of : Text → ℕ
+start_of text = start_in text.code.value (entry_of text)
 
 -- the bytes of its operators
 abbrev pub bytes_of : Text → List ℕ
@@ -53,4 +58,4 @@ at_place place = record { value = location_at place }
 
 -- where each of its operators stood in the input
 unfoldable pub locations_in : Text → List InstrLocId
-locations_in text = map at_place (places_at ((entry_of text).start + length (bytes_of text)) (entry_of text).count (bytes_of text))
+locations_in text = map at_place (places_at (start_of text + length (bytes_of text)) (entry_of text).count (bytes_of text))

@@ -66,7 +66,7 @@ impl Text {
         let mut flags = Vec::new(alloc);
         flags.resize(self.local_count() as usize, false)?;
         flag_marks(&mut flags, self.bytes(), self.marks());
-        flag_from(&mut flags, self.entry().left_out.first);
+        flag_from(&mut flags, self.left_out().first);
         Ok(flags)
     }
 }

@@ -101,7 +101,7 @@ impl Text {
     pub fn push_names(&self, to: &mut Vec<ItemId>) -> Result<(), AllocError>
         ensures { OnOk result (PutsThese to.old.items to.new.items (names_of (ops_in self.now))) }
     {
-        push_memory(to, self.entry().left_out.accessed)?;
+        push_memory(to, self.left_out().accessed)?;
         push_items(to, self.bytes(), self.marks())
     }
 }

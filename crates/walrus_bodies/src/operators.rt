@@ -71,7 +71,7 @@ impl Text {
             alloc,
             self.bytes(),
             entry.count as usize,
-            entry.start as usize,
+            self.start(),
             self.first_local,
         )
     }

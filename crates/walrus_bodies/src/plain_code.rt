@@ -1,8 +1,9 @@
 //! The plain bodies of a module, as they stand in the input (Binary Format > Modules > Code Section).
 #![tactic(auto, unfolding(crate::specs::PlainCode::limits_in, crate::specs::Function::name_of, crate::specs::Function::as_text, crate::specs::Function::body_of, crate::specs::Function::locations_of, crate::specs::Function::args_of, crate::specs::Function::handlers_in, crate::specs::Function::listed_in, crate::specs::Function::located_in))]
 
-ghost use Rattle.std.specs.Prelude.{◌≡◌};
+ghost use Rattle.std.specs.Prelude.{◌≡◌, IfSome};
 ghost use Rattle.std.specs.List.{All};
+ghost use Rattle.walrus_bodies.specs.LeftOut.{unpacked};
 ghost use Rattle.walrus_bodies.specs.PlainBody.{IsHeld};
 
 use crate::pieces::{are_same, bytes_between, marks_between};
@@ -31,13 +32,36 @@ pub(crate) struct Entry {
     pub(crate) last_mark: u32,
     // How many operators there are.
     pub(crate) count: u32,
-    // Where the first of them stood in the input.
-    pub(crate) start: u32,
     // How many locals its function has.
     pub(crate) locals: u32,
-    // Which of its marks are left out.
-    pub(crate) left_out: LeftOut,
+    // Which of its marks are left out: twice the first local, and one more if those of accesses are.
+    pub(crate) left_out: u32,
 }
+
+impl LeftOut {
+    // Both as one number; none where that passes 32 bits.
+    fn packed(self) -> Option<u32>
+        ensures { IfSome result (λ number. unpacked number ≡ self) }
+    {
+        self.first.checked_mul(2)?.checked_add(u32::from(self.accessed))
+    }
+}
+
+impl Entry {
+    // Which of its marks are left out.
+    #[inline]
+    pub(crate) fn left_out(self) -> LeftOut
+        ensures { result ≡ unpacked self.left_out }
+    {
+        LeftOut {
+            first: self.left_out / 2,
+            accessed: self.left_out % 2 == 1,
+        }
+    }
+}
+
+// From where on no marks of locals are left out.
+pub(crate) const NO_LOCAL: u32 = (1 << 31) - 1;
 
 // Where nothing stands.
 const NOWHERE: Entry = Entry {
@@ -46,12 +70,8 @@ const NOWHERE: Entry = Entry {
     first_mark: 0,
     last_mark: 0,
     count: 0,
-    start: 0,
     locals: 0,
-    left_out: LeftOut {
-        first: u32::MAX,
-        accessed: false,
-    },
+    left_out: 2 * NO_LOCAL,
 };
 
 /// The plain bodies of a module: bytes of the input, in which their operators stand as they were read, with marks where an argument stands
@@ -59,8 +79,8 @@ const NOWHERE: Entry = Entry {
 #[derive(Drop)]
 pub struct PlainCode {
     pub(crate) bytes: Rc<Vec<u8>>,
-    // Where the first of these stood in the input.
-    pub(crate) origin: usize,
+    // Where the first of these stood in the input, or the last place of 32 bits.
+    pub(crate) origin: u32,
     // How many of these are operators of plain bodies, as far as that can be counted.
     pub(crate) operator_bytes: usize,
     pub(crate) marks: Vec<u32>,
@@ -81,9 +101,9 @@ fn with_locals(limits: Limits, locals: u32) -> Limits
 }
 
 impl PlainCode {
-    ghost use Rattle.std.specs.Prelude.{IfOk, IfSome, ◌+◌, length};
+    ghost use Rattle.std.specs.Prelude.{IfOk, ◌+◌, length};
     ghost use Rattle.walrus_bodies.specs.PlainBody.{IsPlainBody, with_locals};
-    ghost use Rattle.walrus_bodies.specs.PlainCode.{IsBehind, bytes_in, entry_at, fronts_in, limits_in, marks_in};
+    ghost use Rattle.walrus_bodies.specs.PlainCode.{IsBehind, bytes_in, entry_at, fronts_in, limits_in, marks_in, start_in};
 
     /// No bodies yet, and room for so many, whose operators stand among these bytes, of which the first stands at the place `origin` of the
     /// input. What they name is to be within the limits; of locals and blocks there is none.
@@ -102,7 +122,7 @@ impl PlainCode {
     {
         Ok(PlainCode {
             bytes,
-            origin,
+            origin: u32::try_from(origin).unwrap_or(u32::MAX),
             operator_bytes: 0,
             marks: Vec::new(alloc),
             entries: Vec::with_capacity(alloc, bodies)?,
@@ -130,6 +150,14 @@ impl PlainCode {
             Some(entry) => *entry,
             None => NOWHERE,
         }
+    }
+
+    // Where the first of a body's operators stood in the input.
+    #[inline]
+    pub(crate) fn start(&self, entry: Entry) -> usize
+        ensures { result ≡ start_in self.now entry }
+    {
+        self.origin as usize + entry.begin as usize
     }
 
     // The bytes of a body's operators.
@@ -170,7 +198,7 @@ impl PlainCode {
         ensures { IfSome result (λ entry.
             IsBehind self.now operators.now marks.now count start locals left_out entry) }
     {
-        let begin = u32::try_from(start.checked_sub(self.origin)?).ok()?;
+        let begin = u32::try_from(start.checked_sub(self.origin as usize)?).ok()?;
         let end = begin.checked_add(u32::try_from(operators.len()).ok()?)?;
         let held = bytes_between(self.bytes.as_ref(), begin as usize, end as usize);
         if !are_same(held, operators) {
@@ -183,9 +211,8 @@ impl PlainCode {
             first_mark,
             last_mark: first_mark.checked_add(u32::try_from(marks.len()).ok()?)?,
             count: u32::try_from(count).ok()?,
-            start: u32::try_from(start).ok()?,
             locals,
-            left_out,
+            left_out: left_out.packed()?,
         })
     }
 

@@ -5,6 +5,7 @@ ghost use Rattle.std.specs.Prelude.{◌≡◌, ◌≤◌, ◌<◌, ℕ, true, If
 ghost use Rattle.wasm_text.specs.Bodies.{IsBody};
 ghost use Rattle.walrus_bodies.specs.PlainBody.{IsScannedBody};
 
+use crate::plain_code::NO_LOCAL;
 use std::alloc::{AllocError, Global};
 use wasm_text::{Limits, Unmarked};
 
@@ -32,7 +33,7 @@ impl ScanRoom {
             marks: Vec::new(alloc),
             opened: Vec::new(alloc),
             unmarked: Unmarked {
-                first: u32::MAX,
+                first: NO_LOCAL,
                 named: Vec::new(alloc),
                 accessed: false,
             },
@@ -44,9 +45,9 @@ impl ScanRoom {
     fn first_tried(&mut self, ranked: Option<u32>) -> u32 {
         if self.waits > 0 {
             self.waits -= 1;
-            return u32::MAX;
+            return NO_LOCAL;
         }
-        ranked.unwrap_or(u32::MAX)
+        ranked.unwrap_or(NO_LOCAL)
     }
 
     // Whether a local is flagged.
@@ -93,11 +94,6 @@ impl ScanRoom {
     }
 }
 
-// That no local of so many has the index 2^32 - 1. Nothing runs.
-fn none_is_last(locals: u32)
-    ensures { locals ≤ 4294967295 }
-{}
-
 // How many operators the bytes are, if they are a plain body that names only what is within the limits. Those of its marks stand in the room then that
 // are needed: marks of locals are left out where each of these from `ranked` on is named.
 pub(crate) fn scan_body(
@@ -116,6 +112,8 @@ pub(crate) fn scan_body(
         return Ok(Some(count));
     }
     room.waits = MOST_WAITS;
-    none_is_last(limits.locals);
-    room.scan_from(u32::MAX, bytes, limits)
+    if limits.locals > NO_LOCAL {
+        return Ok(None);
+    }
+    room.scan_from(NO_LOCAL, bytes, limits)
 }

@@ -2,11 +2,12 @@
 #![tactic(auto, unfolding(crate::specs::PlainCode::limits_in, crate::specs::Function::name_of, crate::specs::Function::as_text, crate::specs::Function::body_of, crate::specs::Function::locations_of, crate::specs::Function::args_of, crate::specs::Function::handlers_in, crate::specs::Function::listed_in, crate::specs::Function::located_in))]
 
 ghost use Rattle.std.specs.Prelude.{◌≡◌};
+ghost use Rattle.walrus_bodies.specs.LeftOut.{unpacked};
 ghost use Rattle.walrus_bodies.specs.PlainBody.{IsPlainBody};
 ghost use Rattle.walrus_bodies.specs.PlainCode.{bytes_at, entry_at, limits_at, marks_at};
 
 use crate::pieces::are_same;
-use crate::plain_code::{Entry, PlainCode};
+use crate::plain_code::{Entry, LeftOut, PlainCode};
 use std::alloc::AllocError;
 use std::rc::Rc;
 
@@ -21,7 +22,7 @@ pub struct Text {
     // The place of the function's first local.
     pub(crate) first_local: u32,
     ghost body: { ∥ IsPlainBody (limits_at code.value number)
-        (entry_at code.value number).left_out (bytes_at code.value number) (marks_at code.value number) (entry_at code.value number).count ∥₁ },
+        (unpacked (entry_at code.value number).left_out) (bytes_at code.value number) (marks_at code.value number) (entry_at code.value number).count ∥₁ },
 }
 
 impl Text {
@@ -29,7 +30,7 @@ impl Text {
     ghost use Rattle.walrus_bodies.specs.PlainBody.{with_locals};
     ghost use Rattle.walrus_bodies.specs.PlainCode.{limits_in};
     ghost use Rattle.walrus_bodies.specs.Scanned.{IsScanned};
-    ghost use Rattle.walrus_bodies.specs.Text.{bytes_of, entry_of, marks_of};
+    ghost use Rattle.walrus_bodies.specs.Text.{bytes_of, entry_of, left_out_of, marks_of, start_of};
 
     // What is told of it.
     #[inline]
@@ -37,6 +38,22 @@ impl Text {
         ensures { result ≡ entry_of self.now }
     {
         self.code.as_ref().entry(self.number)
+    }
+
+    // Which of its marks are left out.
+    #[inline]
+    pub(crate) fn left_out(&self) -> LeftOut
+        ensures { result ≡ left_out_of self.now }
+    {
+        self.entry().left_out()
+    }
+
+    // Where the first of its operators stood in the input.
+    pub(crate) fn start(&self) -> usize
+        ensures { result ≡ start_of self.now }
+    {
+        let code = self.code.as_ref();
+        code.start(code.entry(self.number))
     }
 
     // The bytes of its operators.
@@ -76,7 +93,7 @@ impl Text {
     {
         let shared = code.as_ref();
         let entry = shared.entry(number);
-        if entry.count == 0 || entry.locals != locals || entry.start as usize != start {
+        if entry.count == 0 || entry.locals != locals || shared.start(entry) != start {
             return Ok(None);
         }
         if !are_same(shared.bytes_of(entry), operators) {

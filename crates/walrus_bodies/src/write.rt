@@ -163,7 +163,7 @@ impl Text {
     {
         let alloc = *to.allocator();
         let table = new_numbers(alloc, locals, self.first_local, self.local_count())?;
-        if !self.memory_stays(indices) || !are_kept(&table, self.entry().left_out.first) {
+        if !self.memory_stays(indices) || !are_kept(&table, self.left_out().first) {
             return self.append_listed(alloc, to, indices, locals);
         }
         let numbers = BodyNumbers {
@@ -201,7 +201,7 @@ impl Text {
     fn memory_stays(&self, indices: &IdsToIndices) -> bool
         ensures { IsTrue result → (left_out_of self.now).accessed ≡ true → index_of indices.now Memories 0 ≡ Some 0 }
     {
-        !self.entry().left_out.accessed || indices.get_memory_index(Id::at(0)) == Some(0)
+        !self.left_out().accessed || indices.get_memory_index(Id::at(0)) == Some(0)
     }
 
     // Appends its operators one by one, whatever the proposals are.

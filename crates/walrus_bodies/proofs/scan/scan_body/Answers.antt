@@ -8,4 +8,4 @@ returns-then-are_named c = plain_body c.args.limits.now c.scan_from.new.self c.a
 pub returns : goal.returns
 returns c =
     plain_answer c.args.limits.now c.scan_from-2.new.self c.args.bytes.now c.scan_from-2.result c.scan_from-2.ensures.body
-    (λ n low high. absurd (omega (arith, low, high, c.scan_from-2.ensures.first, c.none_is_last.ensures)))
+    (λ n low high. absurd (omega (arith, low, high, c.scan_from-2.ensures.first, c.if-limits-gt-NO_LOCAL.false)))

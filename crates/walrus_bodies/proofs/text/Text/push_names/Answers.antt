@@ -3,7 +3,7 @@ use Rattle.std.proofs.lemmas.Result.{on_ok_weaker}
 use Rattle.wasm_text.specs.Marks.{args_at}
 use Rattle.walrus_code.specs.Code.{item_of}
 use Rattle.walrus_bodies.specs.Names.{items_named, memory_if}
-use Rattle.walrus_bodies.specs.declared.plain_code.Entry.{Entry}
+use Rattle.walrus_bodies.specs.declared.plain_code.LeftOut.{LeftOut}
 use Rattle.walrus_bodies.proofs.OrderLemmas.{in_order}
 use Rattle.walrus_bodies.proofs.NamesShown.{names_shown}
 use Rattle.walrus_bodies.proofs.text.Text.push_names.Goals as goal
@@ -14,7 +14,7 @@ push_items-requires c = rw (c.bytes.ensures, c.marks.ensures) (in_order c.args.s
 pub returns : goal.returns
 returns c =
     let same = ap₂ (λ b m. flat_map items_named (args_at b m)) c.bytes.ensures c.marks.ensures in
-    let first = c.in_ok-push_memory.ensures ∙ ap (λ (e : Entry). map item_of c.args.to.now.items ++ memory_if e.left_out.accessed) c.entry.ensures in
+    let first = c.in_ok-push_memory.ensures ∙ ap (λ (o : LeftOut). map item_of c.args.to.now.items ++ memory_if o.accessed) c.left_out.ensures in
     on_ok_weaker c.push_items.result
     (λ put. names_shown c.args.self.now c.args.to.now.items c.push_memory.new.to.items c.push_items.new.to.items first (put ∙ ap (λ x. map item_of c.push_memory.new.to.items ++ x) same))
     c.push_items.ensures

@@ -1,6 +1,6 @@
 use Rattle.std.proofs.Common.{ℕ, false, ap, ◌∙◌, length, replicate}
 use Rattle.std.proofs.lemmas.List.{length-replicate}
-use Rattle.walrus_bodies.specs.declared.plain_code.Entry.{Entry}
+use Rattle.walrus_bodies.specs.declared.plain_code.LeftOut.{LeftOut}
 use Rattle.walrus_bodies.proofs.OrderLemmas.{in_order}
 use Rattle.walrus_bodies.proofs.FlagLemmas.{used_shown, count_is, all_off}
 use Rattle.walrus_bodies.proofs.text.Text.used_locals.Goals as goal
@@ -15,7 +15,7 @@ returns-clause-flags c =
     let counted = ap (λ (n : ℕ). replicate n false) (c.local_count.ensures ∙ count_is t) in
     let marked = rw (c.bytes.ensures, c.marks.ensures) at c.flag_marks.ensures.flagged in
     used_shown t c.resize.new.self.items c.flag_marks.new.flags.items c.flag_from.new.flags.items (off ∙ counted) marked c.flag_marks.ensures.as_many
-    (rw (ap (λ (e : Entry). e.left_out.first) c.entry.ensures) at c.flag_from.ensures.flagged)
+    (rw (ap (λ (o : LeftOut). o.first) c.left_out.ensures) at c.flag_from.ensures.flagged)
 
 pub returns-clause-as_many : goal.returns-clause-as_many
 returns-clause-as_many c =
