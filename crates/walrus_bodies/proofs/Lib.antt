@@ -28,4 +28,5 @@ mod ScannedLemmas
 mod Scanning
 mod StandLemmas
 mod TextLemmas
+mod UnmarkedLemmas
 mod WrittenLemmas
