@@ -30,4 +30,5 @@ mod ScannedLemmas
 mod Scanning
 mod StandLemmas
 mod TextLemmas
+mod UnmarkedLemmas
 mod WrittenLemmas

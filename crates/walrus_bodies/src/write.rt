@@ -126,10 +126,13 @@ fn bytes_are_held(bytes: &[u8])
     ensures { AreBytes bytes.now }
 {}
 
-// Appends the operators of a text with these numbers, each argument in its one spelling.
+// Appends the operators of a text with these numbers, each argument in its one spelling. What stands without a mark has to keep its number.
 fn append_numbered<N: Numbers>(text: &Text, to: &mut Vec<u8>, numbers: &N) -> Result<(), IrError>
     ensures { (names : Lookup) (given locals : ℕ → Option ℕ) (features : Proposals)
         → N.number numbers.now ≡ numbering names given (first_local_of text.now)
+        → ((n : ℕ) → (left_out_of text.now).first ≤ n → n < local_count_of text.now
+        → given (first_local_of text.now + n) ≡ Some n)
+        → ((left_out_of text.now).accessed ≡ true → names Memories 0 ≡ Some 0)
         → ((i : ℕ) → i < local_count_of text.now
         → given (first_local_of text.now + i) ≡ locals (first_local_of text.now + i))
         → (places : List ℕ) × EmitsOperators names locals features (ops_in text.now) to.old.items
@@ -227,13 +230,24 @@ impl Text {
     }
 }
 
+// Whether this is the number of an index, which it keeps.
+#[inline]
+fn is_kept(number: Option<u32>, index: usize) -> bool
+    ensures { IsTrue result → number ≡ Some index }
+{
+    match number {
+        Some(number) => number as usize == index,
+        None => false,
+    }
+}
+
 // Whether each local from one on keeps its index.
 fn are_kept(table: &[Option<u32>], first: u32) -> bool
     ensures { IsTrue result → (n : ℕ) → first ≤ n → n < length table.now
         → slice_index_or table.now n None ≡ Some n }
 {
     'table: for index in first as usize..table.len() {
-        if table[index] != Some(index as u32) {
+        if !is_kept(table[index], index) {
             return false;
         }
     }

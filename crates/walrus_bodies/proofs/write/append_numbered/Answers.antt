@@ -15,7 +15,7 @@ append_filled-requires g c = rw (c.bytes-bytes.ensures, c.marks-marks.ensures) (
 
 pub returns-then-branch : goal.returns-then-branch
 unfolding first_local_of
-returns-then-branch g c names given locals features same agree =
+returns-then-branch g c names given locals features same kept memory_kept agree =
     let t = c.args.text.now in
     let full = numbering names given t.first_local in
     let bytes : AreBytes (bytes_of t) = subst AreBytes c.bytes-bytes.ensures c.bytes_are_held.ensures in
@@ -23,11 +23,11 @@ returns-then-branch g c names given locals features same agree =
     let h = subst (λ (n : Numbering). Fills {E = Unit {0}} n c.bytes-bytes.result.now c.marks-marks.result.now c.args.to.now.items c.append_filled.new.to.items (Ok true)) same f in
     let each = rw (c.bytes-bytes.ensures, c.marks-marks.ensures) at h.0 in
     let filled = rw (c.bytes-bytes.ensures, c.marks-marks.ensures) at h.1 in
-    (places_from (length c.args.to.now.items) (map (with (anew full)) (texts_of t)), written_as_well t names given locals agree features c.args.to.now.items c.append_filled.new.to.items _ (written t names given features c.args.to.now.items c.append_filled.new.to.items bytes each filled))
+    (places_from (length c.args.to.now.items) (map (with (anew full)) (texts_of t)), written_as_well t names given locals agree features c.args.to.now.items c.append_filled.new.to.items _ (written t names given features c.args.to.now.items c.append_filled.new.to.items (record { locals_kept = kept; memory_kept = memory_kept }) bytes each filled))
 
 pub returns-else-branch : goal.returns-else-branch
 unfolding first_local_of
-returns-else-branch g c names given locals features same agree =
+returns-else-branch g c names given locals features same kept memory_kept agree =
     let t = c.args.text.now in
     let f = subst (λ (b : Bool). Fills {E = Unit {0}} (g.N.Numbers.number c.args.numbers.now) c.bytes-bytes.result.now c.marks-marks.result.now c.args.to.now.items c.append_filled.new.to.items (Ok b)) c.if-branch.false c.in_ok-append_filled.ensures.fills in
     let h = subst (λ (n : Numbering). Fills {E = Unit {0}} n c.bytes-bytes.result.now c.marks-marks.result.now c.args.to.now.items c.append_filled.new.to.items (Ok false)) same f in
