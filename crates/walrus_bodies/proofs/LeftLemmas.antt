@@ -1,5 +1,5 @@
 -- What marks show of which some are left out.
-use Rattle.std.proofs.Common.{◌≡◌, ℕ, ◌+◌, ◌-◌, ◌≤◌, Bool, true, false, List, [], ◌∷◌, ◌++◌, length, drop, Some, refl, sym, ap, ap₂, subst, ◌∙◌, arith, inl, inr}
+use Rattle.std.proofs.Common.{◌≡◌, ℕ, ◌≤◌, Bool, true, false, List, [], ◌∷◌, ◌++◌, length, drop, refl, sym, ap, ap₂, subst, ◌∙◌, arith, inl, inr}
 use Rattle.std.specs.Prelude.{filter, map, ◌&&◌, ◌||◌, not, if◌then◌else◌}
 use Rattle.std.specs.List.{list_any}
 use Rattle.std.proofs.lemmas.List.{length-drop}
@@ -11,8 +11,8 @@ use Rattle.wasm_text.specs.RawArg.TheVariants as args
 use Rattle.wasm_text.specs.Operators.{Op}
 use Rattle.wasm_text.specs.Spelling.{arg_bytes, op_bytes}
 use Rattle.wasm_text.specs.Places.{between, Stands}
-use Rattle.wasm_text.specs.Marks.{AreInOrder, Leaves, Shows, all_args, arg_names, args_at, argument, fill, form_of, found, kind_of, naming, place_of, with}
-use Rattle.wasm_text.specs.Unmarked.{AreLeft, IsUnneeded, needs_none}
+use Rattle.wasm_text.specs.Marks.{AreInOrder, Shows, all_args, arg_names, args_at, argument, fill, form_of, kind_of, place_of, with}
+use Rattle.wasm_text.specs.Unmarked.{AreLeft, needs_none}
 use Rattle.wasm_text.proofs.Between.{join}
 use Rattle.wasm_text.proofs.Filling.{fill_next, fill_run, found_is}
 use Rattle.walrus_bodies.specs.Shown.{AreShown, StaysUnmarked, needs_mark}

@@ -4,7 +4,7 @@ use Rattle.std.proofs.lemmas.List.FromFn.{get_or-map-range_with_len, length-map-
 use Rattle.walrus_code.specs.Indices.{index_of, local_index}
 use Rattle.walrus_bodies.specs.Numbers.{table_index}
 use Rattle.walrus_bodies.specs.Text.{entry_of, first_local_of, local_count_of}
-use Rattle.walrus_bodies.specs.declared.plain_code.Entry.{Entry}
+use Rattle.walrus_bodies.specs.declared.plain_code.LeftOut.{LeftOut}
 use Rattle.walrus_bodies.proofs.text.Text.append.Goals as goal
 
 pub returns : goal.returns
@@ -24,7 +24,7 @@ returns c features =
     c.append_numbered.ensures (index_of c.args.indices.now) (table_index t.first_local table) number features refl
     (λ n from low.
     let low_so : n < length c.deref.result.now = omega (arith, low, long) in
-    let from_so : c.entry.result.left_out.first ≤ n = subst (λ (e : Entry). e.left_out.first ≤ n) (sym c.entry.ensures) from in
+    let from_so : c.left_out.result.first ≤ n = subst (λ (o : LeftOut). o.first ≤ n) (sym c.left_out.ensures) from in
     at_place n ∙ sym (ap (λ (xs : List (Option ℕ)). get_or xs n None) same) ∙ c.are_kept.ensures c.if-not-are_kept.false n from_so low_so)
     (λ accessed. c.memory_stays.ensures c.if-not-memory_stays.false accessed)
     (λ i low. at_place i ∙ ap (λ (xs : List (Option ℕ)). get_or xs i None) is ∙ get_or-map-range_with_len number t.first_local count i (t.first_local + i) None low refl)

@@ -11,4 +11,4 @@ returns-clause-body c = rw (c.entry-entry.ensures, c.bytes.ensures) at c.list_op
 
 pub returns-clause-locations : goal.returns-clause-locations
 unfolding locations_in
-returns-clause-locations c = rw (c.entry-entry.ensures, c.bytes.ensures) at c.list_operators.ensures.locations
+returns-clause-locations c = rw (c.entry-entry.ensures, c.bytes.ensures, c.start.ensures) at c.list_operators.ensures.locations
