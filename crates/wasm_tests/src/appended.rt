@@ -2,7 +2,7 @@
 
 ghost use Rattle.std.specs.Prelude.{Some, None, nat_lt, ◌+◌, if◌then◌else◌};
 
-use crate::scans::LIMITS;
+use crate::scans::{LIMITS, unmarked_from};
 use std::alloc::{AllocError, Global};
 use std::test::Fail;
 use test_support::{bytes_of, demand_bytes};
@@ -16,7 +16,7 @@ const ROWS: [(&str, &str); 9] = [
     ("21 E3 00 0B", "21 6D 0B"),
     ("11 02 00 0B", "11 0C 0A 0B"),
     ("41 C0 BB F8 7F 0B", "41 C0 BB 78 0B"),
-    ("36 02 E5 8E 26 0B", "36 42 0A E5 8E 26 0B"),
+    ("36 02 E5 8E A6 00 0B", "36 42 0A E5 8E 26 0B"),
     ("03 03 0B 0B", "03 0D 0B 0B"),
     (
         "02 40 0E 02 00 81 00 00 0B 0B",
@@ -43,7 +43,8 @@ fn rewritten(alloc: Global, bytes: &[u8]) -> Result<Vec<u8>, AllocError> {
     let mut marks = Vec::new(alloc);
     let mut to = Vec::new(alloc);
     let mut opened = Vec::new(alloc);
-    if let Some(_count) = scan_body(bytes, &LIMITS, &mut opened, &mut marks)? {
+    let mut unmarked = unmarked_from(alloc, u32::MAX);
+    if let Some(_count) = scan_body(bytes, &LIMITS, &mut opened, &mut unmarked, &mut marks)? {
         let _all = append_filled(&mut to, bytes, marks.as_slice(), &TenMore {})?;
     }
     Ok(to)

@@ -3,10 +3,10 @@
 use std::alloc::Global;
 use std::test::Fail;
 use test_support::{add_bytes, demand};
-use wasm_text::{Limits, scan_body};
+use wasm_text::{Limits, Unmarked, scan_body};
 
-/// Operators, and their marks: sixteen times the offset, where `nop` stands at 0, and the kind.
-const ROWS: [(&str, &str); 39] = [
+/// Operators, and their marks, where each local has one: sixteen times the offset, where `nop` stands at 0, and the kind.
+const ROWS: [(&str, &str); 41] = [
     ("00", ""),
     ("6A", ""),
     ("04 40 05 0B", ""),
@@ -21,8 +21,10 @@ const ROWS: [(&str, &str); 39] = [
     ("25 01", "24"),
     ("11 02 00", "23 34"),
     ("11 82 80 80 80 00 80 00", "23 74"),
-    ("28 02 08", "26"),
-    ("36 02 E5 8E 26", "26"),
+    ("28 02 08", ""),
+    ("36 02 E5 8E 26", ""),
+    ("28 82 00 08", "26"),
+    ("36 02 E5 8E A6 00", "26"),
     ("3F 00", "25"),
     ("40 00", "25"),
     ("41 7F", ""),
@@ -46,6 +48,14 @@ const ROWS: [(&str, &str); 39] = [
     ("FC 0B 00", "35"),
     ("FC 00", ""),
     ("FC 10 01", "34"),
+];
+
+/// The same where locals from the second on have marks only where they are padded.
+const FEWER: [(&str, &str); 4] = [
+    ("20 00", "20"),
+    ("20 01", ""),
+    ("21 C8 01", ""),
+    ("21 C8 81 00", "20"),
 ];
 
 /// What isn't scanned: `ref.func`, segments, legacy exceptions, tags and wide arithmetic; an index past its count; a memory behind the
@@ -100,10 +110,20 @@ fn are_marks(alloc: Global, marks: &[u32], wanted: &str) -> bool {
     true
 }
 
-fn has_marks(alloc: Global, bytes: &[u8], wanted: &str) -> bool {
+/// Where locals from `first` on need no marks.
+pub(crate) fn unmarked_from(alloc: Global, first: u32) -> Unmarked {
+    Unmarked {
+        first,
+        named: Vec::new(alloc),
+        accessed: false,
+    }
+}
+
+fn has_marks(alloc: Global, first: u32, bytes: &[u8], wanted: &str) -> bool {
     let mut opened = Vec::new(alloc);
+    let mut unmarked = unmarked_from(alloc, first);
     let mut marks = Vec::new(alloc);
-    match scan_body(bytes, &LIMITS, &mut opened, &mut marks) {
+    match scan_body(bytes, &LIMITS, &mut opened, &mut unmarked, &mut marks) {
         Ok(Some(_count)) => are_marks(alloc, &marks, wanted),
         _ => false,
     }
@@ -111,20 +131,46 @@ fn has_marks(alloc: Global, bytes: &[u8], wanted: &str) -> bool {
 
 fn is_other(alloc: Global, bytes: &[u8]) -> bool {
     let mut opened = Vec::new(alloc);
+    let mut unmarked = unmarked_from(alloc, 0);
     let mut marks = Vec::new(alloc);
-    match scan_body(bytes, &LIMITS, &mut opened, &mut marks) {
+    match scan_body(bytes, &LIMITS, &mut opened, &mut unmarked, &mut marks) {
         Ok(found) => found.is_none(),
         Err(_) => false,
     }
+}
+
+// Whether a scan that leaves marks of locals from `first` on out flags just local 200, and memory 0 as wanted.
+fn flags_one(alloc: Global, first: u32, bytes: &[u8], accesses: bool) -> bool {
+    let mut opened = Vec::new(alloc);
+    let mut unmarked = unmarked_from(alloc, first);
+    let mut marks = Vec::new(alloc);
+    match scan_body(bytes, &LIMITS, &mut opened, &mut unmarked, &mut marks) {
+        Ok(Some(_count)) => is_flagged_alone(&unmarked.named, 200) && unmarked.accessed == accesses,
+        _ => false,
+    }
+}
+
+fn is_flagged_alone(flags: &[bool], wanted: usize) -> bool {
+    for place in 0..flags.len() {
+        if flags[place] != (place == wanted) {
+            return false;
+        }
+    }
+    wanted < flags.len()
 }
 
 fn add_body(bytes: &mut Vec<u8>, text: &str) -> bool {
     add_bytes(bytes, "01") && add_bytes(bytes, text) && add_bytes(bytes, "0B")
 }
 
-fn is_row(alloc: Global, text: &str, wanted: &str) -> bool {
+fn is_row(alloc: Global, first: u32, text: &str, wanted: &str) -> bool {
     let mut bytes = Vec::new(alloc);
-    add_body(&mut bytes, text) && has_marks(alloc, &bytes, wanted)
+    add_body(&mut bytes, text) && has_marks(alloc, first, &bytes, wanted)
+}
+
+fn tells(alloc: Global, first: u32, text: &str, accesses: bool) -> bool {
+    let mut bytes = Vec::new(alloc);
+    add_body(&mut bytes, text) && flags_one(alloc, first, &bytes, accesses)
 }
 
 fn is_refused(alloc: Global, text: &str) -> bool {
@@ -135,9 +181,24 @@ fn is_refused(alloc: Global, text: &str) -> bool {
 #[test]
 fn plain_operators(rt: HostRuntime) -> Result<(), Fail> {
     for (text, marks) in &ROWS {
-        demand(is_row(rt.alloc(), text, marks), text)?;
+        demand(is_row(rt.alloc(), u32::MAX, text, marks), text)?;
+    }
+    for (text, marks) in &FEWER {
+        demand(is_row(rt.alloc(), 1, text, marks), text)?;
     }
     Ok(())
+}
+
+#[test]
+fn flags_of_what_has_no_mark(rt: HostRuntime) -> Result<(), Fail> {
+    demand(
+        tells(rt.alloc(), 1, "20 00 1A 20 C8 01 1A", false),
+        "a local",
+    )?;
+    demand(
+        tells(rt.alloc(), 200, "20 01 28 02 08 21 C8 01", true),
+        "and memory 0",
+    )
 }
 
 #[test]

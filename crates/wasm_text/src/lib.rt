@@ -1,5 +1,6 @@
 //! Operators as they stand in bytes (Binary Format > Instructions).
 //! Marks show where an argument names something or isn't in its one shortest spelling.
+//! A scan leaves out those of locals and of accesses to memory 0 that are copied as they stand, and flags what these name (`specs/Unmarked.antt`).
 //!
 //! Read first: `specs/Marks.antt` (marks, and bytes with other arguments in their place) and `src/append.rt` (appending bytes with new numbers).
 //! Main clause: `append_filled` of `src/append.rt` promises `Fills`: true says that each argument at a mark has a new number.

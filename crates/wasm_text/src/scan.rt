@@ -498,8 +498,8 @@ fn close(opened: &mut Vec<bool>, at: usize) -> usize
     }
 }
 
-// The place behind the plain operator that begins at `at`, in the blocks that are open, if it isn't the `end` of the function. Its marks are put behind
-// the others. The limits hold how many blocks are open, then and now.
+// The place behind the plain operator that begins at `at`, in the blocks that are open, if it isn't the `end` of the function. Those of its marks that are
+// needed are put behind the others. The limits hold how many blocks are open, then and now.
 #[inline]
 fn scan_operator(
     bytes: &[u8],
@@ -557,8 +557,8 @@ fn past_last_end(bytes: &[u8], at: usize) -> usize
     }
 }
 
-// How many operators the bytes are, if they are a plain body that names only what is within the limits. Then its marks stand in `marks`. The function
-// itself is open, and there are no marks yet.
+// How many operators the bytes are, if they are a plain body that names only what is within the limits. Then those of its marks that are needed stand
+// in `marks`. The function itself is open, there are no marks yet, and nothing is flagged.
 #[inline(never)]
 fn scan_operators(
     bytes: &[u8],
@@ -571,7 +571,8 @@ fn scan_operators(
     requires none { marks.old.items ≡ [] }
     requires alone { opened.old.items ≡ false ∷ [] }
     requires unnamed { AreNamed unmarked.old [] }
-    ensures body { IfOk result (λ found. IfSome found (IsBody limits.now unmarked.new bytes.now marks.new.items)) }
+    ensures body { IfOk result (λ found. IfSome found
+        (IsBody limits.now unmarked.new bytes.now marks.new.items)) }
     ensures first { unmarked.new.first ≡ unmarked.old.first }
 {
     let mut here = *limits;
@@ -627,7 +628,8 @@ pub fn scan_body(
     unmarked: &mut Unmarked,
     marks: &mut Vec<u32>,
 ) -> Result<Option<usize>, AllocError>
-    ensures body { IfOk result (λ found. IfSome found (IsBody limits.now unmarked.new bytes.now marks.new.items)) }
+    ensures body { IfOk result (λ found. IfSome found
+        (IsBody limits.now unmarked.new bytes.now marks.new.items)) }
     ensures first { unmarked.new.first ≡ unmarked.old.first }
 {
     if bytes.len() >= 1 << 28 {
