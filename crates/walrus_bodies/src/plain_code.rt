@@ -75,7 +75,8 @@ const NOWHERE: Entry = Entry {
 };
 
 /// The plain bodies of a module: bytes of the input, in which their operators stand as they were read, with marks where an argument stands
-/// that names something or isn't in its one spelling. What they name is within the limits.
+/// that names something or isn't in its one spelling. Marks are left out of locals that keep their indices, and of accesses to memory 0, where
+/// these stand in their one spelling. What the bodies name is within the limits.
 #[derive(Drop)]
 pub struct PlainCode {
     pub(crate) bytes: Rc<Vec<u8>>,

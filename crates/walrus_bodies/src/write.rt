@@ -202,7 +202,8 @@ impl Text {
 
     // Whether it accesses memory 0 nowhere without a mark, or that keeps its index.
     fn memory_stays(&self, indices: &IdsToIndices) -> bool
-        ensures { IsTrue result → (left_out_of self.now).accessed ≡ true → index_of indices.now Memories 0 ≡ Some 0 }
+        ensures { IsTrue result → (left_out_of self.now).accessed ≡ true
+            → index_of indices.now Memories 0 ≡ Some 0 }
     {
         !self.left_out().accessed || indices.get_memory_index(Id::at(0)) == Some(0)
     }

@@ -12,6 +12,8 @@ mod checked;
 #[cfg(test)]
 mod counted;
 #[cfg(test)]
+mod crossed;
+#[cfg(test)]
 mod exchanged;
 #[cfg(test)]
 mod hooks;
