@@ -43,7 +43,9 @@ impl LeftOut {
     fn packed(self) -> Option<u32>
         ensures { IfSome result (λ number. unpacked number ≡ self) }
     {
-        self.first.checked_mul(2)?.checked_add(u32::from(self.accessed))
+        self.first
+            .checked_mul(2)?
+            .checked_add(u32::from(self.accessed))
     }
 }
 

@@ -9,25 +9,32 @@ use walrus::{Error, FunctionId, Module};
 use walrus_test_support::demand_output;
 
 // Two locals of i32, one used before the other.
-const TWO_OF_I32: &str = "00 61 73 6D 01 00 00 00 01 04 01 60 00 00 03 02 01 00 07 05 01 01 66 00 00 0A 0C 01 0A 01 02 7F 20 00 1A 20 01 1A 0B";
+const TWO_OF_I32: &str =
+    "00 61 73 6D 01 00 00 00 01 04 01 60 00 00 03 02 01 00 07 05 01 01 66 00 00 0A 0C 01 0A 01 02 7F 20 00 1A 20 01 1A 0B";
 
 // A local of f64, and behind it one of i32, which is used first.
-const F64_AND_I32: &str = "00 61 73 6D 01 00 00 00 01 04 01 60 00 00 03 02 01 00 07 05 01 01 66 00 00 0A 0E 01 0C 02 01 7C 01 7F 20 01 1A 20 00 1A 0B";
+const F64_AND_I32: &str =
+    "00 61 73 6D 01 00 00 00 01 04 01 60 00 00 03 02 01 00 07 05 01 01 66 00 00 0A 0E 01 0C 02 01 7C 01 7F 20 01 1A 20 00 1A 0B";
 
 // The first body over the other's locals: i32 stands in front of f64 where it is written.
-const RENUMBERED: &str = "00 61 73 6D 01 00 00 00 01 04 01 60 00 00 03 02 01 00 07 05 01 01 66 00 00 0A 0E 01 0C 02 01 7F 01 7C 20 01 1A 20 00 1A 0B";
+const RENUMBERED: &str =
+    "00 61 73 6D 01 00 00 00 01 04 01 60 00 00 03 02 01 00 07 05 01 01 66 00 00 0A 0E 01 0C 02 01 7F 01 7C 20 01 1A 20 00 1A 0B";
 
 // One local of i32.
-const ONE_OF_I32: &str = "00 61 73 6D 01 00 00 00 01 04 01 60 00 00 03 02 01 00 07 05 01 01 66 00 00 0A 09 01 07 01 01 7F 20 00 1A 0B";
+const ONE_OF_I32: &str =
+    "00 61 73 6D 01 00 00 00 01 04 01 60 00 00 03 02 01 00 07 05 01 01 66 00 00 0A 09 01 07 01 01 7F 20 00 1A 0B";
 
 // A memory, from which a body loads.
-const LOADS: &str = "00 61 73 6D 01 00 00 00 01 04 01 60 00 00 03 02 01 00 05 03 01 00 01 07 05 01 01 66 00 00 0A 0A 01 08 00 41 00 28 02 00 1A 0B";
+const LOADS: &str =
+    "00 61 73 6D 01 00 00 00 01 04 01 60 00 00 03 02 01 00 05 03 01 00 01 07 05 01 01 66 00 00 0A 0A 01 08 00 41 00 28 02 00 1A 0B";
 
 // A memory, and a body that does nothing.
-const IDLE: &str = "00 61 73 6D 01 00 00 00 01 04 01 60 00 00 03 02 01 00 05 03 01 00 01 07 05 01 01 66 00 00 0A 04 01 02 00 0B";
+const IDLE: &str =
+    "00 61 73 6D 01 00 00 00 01 04 01 60 00 00 03 02 01 00 05 03 01 00 01 07 05 01 01 66 00 00 0A 04 01 02 00 0B";
 
 // The body that loads where a memory is imported: its own one is the second.
-const LOADS_FROM_SECOND: &str = "00 61 73 6D 01 00 00 00 01 04 01 60 00 00 02 08 01 01 6D 01 79 02 00 01 03 02 01 00 05 03 01 00 01 07 05 01 01 66 00 00 0A 0B 01 09 00 41 00 28 42 01 00 1A 0B";
+const LOADS_FROM_SECOND: &str =
+    "00 61 73 6D 01 00 00 00 01 04 01 60 00 00 02 08 01 01 6D 01 79 02 00 01 03 02 01 00 05 03 01 00 01 07 05 01 01 66 00 00 0A 0B 01 09 00 41 00 28 42 01 00 1A 0B";
 
 // The body of the first function of a module, in the place of that of another one.
 fn cross(from: &mut Module, to: &mut Module) -> Result<(), Fail> {
