@@ -3,6 +3,8 @@ use Rattle.std.proofs.Common.{◌≡◌, ℕ, ◌+◌, ◌-◌, ◌<◌, ◌≤�
 use Rattle.std.specs.Prelude.{Option, slice_index_or, sum}
 use Rattle.std.proofs.lemmas.List.{append-nil, drop-append-le, drop_more, length-append, length-drop, length-map, length-take-le, take-append-le, take_all}
 use Rattle.std.proofs.lemmas.List.Sums.{sum_by-cons, sum_by-drop_more, sum_by_push}
+use Rattle.wasm_forms.proofs.Items.{row_bytes-append}
+use Rattle.wasm_forms.specs.Spelling.{block_bytes, row_bytes}
 use Rattle.wasm_frames.specs.Record as wire
 use Rattle.wasm_payloads.specs.Spelling.{NameMap}
 use Rattle.walrus_base.specs.Arena.{entries_from}
@@ -19,7 +21,7 @@ use Rattle.walrus_model.proofs.PlacedTypes.{zip_length}
 use Rattle.walrus_writing.specs.Names.{all_local_names, filled, local_names}
 use Rattle.walrus_writing.specs.Pushed.{with_map}
 use Rattle.walrus_base.proofs.ZipTurns.{zip_turn}
-use Rattle.walrus_writing.specs.Bodies.{AreWritten, texts_in}
+use Rattle.walrus_writing.specs.Bodies.{AppendsBodies, AreWritten, texts_in}
 use Rattle.walrus_writing.specs.Parts.{BodySeen, IsWrittenBody, unplaced}
 
 -- ---- texts
@@ -90,40 +92,79 @@ module _ (p : Parts) (names : Lookup) (features : Features) where
   abbrev used_of : BodySeen → List (ℕ × ℕ)
   used_of b = b.used
 
-  pub none_written : (first : ℕ) (chosen : Bool) (bytes lengths : List ℕ) (named : List (ℕ × NameMap)) → bytes ≡ [] → lengths ≡ [] → named ≡ [] → AreWritten p names features [] first chosen bytes lengths named
-  none_written first chosen bytes lengths named b l n = record {
+  pub none_written : (first : ℕ) (chosen : Bool) (texts : List (List ℕ)) (named : List (ℕ × NameMap)) → texts ≡ [] → named ≡ [] → AreWritten p names features [] first chosen texts named
+  none_written first chosen texts named t n = record {
     bodies = [];
     are = tt;
-    texts = ap₂ texts_in l b;
-    whole = ap sum l ∙ sym (ap length b);
+    texts_are = t;
     names_are = λ asked. n;
   }
 
+  pub none_asked : (order : List (Id FunctionKey)) (first : ℕ) (chosen : Bool) (named : List (ℕ × NameMap)) → length order ≡ 0 → named ≡ [] → AreWritten p names features order first chosen [] named
+  none_asked [] first chosen named none n = none_written first chosen [] named refl n
+  none_asked (i ∷ is) first chosen named none n = absurd (omega (arith, none))
+
   -- the last one is
-  pub all_written : (order : List (Id FunctionKey)) (i first : ℕ) (chosen : Bool) (bytes lengths : List ℕ) (named : List (ℕ × NameMap)) → length order ≤ i
-      → AreWritten p names features (take i order) first chosen bytes lengths named → AreWritten p names features order first chosen bytes lengths named
-  all_written order i first chosen bytes lengths named most w = subst (λ (l : List (Id FunctionKey)). AreWritten p names features l first chosen bytes lengths named) (take_all i order most) w
+  pub all_written : (order : List (Id FunctionKey)) (i first : ℕ) (chosen : Bool) (texts : List (List ℕ)) (named : List (ℕ × NameMap)) → length order ≤ i
+      → AreWritten p names features (take i order) first chosen texts named → AreWritten p names features order first chosen texts named
+  all_written order i first chosen texts named most w = subst (λ (l : List (Id FunctionKey)). AreWritten p names features l first chosen texts named) (take_all i order most) w
+
+  -- as many as there are functions
+  pub as_many : (order : List (Id FunctionKey)) (first : ℕ) (chosen : Bool) (texts : List (List ℕ)) (named : List (ℕ × NameMap)) → AreWritten p names features order first chosen texts named → length order ≡ length texts
+  as_many order first chosen texts named w = zip_length IsBody order w.bodies w.are ∙ sym (length-map w.bodies text_of) ∙ ap length (sym w.texts_are)
 
   -- one more is written
-  pub one_written : (order : List (Id FunctionKey)) (i : ℕ) (d : Id FunctionKey) (first : ℕ) (chosen : Bool) (function : ℕ) (bytes lengths : List ℕ) (named : List (ℕ × NameMap)) (new more : List ℕ) (maps : List (ℕ × NameMap)) (size : ℕ) (one : BodySeen)
-      → i < length order → function ≡ first + i → AreWritten p names features (take i order) first chosen bytes lengths named
-      → IsBody (slice_index_or order i d) one → new ≡ bytes ++ one.bytes → size ≡ length one.bytes → more ≡ lengths ++ size ∷ []
+  pub one_written : (order : List (Id FunctionKey)) (i : ℕ) (d : Id FunctionKey) (first : ℕ) (chosen : Bool) (function : ℕ) (texts more : List (List ℕ)) (named maps : List (ℕ × NameMap)) (one : BodySeen)
+      → i < length order → function ≡ first + i → AreWritten p names features (take i order) first chosen texts named
+      → IsBody (slice_index_or order i d) one → more ≡ texts ++ one.bytes ∷ []
       → (chosen ≡ true → maps ≡ with_map named function (local_names (locals p.locals.now) one.used))
-      → AreWritten p names features (take (i + 1) order) first chosen new more maps
-  one_written order i d first chosen function bytes lengths named new more maps size one low counted w is appended sized pushed noted =
-      let more_is : more ≡ lengths ++ length one.bytes ∷ [] = pushed ∙ ap (λ (n : ℕ). lengths ++ n ∷ []) sized in
+      → AreWritten p names features (take (i + 1) order) first chosen more maps
+  one_written order i d first chosen function texts more named maps one low counted w is pushed noted =
       let so_many : i ≡ length w.bodies = sym (length-take-le i order (omega (arith, low))) ∙ zip_length IsBody (take i order) w.bodies w.are in
       record {
         bodies = w.bodies ++ one ∷ [];
         are = zip_turn IsBody order i d w.bodies one low w.are is;
-        texts = ap₂ texts_in more_is appended ∙ texts_more lengths bytes one.bytes w.whole ∙ ap (λ (l : List (List ℕ)). l ++ one.bytes ∷ []) w.texts ∙ sym (map_snoc text_of w.bodies one);
-        whole = omega (arith, ap sum more_is, sum_by_push (λ (x : ℕ). x) lengths (length one.bytes), w.whole, ap length appended, length-append bytes one.bytes);
+        texts_are = pushed ∙ ap (λ (l : List (List ℕ)). l ++ one.bytes ∷ []) w.texts_are ∙ sym (map_snoc text_of w.bodies one);
         names_are = λ asked.
             noted asked
             ∙ ap₂ (λ (l : List (ℕ × NameMap)) (k : ℕ). with_map l k (local_names (locals p.locals.now) one.used)) (w.names_are asked) counted
             ∙ names_more (locals p.locals.now) first (first + i) (map used_of w.bodies) one.used (ap (λ (n : ℕ). first + n) (so_many ∙ sym (length-map w.bodies used_of)))
             ∙ ap (all_local_names (locals p.locals.now) first) (sym (map_snoc used_of w.bodies one));
       }
+
+  -- ---- each behind its size
+
+  pub none_appended : (first : ℕ) (chosen : Bool) (named : List (ℕ × NameMap)) (old : List ℕ) → named ≡ [] → AppendsBodies p names features [] first chosen named old old
+  none_appended first chosen named old n = record { texts = []; written = none_written first chosen [] named refl n; stand = sym (append-nil old) }
+
+  pub all_appended : (order : List (Id FunctionKey)) (i first : ℕ) (chosen : Bool) (named : List (ℕ × NameMap)) (old new : List ℕ) → length order ≤ i
+      → AppendsBodies p names features (take i order) first chosen named old new → AppendsBodies p names features order first chosen named old new
+  all_appended order i first chosen named old new most w = subst (λ (l : List (Id FunctionKey)). AppendsBodies p names features l first chosen named old new) (take_all i order most) w
+
+  -- one more is made where none was, and appended
+  pub one_appended : (order : List (Id FunctionKey)) (i : ℕ) (d : Id FunctionKey) (first : ℕ) (chosen : Bool) (function : ℕ) (named maps : List (ℕ × NameMap)) (cleared made old now new : List ℕ) (one : BodySeen)
+      → i < length order → function ≡ first + i → AppendsBodies p names features (take i order) first chosen named old now
+      → IsBody (slice_index_or order i d) one → cleared ≡ [] → made ≡ cleared ++ one.bytes → new ≡ now ++ block_bytes made
+      → (chosen ≡ true → maps ≡ with_map named function (local_names (locals p.locals.now) one.used))
+      → AppendsBodies p names features (take (i + 1) order) first chosen maps old new
+  one_appended order i d first chosen function named maps cleared made old now new one low counted w is none is_made added noted = record {
+    texts = w.texts ++ one.bytes ∷ [];
+    written = one_written order i d first chosen function w.texts (w.texts ++ one.bytes ∷ []) named maps one low counted w.written is refl noted;
+    stand =
+        added ∙ ap (λ (l : List ℕ). now ++ block_bytes l) (is_made ∙ ap (λ (l : List ℕ). l ++ one.bytes) none)
+        ∙ ap (λ (l : List ℕ). l ++ block_bytes one.bytes) w.stand ∙ append_assoc old (row_bytes block_bytes w.texts) (block_bytes one.bytes)
+        ∙ ap (λ (l : List ℕ). old ++ l) (ap (λ (l : List ℕ). row_bytes block_bytes w.texts ++ l) (sym (append-nil (block_bytes one.bytes))) ∙ sym (row_bytes-append block_bytes w.texts (one.bytes ∷ [])));
+  }
+
+-- ---- one behind another
+
+-- one text more of these lengths, and they are still all of the bytes
+pub one_joined : (lengths bytes new more text : List ℕ) (size : ℕ) → sum lengths ≡ length bytes → new ≡ bytes ++ text → size ≡ length text → more ≡ lengths ++ size ∷ [] → texts_in more new ≡ texts_in lengths bytes ++ text ∷ []
+one_joined lengths bytes new more text size whole appended sized pushed =
+    ap₂ texts_in (pushed ∙ ap (λ (n : ℕ). lengths ++ n ∷ []) sized) appended ∙ texts_more lengths bytes text whole
+
+pub still_whole : (lengths bytes new more text : List ℕ) (size : ℕ) → sum lengths ≡ length bytes → new ≡ bytes ++ text → size ≡ length text → more ≡ lengths ++ size ∷ [] → sum more ≡ length new
+still_whole lengths bytes new more text size whole appended sized pushed = omega (arith, ap sum pushed, sum_by_push (λ (x : ℕ). x) lengths size, sized, whole, ap length appended, length-append bytes text)
 
 -- how many bytes were appended
 pub grown : (before after : ℕ) (old new text : List ℕ) → before ≡ length old → after ≡ length new → new ≡ old ++ text → after - before ≡ length text

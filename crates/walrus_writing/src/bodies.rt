@@ -9,7 +9,7 @@ ghost use Rattle.walrus_items.specs.Functions.{functions};
 ghost use Rattle.walrus_writing.specs.Names.{local_names, used_listed};
 ghost use Rattle.walrus_writing.specs.Pushed.{with_map};
 ghost use Rattle.walrus_items.specs.Errors.{out_of_memory};
-ghost use Rattle.walrus_writing.specs.Bodies.{AreWritten, appended_seen, texts_in, texts_of};
+ghost use Rattle.walrus_writing.specs.Bodies.{AppendsBodies, AreWritten, appended_seen, texts_in, texts_of};
 ghost use Rattle.walrus_writing.specs.Parts.{local_in, unplaced, IsIndexed, IsWrittenBody};
 ghost use Rattle.walrus_writing.specs.Refusals.{RefusesBodies};
 
@@ -22,6 +22,7 @@ use walrus_code::IdsToIndices;
 use walrus_contents::Parts;
 use walrus_functions::{AppendedBody, append_body, likely_length};
 use walrus_items::{Error, FunctionKind, ModuleFunctions, Result};
+use wasm_forms::write_block;
 use wasm_frames::RawBody;
 use wasm_payloads::RawLocals;
 
@@ -61,8 +62,8 @@ fn kept_length(funcs: &ModuleFunctions, order: &[FunctionId]) -> Option<usize> {
     Some(first.text()?.code_length())
 }
 
-// For how many bytes to reserve memory for the bodies of these functions.
-fn likely_lengths(funcs: &ModuleFunctions, order: &[FunctionId]) -> usize {
+/// For how many bytes to reserve memory for the bodies of these functions.
+pub fn likely_lengths(funcs: &ModuleFunctions, order: &[FunctionId]) -> usize {
     if let Some(kept) = kept_length(funcs, order) {
         return kept.saturating_add(order.len().saturating_mul(4));
     }
@@ -76,6 +77,7 @@ fn likely_lengths(funcs: &ModuleFunctions, order: &[FunctionId]) -> usize {
 }
 
 // Appends the body of the function of this id, under these indices. Refused, what was appended means nothing.
+#[inline(always)]
 fn append_one(
     alloc: Global,
     under: Indexed<'_, '_, '_>,
@@ -109,6 +111,7 @@ fn append_one(
 }
 
 // Puts the names of a body's used locals behind others, where they are chosen.
+#[inline(always)]
 fn push_names<'a>(
     alloc: Global,
     parts: Parts<'a>,
@@ -146,7 +149,7 @@ pub fn written_bodies<'a>(
     requires few { first + length order.now < 2 ^ 32 }
     ensures value { IfOk result (λ written. AreWritten under.entry.parts
         (index_of under.entry.indices.now) under.entry.features.now order.now first chosen
-        written.bodies.bytes.items written.bodies.lengths.items (map locals_entry written.named.items)) }
+        (texts_of written.bodies) (map locals_entry written.named.items)) }
     ensures fails { IfErr result (RefusesBodies under.entry.parts under.entry.features.now) }
 {
     let mut bytes = Vec::with_capacity(alloc, likely_lengths(under.parts.funcs, order))?;
@@ -165,6 +168,37 @@ pub fn written_bodies<'a>(
         bodies: WrittenBodies { bytes, lengths },
         named,
     })
+}
+
+/// Appends each function's body behind its size, in the order of the functions, of which the first has this index; and gives the names of their
+/// used locals, where these are chosen. Each body is made in memory of its own, which is used again for the next. Refused, what was appended
+/// means nothing.
+pub fn append_bodies<'a>(
+    alloc: Global,
+    to: &mut Vec<u8>,
+    under: Indexed<'a, '_, '_>,
+    order: &[FunctionId],
+    first: u32,
+    chosen: bool,
+) -> Result<Vec<RawLocals<'a>>>
+    requires indexed { All (λ id.
+        IsIndexed under.parts (index_of under.indices.now) under.features.now (place id)) order.now }
+    requires few { first + length order.now < 2 ^ 32 }
+    ensures { IfOk result (λ named. AppendsBodies under.entry.parts (index_of under.entry.indices.now)
+        under.entry.features.now order.now first chosen (map locals_entry named.items)
+        to.old.items to.new.items) }
+{
+    let mut one = Vec::new(alloc);
+    let mut named = Vec::new(alloc);
+    let mut index = first;
+    'order: for id in order {
+        one.clear();
+        let body = append_one(alloc, under, *id, &mut one)?;
+        write_block(to, one.as_slice())?;
+        push_names(alloc, under.parts, chosen, index, &body, &mut named)?;
+        index += 1;
+    }
+    Ok(named)
 }
 
 // The records of bodies of these lengths, with which bytes begin.
