@@ -1,7 +1,7 @@
 -- The bodies of functions as they are written, one behind another.
-use Rattle.std.specs.Prelude.{ℕ, Bool, true, List, [], ◌∷◌, ◌++◌, drop, map, take, ◌≡◌}
+use Rattle.std.specs.Prelude.{ℕ, Bool, true, List, [], ◌∷◌, ◌++◌, drop, length, map, take, ◌≡◌}
 use Rattle.std.specs.List.{AllZip}
-use Rattle.wasm_forms.specs.Spelling.{block_bytes, row_bytes}
+use Rattle.wasm_forms.specs.Spelling.{block_bytes, number_bytes, row_bytes}
 use Rattle.wasm_payloads.specs.Spelling.{NameMap}
 use Rattle.walrus_base.specs.Id.{place}
 use Rattle.walrus_base.specs.declared.id.Id.{Id}
@@ -15,10 +15,10 @@ use Rattle.walrus_writing.specs.Names.{all_local_names, used_listed}
 use Rattle.walrus_writing.specs.Parts.{BodySeen, IsWrittenBody}
 use Rattle.walrus_writing.specs.declared.joined.WrittenBodies.{WrittenBodies}
 
--- the texts of these lengths that bytes begin with
+-- the texts of these lengths that bytes begin with, each behind its size
 abbrev pub texts_in : List ℕ → List ℕ → List (List ℕ)
 texts_in [] bytes = []
-texts_in (n ∷ ns) bytes = take n bytes ∷ texts_in ns (drop n bytes)
+texts_in (n ∷ ns) bytes = take n (drop (length (number_bytes n)) bytes) ∷ texts_in ns (drop n (drop (length (number_bytes n)) bytes))
 
 -- the bytes of each body
 abbrev pub texts_of : WrittenBodies → List (List ℕ)
@@ -40,8 +40,9 @@ pub record AreWritten (p : Parts) (names : Lookup) (features : Features) (order 
   pub texts_are : texts ≡ map (λ b. b.bytes) bodies
   pub names_are : chosen ≡ true → named ≡ all_local_names (locals p.locals.now) first (map (λ b. b.used) bodies)
 
--- so they are, and stand behind what was there, each behind its size
-pub record AppendsBodies (p : Parts) (names : Lookup) (features : Features) (order : List (Id FunctionKey)) (first : ℕ) (chosen : Bool) (named : List (ℕ × NameMap)) (old new : List ℕ) : Type 0 where
+-- so they are, and stand behind what was there, each behind its size; and these are their lengths, where these are asked for
+pub record AppendsBodies (p : Parts) (names : Lookup) (features : Features) (order : List (Id FunctionKey)) (first : ℕ) (chosen asked : Bool) (named : List (ℕ × NameMap)) (lengths old new : List ℕ) : Type 0 where
   pub texts : List (List ℕ)
   pub written : AreWritten p names features order first chosen texts named
+  pub lengths_are : asked ≡ true → lengths ≡ map length texts
   pub stand : new ≡ old ++ row_bytes block_bytes texts

@@ -1,6 +1,8 @@
 //! The bodies of functions, one behind another ("Binary Format > Modules > Code Section"), and the names of their used locals.
-ghost use Rattle.std.specs.Prelude.{◌≡◌, ◌<◌, ◌≤◌, ◌+◌, ◌^◌, ◌++◌, ℕ, List, All, IfErr, IfOk, IsOkUnless, OnOk, true, length, map, option_map, sum};
+ghost use Rattle.std.specs.Prelude.{[], ◌∷◌, ◌≡◌, ◌<◌, ◌≤◌, ◌+◌, ◌^◌, ◌++◌, ℕ, List, All, IfErr, IfOk, IsOkUnless, OnOk, true, length, map, option_map, sum_by};
+ghost use Rattle.wasm_forms.specs.Spelling.{block_bytes};
 ghost use Rattle.wasm_frames.specs.Record.{body_record};
+ghost use Rattle.wasm_writer.specs.Measuring.{size_with_count};
 ghost use Rattle.wasm_payloads.specs.Lent.{locals_entry};
 ghost use Rattle.walrus_base.specs.Id.{place};
 ghost use Rattle.walrus_base.specs.Locals.{locals};
@@ -22,9 +24,10 @@ use walrus_code::IdsToIndices;
 use walrus_contents::Parts;
 use walrus_functions::{AppendedBody, append_body, likely_length};
 use walrus_items::{Error, FunctionKind, ModuleFunctions, Result};
-use wasm_forms::write_block;
+use wasm_forms::write_u64;
 use wasm_frames::RawBody;
 use wasm_payloads::RawLocals;
+use wasm_writer::number_len;
 
 /// What bodies are written under: the module's parts, the indices of its items, and the proposals that bodies may use.
 #[derive(Clone, Copy)]
@@ -39,6 +42,15 @@ pub struct Indexed<'a, 'b, 'c> {
 pub struct NamedBodies<'a> {
     /// The bodies.
     pub bodies: WrittenBodies,
+    /// The names, of each function that has some.
+    pub named: Vec<RawLocals<'a>>,
+}
+
+/// What is told of bodies that are appended: how many bytes each has, and the names of their used locals.
+#[derive(Drop)]
+pub struct ToldBodies<'a> {
+    /// The lengths, where they are asked for.
+    pub lengths: Vec<usize>,
     /// The names, of each function that has some.
     pub named: Vec<RawLocals<'a>>,
 }
@@ -77,7 +89,6 @@ pub fn likely_lengths(funcs: &ModuleFunctions, order: &[FunctionId]) -> usize {
 }
 
 // Appends the body of the function of this id, under these indices. Refused, what was appended means nothing.
-#[inline(always)]
 fn append_one(
     alloc: Global,
     under: Indexed<'_, '_, '_>,
@@ -111,7 +122,6 @@ fn append_one(
 }
 
 // Puts the names of a body's used locals behind others, where they are chosen.
-#[inline(always)]
 fn push_names<'a>(
     alloc: Global,
     parts: Parts<'a>,
@@ -135,6 +145,63 @@ fn push_names<'a>(
     push_local_names(alloc, parts.locals, function, order, used, to)
 }
 
+// Puts the length of a body behind others, where these are asked for.
+fn push_length(asked: bool, length: usize, to: &mut Vec<usize>) -> Result<()>
+    ensures value { asked ≡ true → OnOk result (to.new.items ≡ to.old.items ++ length ∷ []) }
+    ensures fails { IsOkUnless result out_of_memory }
+{
+    if !asked {
+        return Ok(());
+    }
+    to.push(length)?;
+    Ok(())
+}
+
+// Appends a body behind its size.
+fn append_sized(to: &mut Vec<u8>, body: &[u8]) -> Result<()>
+    ensures value { OnOk result (to.new.items ≡ to.old.items ++ block_bytes body.now) }
+    ensures fails { IsOkUnless result out_of_memory }
+{
+    write_u64(to, body.len() as u64)?;
+    to.extend_from_slice(body)?;
+    Ok(())
+}
+
+/// Appends each function's body behind its size, in the order of the functions, of which the first has this index; and tells the names of their
+/// used locals, where these are chosen, and the lengths of the bodies, where they are asked for. Each body is made in memory of its own, which
+/// is used again for the next. Refused, what was appended means nothing.
+pub fn append_bodies<'a>(
+    alloc: Global,
+    to: &mut Vec<u8>,
+    under: Indexed<'a, '_, '_>,
+    order: &[FunctionId],
+    first: u32,
+    chosen: bool,
+    asked: bool,
+) -> Result<ToldBodies<'a>>
+    requires indexed { All (λ id.
+        IsIndexed under.parts (index_of under.indices.now) under.features.now (place id)) order.now }
+    requires few { first + length order.now < 2 ^ 32 }
+    ensures value { IfOk result (λ told. AppendsBodies under.entry.parts (index_of under.entry.indices.now)
+        under.entry.features.now order.now first chosen asked
+        (map locals_entry told.named.items) told.lengths.items to.old.items to.new.items) }
+    ensures fails { IfErr result (RefusesBodies under.entry.parts under.entry.features.now) }
+{
+    let mut one = Vec::new(alloc);
+    let mut lengths = Vec::new(alloc);
+    let mut named = Vec::new(alloc);
+    let mut function = first;
+    'order: for id in order {
+        one.clear();
+        let body = append_one(alloc, under, *id, &mut one)?;
+        append_sized(to, one.as_slice())?;
+        push_length(asked, one.len(), &mut lengths)?;
+        push_names(alloc, under.parts, chosen, function, &body, &mut named)?;
+        function += 1;
+    }
+    Ok(ToldBodies { lengths, named })
+}
+
 /// Each function's body, in the order of the functions, of which the first has this index; and the names of their used locals, where these are
 /// chosen.
 pub fn written_bodies<'a>(
@@ -153,57 +220,20 @@ pub fn written_bodies<'a>(
     ensures fails { IfErr result (RefusesBodies under.entry.parts under.entry.features.now) }
 {
     let mut bytes = Vec::with_capacity(alloc, likely_lengths(under.parts.funcs, order))?;
-    let mut lengths = Vec::with_capacity(alloc, order.len())?;
-    let mut named = Vec::new(alloc);
-    let mut function = first;
-    'order: for id in order {
-        let before = bytes.len();
-        let body = append_one(alloc, under, *id, &mut bytes)?;
-        let size = bytes.len() - before;
-        lengths.push(size)?;
-        push_names(alloc, under.parts, chosen, function, &body, &mut named)?;
-        function += 1;
-    }
+    let told = append_bodies(alloc, &mut bytes, under, order, first, chosen, true)?;
+    let bodies = WrittenBodies {
+        bytes,
+        lengths: told.lengths,
+    };
     Ok(NamedBodies {
-        bodies: WrittenBodies { bytes, lengths },
-        named,
+        bodies,
+        named: told.named,
     })
 }
 
-/// Appends each function's body behind its size, in the order of the functions, of which the first has this index; and gives the names of their
-/// used locals, where these are chosen. Each body is made in memory of its own, which is used again for the next. Refused, what was appended
-/// means nothing.
-pub fn append_bodies<'a>(
-    alloc: Global,
-    to: &mut Vec<u8>,
-    under: Indexed<'a, '_, '_>,
-    order: &[FunctionId],
-    first: u32,
-    chosen: bool,
-) -> Result<Vec<RawLocals<'a>>>
-    requires indexed { All (λ id.
-        IsIndexed under.parts (index_of under.indices.now) under.features.now (place id)) order.now }
-    requires few { first + length order.now < 2 ^ 32 }
-    ensures { IfOk result (λ named. AppendsBodies under.entry.parts (index_of under.entry.indices.now)
-        under.entry.features.now order.now first chosen (map locals_entry named.items)
-        to.old.items to.new.items) }
-{
-    let mut one = Vec::new(alloc);
-    let mut named = Vec::new(alloc);
-    let mut index = first;
-    'order: for id in order {
-        one.clear();
-        let body = append_one(alloc, under, *id, &mut one)?;
-        write_block(to, one.as_slice())?;
-        push_names(alloc, under.parts, chosen, index, &body, &mut named)?;
-        index += 1;
-    }
-    Ok(named)
-}
-
-// The records of bodies of these lengths, with which bytes begin.
+// The records of bodies of these lengths, with which bytes begin, each behind its size.
 fn raw_texts<'a>(alloc: Global, lengths: &[usize], bytes: &'a [u8]) -> Result<Vec<RawBody<'a>>>
-    requires within { sum lengths.now ≤ length bytes.now }
+    requires within { sum_by size_with_count lengths.now ≤ length bytes.now }
     ensures value { IfOk result (λ raw. map body_record raw.items
         ≡ map unplaced (texts_in lengths.now bytes.now)) }
     ensures fails { IsOkUnless result out_of_memory }
@@ -211,7 +241,8 @@ fn raw_texts<'a>(alloc: Global, lengths: &[usize], bytes: &'a [u8]) -> Result<Ve
     let mut raw = Vec::with_capacity(alloc, lengths.len())?;
     let mut rest = bytes;
     'lengths: for size in lengths {
-        let (text, behind) = rest.split_at(*size);
+        let (_size, sized) = rest.split_at(number_len(*size as u64) as usize);
+        let (text, behind) = sized.split_at(*size);
         raw.push(RawBody {
             start: 0,
             bytes: text,

@@ -63,10 +63,10 @@ pub fn write_code<'a>(
     write_u32(to, guess_of(likely))?;
     let until = to.len();
     write_u32(to, order.len() as u32)?;
-    let named = append_bodies(alloc, to, under, order, first, chosen)?;
+    let told = append_bodies(alloc, to, under, order, first, chosen, false)?;
     let Ok(size) = u32::try_from(to.len() - until) else {
         return Err(Error::TooLarge);
     };
     put_number(alloc, to, from, until, size)?;
-    Ok(named)
+    Ok(told.named)
 }

@@ -44,7 +44,10 @@ fn likely_names(funcs: &ModuleFunctions) -> usize {
 
 // For the entries of sections before the code, as long as they mostly are.
 fn likely_entries(plan: &Plan, exports: &ModuleExports) -> usize {
-    let functions = plan.brought_functions.len().saturating_add(plan.own_functions.len());
+    let functions = plan
+        .brought_functions
+        .len()
+        .saturating_add(plan.own_functions.len());
     let tables = plan.tables.len().saturating_add(plan.elements.len());
     let memories = plan.memories.len().saturating_add(plan.tags.len());
     let listed = exports.len().saturating_add(plan.globals.len());

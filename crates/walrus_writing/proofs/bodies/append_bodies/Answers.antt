@@ -12,7 +12,7 @@ append_one-requires c = record { indexed = c.requires.indexed c.order.id-index _
 pub order-init : goal.order-init
 order-init c = record {
   counted = omega arith;
-  appended = none_appended c.args.under.parts (index_of c.args.under.indices.now) c.args.under.features.now _ _ _ _ (ap (map locals_entry) c.new-named.ensures.items);
+  appended = none_appended c.args.under.parts (index_of c.args.under.indices.now) c.args.under.features.now _ _ _ _ _ _ (ap (map locals_entry) c.new-named.ensures.items) c.new-lengths.ensures.items;
 }
 
 pub order-preserved : goal.order-preserved
@@ -20,9 +20,10 @@ order-preserved c =
     let text = c.in_ok-body.ensures.value.0 in
     record {
       counted = omega (arith, c.order.invariant.counted);
-      appended = one_appended c.args.under.parts (index_of c.args.under.indices.now) c.args.under.features.now c.args.order.now c.order.id-index _ c.args.first c.args.chosen _ _ _ c.clear.new.self.items c.append_one.new.to.items _ c.order.to.items _ (appended_seen text c.in_ok-body.body) c.order-test.true c.order.invariant.counted c.order.invariant.appended
-          c.in_ok-body.ensures.value.1.1 c.clear.ensures.items c.in_ok-body.ensures.value.1.0 (c.in_ok-write_block.ensures.written.0 ∙ ap (λ (l : List ℕ). c.order.to.items ++ block_bytes l) c.as_slice.ensures.value) c.in_ok-push_names.ensures.value;
+      appended = one_appended c.args.under.parts (index_of c.args.under.indices.now) c.args.under.features.now c.args.first c.args.chosen c.args.asked c.args.order.now c.order.id-index _ _ _ _ _ _ c.len.result c.clear.new.self.items c.append_one.new.to.items _ c.order.to.items _ (appended_seen text c.in_ok-body.body)
+          c.order-test.true c.order.invariant.counted c.order.invariant.appended c.in_ok-body.ensures.value.1.1 c.clear.ensures.items c.in_ok-body.ensures.value.1.0
+          (c.in_ok-append_sized.ensures.value ∙ ap (λ (l : List ℕ). c.order.to.items ++ block_bytes l) c.as_slice.ensures.value) (c.len.ensures ∙ c.append_one.new.to.ok.0) c.in_ok-push_length.ensures.value c.in_ok-push_names.ensures.value;
     }
 
-pub returns : goal.returns
-returns c = all_appended c.args.under.parts (index_of c.args.under.indices.now) c.args.under.features.now c.args.order.now c.order.id-index _ _ _ _ _ c.order-test.false c.order.invariant.appended
+pub returns-clause-value : goal.returns-clause-value
+returns-clause-value c = all_appended c.args.under.parts (index_of c.args.under.indices.now) c.args.under.features.now c.args.first c.args.chosen c.args.asked c.args.order.now c.order.id-index _ _ _ _ c.order-test.false c.order.invariant.appended

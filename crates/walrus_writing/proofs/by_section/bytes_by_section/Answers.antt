@@ -1,9 +1,7 @@
-use Rattle.std.proofs.Common.{◌∙◌, ◌++◌, ℕ, List, Option, [], length, map, refl, ap, subst, sym}
+use Rattle.std.proofs.Common.{◌∙◌, ◌++◌, ℕ, List, Option, [], length, map, refl, ap, subst}
 use Rattle.std.specs.Prelude.{not, option_and_then, option_map}
-use Rattle.wasm_frames.specs.Frames.{Code, header}
+use Rattle.wasm_frames.specs.Frames.{header}
 use Rattle.wasm_frames.specs.Record.{custom_record}
-use Rattle.wasm_wire.specs.ModuleSpelling.{if_any}
-use Rattle.wasm_writer.specs.Spelling.{SectionFits}
 use Rattle.walrus_base.specs.Id.{place}
 use Rattle.walrus_base.specs.Locals.{locals}
 use Rattle.walrus_base.specs.Operators.{Functions}
@@ -12,7 +10,7 @@ use Rattle.walrus_base.specs.declared.keys.FunctionKey.{FunctionKey}
 use Rattle.walrus_code.specs.Indices.{index_of}
 use Rattle.walrus_plan.specs.Places.{places}
 use Rattle.walrus_writing.specs.Bodies.{AreBodies}
-use Rattle.walrus_writing.specs.BySection.{Stand, told_module}
+use Rattle.walrus_writing.specs.BySection.{told_module}
 use Rattle.walrus_writing.specs.Customs.{chosen_producers, sections_of, task}
 use Rattle.walrus_writing.specs.Names.{all_local_names, first_own, if_chosen, names_said}
 use Rattle.walrus_writing.specs.Parts.{BodySeen, unplaced}

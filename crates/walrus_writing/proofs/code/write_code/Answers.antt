@@ -1,4 +1,4 @@
-use Rattle.std.proofs.Common.{rules, ◌≡◌, ℕ, ◌-◌, ◌<◌, ◌∙◌, [], length, map, arith, ap, sym}
+use Rattle.std.proofs.Common.{rules, ◌≡◌, ℕ, ◌-◌, ◌<◌, ◌∙◌, [], length, map, arith, ap}
 use Rattle.std.proofs.lemmas.Bool.Decides.{nat_tests}
 use Rattle.wasm_payloads.specs.Lent.{locals_entry}
 use Rattle.walrus_code.specs.Indices.{index_of}
@@ -18,7 +18,7 @@ returns-then-is_empty c =
 pub returns : goal.returns
 returns c =
     let some : 0 < length c.args.order.now = grind (arith, nat_tests) in
-    let bodies = c.in_ok-named.ensures in
+    let bodies = c.in_ok-told.ensures.value in
     let many = as_many c.args.under.parts (index_of c.args.under.indices.now) c.args.under.features.now c.args.order.now c.args.first c.args.chosen bodies.texts _ bodies.written in
     let sized : c.in-Ok.size ≡ c.len.result - c.len-until.result = search rules in
     let size : c.in-Ok.size < 4294967296 = search rules in

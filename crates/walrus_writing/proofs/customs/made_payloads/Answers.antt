@@ -1,4 +1,3 @@
-use Rattle.std.proofs.Common.{ℕ}
 use Rattle.std.proofs.lemmas.Result.{err_from_is_err_and}
 use Rattle.walrus_plan.specs.Places.{places}
 use Rattle.walrus_writing.specs.Customs.{chosen_producers}
