@@ -113,11 +113,6 @@ module _ (p : Parts) (names : Lookup) (features : Features) where
   none_asked [] first chosen named none n = none_written first chosen [] named refl n
   none_asked (i ∷ is) first chosen named none n = absurd (omega (arith, none))
 
-  -- the last one is
-  pub all_written : (order : List (Id FunctionKey)) (i first : ℕ) (chosen : Bool) (texts : List (List ℕ)) (named : List (ℕ × NameMap)) → length order ≤ i
-      → AreWritten p names features (take i order) first chosen texts named → AreWritten p names features order first chosen texts named
-  all_written order i first chosen texts named most w = subst (λ (l : List (Id FunctionKey)). AreWritten p names features l first chosen texts named) (take_all i order most) w
-
   -- as many as there are functions
   pub as_many : (order : List (Id FunctionKey)) (first : ℕ) (chosen : Bool) (texts : List (List ℕ)) (named : List (ℕ × NameMap)) → AreWritten p names features order first chosen texts named → length order ≡ length texts
   as_many order first chosen texts named w = zip_length IsBody order w.bodies w.are ∙ sym (length-map w.bodies text_of) ∙ ap length (sym w.texts_are)

@@ -145,25 +145,19 @@ fn push_names<'a>(
     push_local_names(alloc, parts.locals, function, order, used, to)
 }
 
-// Puts the length of a body behind others, where these are asked for.
-fn push_length(asked: bool, length: usize, to: &mut Vec<usize>) -> Result<()>
-    ensures value { asked ≡ true → OnOk result (to.new.items ≡ to.old.items ++ length ∷ []) }
-    ensures fails { IsOkUnless result out_of_memory }
-{
-    if !asked {
-        return Ok(());
-    }
-    to.push(length)?;
-    Ok(())
-}
-
-// Appends a body behind its size.
-fn append_sized(to: &mut Vec<u8>, body: &[u8]) -> Result<()>
+// Appends a body behind its size; and puts its length behind others, where these are asked for.
+fn append_sized(to: &mut Vec<u8>, body: &[u8], asked: bool, lengths: &mut Vec<usize>) -> Result<()>
     ensures value { OnOk result (to.new.items ≡ to.old.items ++ block_bytes body.now) }
+    ensures told { asked ≡ true
+        → OnOk result (lengths.new.items ≡ lengths.old.items ++ length body.now ∷ []) }
     ensures fails { IsOkUnless result out_of_memory }
 {
     write_u64(to, body.len() as u64)?;
     to.extend_from_slice(body)?;
+    if !asked {
+        return Ok(());
+    }
+    lengths.push(body.len())?;
     Ok(())
 }
 
@@ -194,8 +188,7 @@ pub fn append_bodies<'a>(
     'order: for id in order {
         one.clear();
         let body = append_one(alloc, under, *id, &mut one)?;
-        append_sized(to, one.as_slice())?;
-        push_length(asked, one.len(), &mut lengths)?;
+        append_sized(to, one.as_slice(), asked, &mut lengths)?;
         push_names(alloc, under.parts, chosen, function, &body, &mut named)?;
         function += 1;
     }
