@@ -1,8 +1,7 @@
--- What is appended behind a section's id and size: bodies, each behind its size, and the records of a section.
-use Rattle.std.proofs.Common.{◌≡◌, ℕ, ◌+◌, ◌<◌, ◌≤◌, ◌^◌, List, [], ◌∷◌, ◌++◌, length, map, take, drop, append_assoc, refl, sym, ap, ap₂, ◌∙◌, arith}
-use Rattle.std.specs.Prelude.{Ok, slice_index_or, sum, sum_by}
-use Rattle.std.proofs.lemmas.List.{append-nil, drop_more, length-drop, length-map, length-take-le}
-use Rattle.std.proofs.lemmas.List.Sums.{sum_by-cons}
+-- What is appended behind a section's id and size: content, bodies, each behind its size, and the records of a section.
+use Rattle.std.proofs.Common.{◌≡◌, ℕ, ◌-◌, ◌<◌, ◌≤◌, List, [], ◌∷◌, ◌++◌, length, map, take, drop, append_assoc, refl, sym, ap, ap₂, ◌∙◌, arith}
+use Rattle.std.specs.Prelude.{Ok}
+use Rattle.std.proofs.lemmas.List.{append-nil, drop_at, length-append, take_at}
 use Rattle.wasm_entries.specs.Record.{data_entry}
 use Rattle.wasm_entries.specs.Spelling.{DataFits, data_bytes}
 use Rattle.wasm_entries.specs.declared.record.RawData.{RawData}
@@ -13,15 +12,13 @@ use Rattle.wasm_frames.specs.Frames.{Code, DataSegments}
 use Rattle.wasm_frames.specs.Record.{Body}
 use Rattle.wasm_frames.specs.Spelling.{body_bytes}
 use Rattle.wasm_writer.specs.Measures.{Measures}
-use Rattle.wasm_writer.specs.Measuring.{body_len, size_with_count}
 use Rattle.wasm_writer.specs.Spelling.{SectionFits, listed, section_bytes, spelled}
 use Rattle.wasm_writer.specs.Writing.{unless_empty}
 use Rattle.wasm_writer.proofs.Listed.{fits_none, wrote_listed}
-use Rattle.wasm_writer.proofs.MeasuredSections.{bodies_told}
 use Rattle.wasm_wire.specs.ModuleSpelling.{if_any}
-use Rattle.walrus_writing.specs.Bodies.{texts_in}
 use Rattle.walrus_writing.specs.BySection.{Stand}
 use Rattle.walrus_writing.specs.Parts.{unplaced}
+use Rattle.walrus_writing.proofs.ProducersSpelled.{behind_filled, block_fits, vector_fits}
 
 -- content behind its section's id and size
 pub content_behind : (id size : ℕ) (content old between new : List ℕ) → size ≡ length content → between ≡ old ++ id ∷ number_bytes size → new ≡ between ++ content → new ≡ old ++ section_bytes id content
@@ -30,48 +27,39 @@ content_behind id size content old between new long opened added =
 
 -- ---- bodies
 
--- the next of the bodies that are left
-pub blocks_turn : (ns : List ℕ) (i d : ℕ) (rest front behind now new all : List ℕ) → i < length ns
-    → front ≡ take (slice_index_or ns i d) rest → behind ≡ drop (slice_index_or ns i d) rest → new ≡ now ++ block_bytes front
-    → now ++ row_bytes block_bytes (texts_in (drop i ns) rest) ≡ all → new ++ row_bytes block_bytes (texts_in (drop (i + 1) ns) behind) ≡ all
-blocks_turn ns i d rest front behind now new all low first then added so =
-    ap₂ (λ (l b : List ℕ). l ++ row_bytes block_bytes (texts_in (drop (i + 1) ns) b)) added then
-    ∙ append_assoc now (block_bytes front) (row_bytes block_bytes (texts_in (drop (i + 1) ns) (drop (slice_index_or ns i d) rest)))
-    ∙ ap (λ (t : List ℕ). now ++ (block_bytes t ++ row_bytes block_bytes (texts_in (drop (i + 1) ns) (drop (slice_index_or ns i d) rest)))) first
-    ∙ ap (λ (l : List ℕ). now ++ row_bytes block_bytes (texts_in l rest)) (sym (drop_more ns i d low))
-    ∙ so
+pub none_coded : (old : List ℕ) → Stand old old (if_any Code []) × SectionFits (Code [])
+none_coded old = (sym (append-nil old), fits_none (λ (b : Body). FitsLength b.bytes) body_bytes)
 
--- they have these lengths
-texts_long : (ns bytes : List ℕ) → sum ns ≤ length bytes → map body_len (map unplaced (texts_in ns bytes)) ≡ ns
-texts_long [] bytes within = refl
-texts_long (n ∷ ns) bytes within =
-    let all : sum (n ∷ ns) ≡ n + sum ns = sum_by-cons (λ (x : ℕ). x) n ns in
-    ap₂ (λ (k : ℕ) (ks : List ℕ). k ∷ ks) (length-take-le n bytes (omega (arith, within, all))) (texts_long ns (drop n bytes) (omega (arith, within, all, length-drop n bytes)))
+some_coded : (texts : List (List ℕ)) (old new : List ℕ) → 0 < length texts → new ≡ old ++ spelled (Code (map unplaced texts)) → Stand old new (if_any Code (map unplaced texts))
+some_coded [] old new some is = absurd (omega (arith, some))
+some_coded (t ∷ ts) old new some is = is ∙ ap (λ (l : List ℕ). old ++ l) (sym (append-nil (spelled (Code (map unplaced (t ∷ ts))))))
 
-pub none_coded : (ns bytes old : List ℕ) → length ns ≡ 0 → Stand old old (if_any Code (map unplaced (texts_in ns bytes))) × SectionFits (Code (map unplaced (texts_in ns bytes)))
-none_coded [] bytes old none = (sym (append-nil old), fits_none (λ (b : Body). FitsLength b.bytes) body_bytes)
-none_coded (n ∷ ns) bytes old none = absurd (omega (arith, none))
+body_filled : (b : Body) → 1 ≤ length (body_bytes b)
+body_filled b = behind_filled (length b.bytes) b.bytes
 
-one_coded : (ns bytes old new : List ℕ) → 0 < length ns → new ≡ old ++ spelled (Code (map unplaced (texts_in ns bytes))) → Stand old new (if_any Code (map unplaced (texts_in ns bytes)))
-one_coded [] bytes old new some is = absurd (omega (arith, some))
-one_coded (n ∷ ns) bytes old new some is = is ∙ ap (λ (l : List ℕ). old ++ l) (sym (append-nil (spelled (Code (map unplaced (texts_in (n ∷ ns) bytes))))))
+-- of so few bytes, they fit
+bodies_fit : (code : List Body) → FitsLength (vector_bytes body_bytes code) → SectionFits (Code code)
+bodies_fit code few = (vector_fits body_bytes body_filled (λ (b : Body). FitsLength b.bytes) (λ b. block_fits b.bytes) code few, few)
 
--- their count and each of them, behind the section's id and size
-pub coded : (ns bytes old opened counted new : List ℕ) (count front row size : ℕ) → 0 < length ns → sum ns ≤ length bytes → count ≡ length ns → count < 4294967296 → front ≡ length (number_bytes count)
-    → (row ≡ sum_by size_with_count ns) × (row < 2 ^ 32) → (size ≡ front + row) × (front + row < 2 ^ 32)
-    → opened ≡ old ++ 10 ∷ number_bytes size → counted ≡ opened ++ number_bytes count → new ≡ counted ++ row_bytes block_bytes (texts_in ns bytes)
-    → Stand old new (if_any Code (map unplaced (texts_in ns bytes))) × SectionFits (Code (map unplaced (texts_in ns bytes)))
-coded ns bytes old opened counted new count front row size some within many few fronted summed sized begun noted added =
-    let texts : List (List ℕ) = texts_in ns bytes in
+-- Behind the section's id a guess of its size stands, then their count and each of them; and then their size is put in the place of the guess.
+pub coded : (texts : List (List ℕ)) (old opened guessed counted filled new : List ℕ) (guess count size from until : ℕ) → 0 < length texts → count ≡ length texts
+    → opened ≡ old ++ 10 ∷ [] → from ≡ length opened → guessed ≡ opened ++ number_bytes guess → until ≡ length guessed → counted ≡ guessed ++ number_bytes count → filled ≡ counted ++ row_bytes block_bytes texts
+    → size ≡ length filled - until → size < 4294967296 → new ≡ take from filled ++ (number_bytes size ++ drop until filled)
+    → Stand old new (if_any Code (map unplaced texts)) × SectionFits (Code (map unplaced texts))
+coded texts old opened guessed counted filled new guess count size from until some many begun at guess_is behind noted added sized low put =
     let code : List Body = map unplaced texts in
-    let long : map body_len code ≡ ns = texts_long ns bytes within in
-    let told : Measures (Ok size) (vector_bytes body_bytes code) (FitsVector (λ (b : Body). FitsLength b.bytes) code) = bodies_told ns code count front row (Ok size) long many few fronted (summed.0, omega (arith, summed.0, summed.1)) sized in
-    let as_many : count ≡ length texts = many ∙ ap length (sym long) ∙ length-map code body_len ∙ length-map texts unplaced in
-    let content : new ≡ opened ++ vector_bytes body_bytes code =
-    added ∙ ap (λ (l : List ℕ). l ++ row_bytes block_bytes texts) noted ∙ append_assoc opened (number_bytes count) (row_bytes block_bytes texts)
-    ∙ ap (λ (n : ℕ). opened ++ (number_bytes n ++ row_bytes block_bytes texts)) as_many ∙ ap (λ (l : List ℕ). opened ++ l) (vector_map unplaced body_bytes texts) in (
-      one_coded ns bytes old new some (content_behind 10 size (vector_bytes body_bytes code) old opened new told.0 begun content),
-      (told.2, omega (arith, told.0, told.1)),
+    let content : List ℕ = vector_bytes body_bytes code in
+    let holds : number_bytes count ++ row_bytes block_bytes texts ≡ content = ap (λ (n : ℕ). number_bytes n ++ row_bytes block_bytes texts) many ∙ vector_map unplaced body_bytes texts in
+    let is : filled ≡ guessed ++ content =
+    added ∙ ap (λ (l : List ℕ). l ++ row_bytes block_bytes texts) noted ∙ append_assoc guessed (number_bytes count) (row_bytes block_bytes texts) ∙ ap (λ (l : List ℕ). guessed ++ l) holds in
+    let long : size ≡ length content = omega (arith, sized, behind, ap length is, length-append guessed content) in
+    let front : take from filled ≡ opened =
+    ap (take from) (is ∙ ap (λ (l : List ℕ). l ++ content) guess_is ∙ append_assoc opened (number_bytes guess) content) ∙ take_at opened (number_bytes guess ++ content) from (sym at) in
+    let rest : drop until filled ≡ content = ap (drop until) is ∙ drop_at guessed content until (sym behind) in (
+      some_coded texts old new some
+          (put ∙ ap₂ (λ (l r : List ℕ). l ++ (number_bytes size ++ r)) (front ∙ begun) rest ∙ append_assoc old (10 ∷ []) (number_bytes size ++ content)
+          ∙ ap (λ (n : ℕ). old ++ 10 ∷ (number_bytes n ++ content)) long),
+      bodies_fit code (omega (arith, long, low)),
     )
 
 -- ---- data segments

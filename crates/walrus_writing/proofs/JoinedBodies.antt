@@ -1,10 +1,13 @@
 -- Bodies one behind another: one more of them, and each of them again.
-use Rattle.std.proofs.Common.{◌≡◌, ℕ, ◌+◌, ◌-◌, ◌<◌, ◌≤◌, Bool, true, List, [], ◌∷◌, ◌++◌, length, map, take, drop, append_assoc, refl, sym, ap, ap₂, ◌∙◌, subst, arith, Some, None}
-use Rattle.std.specs.Prelude.{Option, slice_index_or, sum}
-use Rattle.std.proofs.lemmas.List.{append-nil, drop-append-le, drop_more, length-append, length-drop, length-map, length-take-le, take-append-le, take_all}
-use Rattle.std.proofs.lemmas.List.Sums.{sum_by-cons, sum_by-drop_more, sum_by_push}
+use Rattle.std.proofs.Common.{◌≡◌, ℕ, ◌+◌, ◌<◌, ◌≤◌, Bool, true, List, [], ◌∷◌, ◌++◌, length, map, take, drop, append_assoc, refl, sym, ap, ap₂, ◌∙◌, subst, arith, Some, None}
+use Rattle.std.specs.Prelude.{Option, slice_index_or, sum_by}
+use Rattle.std.proofs.lemmas.List.{append-nil, drop_at, drop_more, length-append, length-map, length-take-le, take_all, take_at}
+use Rattle.std.proofs.lemmas.List.Sums.{sum_by-cons, sum_by-drop_more}
+use Rattle.wasm_forms.proofs.Items.{row_bytes-append}
+use Rattle.wasm_forms.specs.Spelling.{block_bytes, number_bytes, row_bytes}
 use Rattle.wasm_frames.specs.Record as wire
 use Rattle.wasm_payloads.specs.Spelling.{NameMap}
+use Rattle.wasm_writer.specs.Measuring.{size_with_count}
 use Rattle.walrus_base.specs.Arena.{entries_from}
 use Rattle.walrus_base.specs.Id.{place}
 use Rattle.walrus_base.specs.declared.id.Id.{Id}
@@ -19,43 +22,51 @@ use Rattle.walrus_model.proofs.PlacedTypes.{zip_length}
 use Rattle.walrus_writing.specs.Names.{all_local_names, filled, local_names}
 use Rattle.walrus_writing.specs.Pushed.{with_map}
 use Rattle.walrus_base.proofs.ZipTurns.{zip_turn}
-use Rattle.walrus_writing.specs.Bodies.{AreWritten, texts_in}
+use Rattle.walrus_writing.specs.Bodies.{AppendsBodies, AreWritten, texts_in}
 use Rattle.walrus_writing.specs.Parts.{BodySeen, IsWrittenBody, unplaced}
 
--- ---- texts
-
-no_more : (bytes : List ℕ) → 0 ≡ length bytes → bytes ≡ []
-no_more [] none = refl
-no_more (b ∷ bytes) none = absurd (omega arith)
-
--- one text more
-pub texts_more : (ns bytes text : List ℕ) → sum ns ≡ length bytes → texts_in (ns ++ length text ∷ []) (bytes ++ text) ≡ texts_in ns bytes ++ text ∷ []
-texts_more [] bytes text whole =
-    ap (λ (l : List ℕ). texts_in (length text ∷ []) (l ++ text)) (no_more bytes whole) ∙ ap (λ (l : List ℕ). l ∷ []) (take_all (length text) text (omega arith))
-texts_more (n ∷ ns) bytes text whole =
-    let all : sum (n ∷ ns) ≡ n + sum ns = sum_by-cons (λ (x : ℕ). x) n ns in
-    let within : n ≤ length bytes = omega (arith, all, whole) in
-    let rest : sum ns ≡ length (drop n bytes) = omega (arith, all, whole, length-drop n bytes) in
-    ap₂ (λ (l : List ℕ) (ls : List (List ℕ)). l ∷ ls) (take-append-le n bytes text within)
-    (ap (texts_in (ns ++ length text ∷ [])) (drop-append-le n bytes text within) ∙ texts_more ns (drop n bytes) text rest)
+-- ---- texts, each behind its size
 
 -- the next of the texts that are left
-pub texts_turn : (ns : List ℕ) (i d : ℕ) (rest front behind : List ℕ) (raw new : List wire.Body) (all : List wire.Body) → i < length ns
-    → front ≡ take (slice_index_or ns i d) rest → behind ≡ drop (slice_index_or ns i d) rest → new ≡ raw ++ unplaced front ∷ []
+pub texts_turn : (ns : List ℕ) (i d : ℕ) (rest sized text behind : List ℕ) (raw new : List wire.Body) (all : List wire.Body) → i < length ns
+    → sized ≡ drop (length (number_bytes (slice_index_or ns i d))) rest → text ≡ take (slice_index_or ns i d) sized → behind ≡ drop (slice_index_or ns i d) sized → new ≡ raw ++ unplaced text ∷ []
     → raw ++ map unplaced (texts_in (drop i ns) rest) ≡ all → new ++ map unplaced (texts_in (drop (i + 1) ns) behind) ≡ all
-texts_turn ns i d rest front behind raw new all low first then pushed so =
-    ap₂ (λ (l : List wire.Body) (b : List ℕ). l ++ map unplaced (texts_in (drop (i + 1) ns) b)) pushed then
-    ∙ append_assoc raw (unplaced front ∷ []) (map unplaced (texts_in (drop (i + 1) ns) (drop (slice_index_or ns i d) rest)))
-    ∙ ap (λ (t : List ℕ). raw ++ unplaced t ∷ map unplaced (texts_in (drop (i + 1) ns) (drop (slice_index_or ns i d) rest))) first
+texts_turn ns i d rest sized text behind raw new all low size first then pushed so =
+    let n = slice_index_or ns i d in
+    let left : List wire.Body = map unplaced (texts_in (drop (i + 1) ns) (drop n (drop (length (number_bytes n)) rest))) in
+    ap₂ (λ (l : List wire.Body) (b : List ℕ). l ++ map unplaced (texts_in (drop (i + 1) ns) b)) pushed (then ∙ ap (drop n) size)
+    ∙ append_assoc raw (unplaced text ∷ []) left
+    ∙ ap (λ (t : List ℕ). raw ++ unplaced t ∷ left) (first ∙ ap (take n) size)
     ∙ ap (λ (l : List ℕ). raw ++ map unplaced (texts_in l rest)) (sym (drop_more ns i d low))
     ∙ so
 
--- it stands there, and so do those behind it
-pub text_within : (ns : List ℕ) (i d many : ℕ) → i < length ns → sum (drop i ns) ≤ many → slice_index_or ns i d ≤ many
-text_within ns i d many low within = omega (arith, within, sum_by-drop_more (λ (x : ℕ). x) ns i d low)
+-- its size stands there, and behind that the text, and those behind it
+pub size_within : (ns : List ℕ) (i d size many : ℕ) → i < length ns → size ≡ length (number_bytes (slice_index_or ns i d)) → sum_by size_with_count (drop i ns) ≤ many → size ≤ many
+size_within ns i d size many low is within = omega (arith, is, within, sum_by-drop_more size_with_count ns i d low)
 
-pub texts_within : (ns : List ℕ) (i d many left : ℕ) → i < length ns → sum (drop i ns) ≤ many → left + slice_index_or ns i d ≡ many → sum (drop (i + 1) ns) ≤ left
-texts_within ns i d many left low within rest = omega (arith, within, rest, sum_by-drop_more (λ (x : ℕ). x) ns i d low)
+pub text_within : (ns : List ℕ) (i d size sized many : ℕ) → i < length ns → size ≡ length (number_bytes (slice_index_or ns i d)) → sum_by size_with_count (drop i ns) ≤ many → sized + size ≡ many → slice_index_or ns i d ≤ sized
+text_within ns i d size sized many low is within rest = omega (arith, is, within, rest, sum_by-drop_more size_with_count ns i d low)
+
+pub texts_within : (ns : List ℕ) (i d size sized many left : ℕ) → i < length ns → size ≡ length (number_bytes (slice_index_or ns i d)) → sum_by size_with_count (drop i ns) ≤ many → sized + size ≡ many → left + slice_index_or ns i d ≡ sized → sum_by size_with_count (drop (i + 1) ns) ≤ left
+texts_within ns i d size sized many left low is within rest behind = omega (arith, is, within, rest, behind, sum_by-drop_more size_with_count ns i d low)
+
+-- those that were written, one behind another, are found again
+pub texts_found : (texts : List (List ℕ)) → texts_in (map length texts) (row_bytes block_bytes texts) ≡ texts
+texts_found [] = refl
+texts_found (t ∷ ts) =
+    let n : ℕ = length t in
+    let row : List ℕ = row_bytes block_bytes ts in
+    let sized : drop (length (number_bytes n)) (block_bytes t ++ row) ≡ t ++ row =
+    ap (drop (length (number_bytes n))) (append_assoc (number_bytes n) t row) ∙ drop_at (number_bytes n) (t ++ row) (length (number_bytes n)) refl in
+    ap₂ (λ (l : List ℕ) (ls : List (List ℕ)). l ∷ ls) (ap (take n) sized ∙ take_at t row n refl)
+    (ap (λ (l : List ℕ). texts_in (map length ts) (drop n l)) sized ∙ ap (texts_in (map length ts)) (drop_at t row n refl) ∙ texts_found ts)
+
+-- and are all of the bytes
+pub texts_whole : (texts : List (List ℕ)) → sum_by size_with_count (map length texts) ≡ length (row_bytes block_bytes texts)
+texts_whole [] = refl
+texts_whole (t ∷ ts) =
+    let split : sum_by size_with_count (map length (t ∷ ts)) ≡ size_with_count (length t) + sum_by size_with_count (map length ts) = sum_by-cons size_with_count (length t) (map length ts) in
+    omega (arith, split, texts_whole ts, length-append (block_bytes t) (row_bytes block_bytes ts), length-append (number_bytes (length t)) t)
 
 -- ---- names
 
@@ -90,34 +101,34 @@ module _ (p : Parts) (names : Lookup) (features : Features) where
   abbrev used_of : BodySeen → List (ℕ × ℕ)
   used_of b = b.used
 
-  pub none_written : (first : ℕ) (chosen : Bool) (bytes lengths : List ℕ) (named : List (ℕ × NameMap)) → bytes ≡ [] → lengths ≡ [] → named ≡ [] → AreWritten p names features [] first chosen bytes lengths named
-  none_written first chosen bytes lengths named b l n = record {
+  pub none_written : (first : ℕ) (chosen : Bool) (texts : List (List ℕ)) (named : List (ℕ × NameMap)) → texts ≡ [] → named ≡ [] → AreWritten p names features [] first chosen texts named
+  none_written first chosen texts named t n = record {
     bodies = [];
     are = tt;
-    texts = ap₂ texts_in l b;
-    whole = ap sum l ∙ sym (ap length b);
+    texts_are = t;
     names_are = λ asked. n;
   }
 
-  -- the last one is
-  pub all_written : (order : List (Id FunctionKey)) (i first : ℕ) (chosen : Bool) (bytes lengths : List ℕ) (named : List (ℕ × NameMap)) → length order ≤ i
-      → AreWritten p names features (take i order) first chosen bytes lengths named → AreWritten p names features order first chosen bytes lengths named
-  all_written order i first chosen bytes lengths named most w = subst (λ (l : List (Id FunctionKey)). AreWritten p names features l first chosen bytes lengths named) (take_all i order most) w
+  pub none_asked : (order : List (Id FunctionKey)) (first : ℕ) (chosen : Bool) (named : List (ℕ × NameMap)) → length order ≡ 0 → named ≡ [] → AreWritten p names features order first chosen [] named
+  none_asked [] first chosen named none n = none_written first chosen [] named refl n
+  none_asked (i ∷ is) first chosen named none n = absurd (omega (arith, none))
+
+  -- as many as there are functions
+  pub as_many : (order : List (Id FunctionKey)) (first : ℕ) (chosen : Bool) (texts : List (List ℕ)) (named : List (ℕ × NameMap)) → AreWritten p names features order first chosen texts named → length order ≡ length texts
+  as_many order first chosen texts named w = zip_length IsBody order w.bodies w.are ∙ sym (length-map w.bodies text_of) ∙ ap length (sym w.texts_are)
 
   -- one more is written
-  pub one_written : (order : List (Id FunctionKey)) (i : ℕ) (d : Id FunctionKey) (first : ℕ) (chosen : Bool) (function : ℕ) (bytes lengths : List ℕ) (named : List (ℕ × NameMap)) (new more : List ℕ) (maps : List (ℕ × NameMap)) (size : ℕ) (one : BodySeen)
-      → i < length order → function ≡ first + i → AreWritten p names features (take i order) first chosen bytes lengths named
-      → IsBody (slice_index_or order i d) one → new ≡ bytes ++ one.bytes → size ≡ length one.bytes → more ≡ lengths ++ size ∷ []
+  pub one_written : (order : List (Id FunctionKey)) (i : ℕ) (d : Id FunctionKey) (first : ℕ) (chosen : Bool) (function : ℕ) (texts more : List (List ℕ)) (named maps : List (ℕ × NameMap)) (one : BodySeen)
+      → i < length order → function ≡ first + i → AreWritten p names features (take i order) first chosen texts named
+      → IsBody (slice_index_or order i d) one → more ≡ texts ++ one.bytes ∷ []
       → (chosen ≡ true → maps ≡ with_map named function (local_names (locals p.locals.now) one.used))
-      → AreWritten p names features (take (i + 1) order) first chosen new more maps
-  one_written order i d first chosen function bytes lengths named new more maps size one low counted w is appended sized pushed noted =
-      let more_is : more ≡ lengths ++ length one.bytes ∷ [] = pushed ∙ ap (λ (n : ℕ). lengths ++ n ∷ []) sized in
+      → AreWritten p names features (take (i + 1) order) first chosen more maps
+  one_written order i d first chosen function texts more named maps one low counted w is pushed noted =
       let so_many : i ≡ length w.bodies = sym (length-take-le i order (omega (arith, low))) ∙ zip_length IsBody (take i order) w.bodies w.are in
       record {
         bodies = w.bodies ++ one ∷ [];
         are = zip_turn IsBody order i d w.bodies one low w.are is;
-        texts = ap₂ texts_in more_is appended ∙ texts_more lengths bytes one.bytes w.whole ∙ ap (λ (l : List (List ℕ)). l ++ one.bytes ∷ []) w.texts ∙ sym (map_snoc text_of w.bodies one);
-        whole = omega (arith, ap sum more_is, sum_by_push (λ (x : ℕ). x) lengths (length one.bytes), w.whole, ap length appended, length-append bytes one.bytes);
+        texts_are = pushed ∙ ap (λ (l : List (List ℕ)). l ++ one.bytes ∷ []) w.texts_are ∙ sym (map_snoc text_of w.bodies one);
         names_are = λ asked.
             noted asked
             ∙ ap₂ (λ (l : List (ℕ × NameMap)) (k : ℕ). with_map l k (local_names (locals p.locals.now) one.used)) (w.names_are asked) counted
@@ -125,9 +136,44 @@ module _ (p : Parts) (names : Lookup) (features : Features) where
             ∙ ap (all_local_names (locals p.locals.now) first) (sym (map_snoc used_of w.bodies one));
       }
 
--- how many bytes were appended
-pub grown : (before after : ℕ) (old new text : List ℕ) → before ≡ length old → after ≡ length new → new ≡ old ++ text → after - before ≡ length text
-grown before after old new text b a is = omega (arith, b, a, ap length is, length-append old text)
+  -- ---- each behind its size
 
-pub no_fewer : (before after : ℕ) (old new text : List ℕ) → before ≡ length old → after ≡ length new → new ≡ old ++ text → before ≤ after
-no_fewer before after old new text b a is = omega (arith, b, a, ap length is, length-append old text)
+  module _ (first : ℕ) (chosen asked : Bool) where
+    pub none_appended : (named : List (ℕ × NameMap)) (lengths old : List ℕ) → named ≡ [] → lengths ≡ [] → AppendsBodies p names features [] first chosen asked named lengths old old
+    none_appended named lengths old n l = record { texts = []; written = none_written first chosen [] named refl n; lengths_are = λ so. l; stand = sym (append-nil old) }
+
+    pub all_appended : (order : List (Id FunctionKey)) (i : ℕ) (named : List (ℕ × NameMap)) (lengths old new : List ℕ) → length order ≤ i
+        → AppendsBodies p names features (take i order) first chosen asked named lengths old new → AppendsBodies p names features order first chosen asked named lengths old new
+    all_appended order i named lengths old new most w = subst (λ (l : List (Id FunctionKey)). AppendsBodies p names features l first chosen asked named lengths old new) (take_all i order most) w
+
+    -- one more is made where none was, and appended
+    pub one_appended : (order : List (Id FunctionKey)) (i : ℕ) (d : Id FunctionKey) (function : ℕ) (named maps : List (ℕ × NameMap)) (lengths more : List ℕ) (size : ℕ) (cleared made old now new : List ℕ) (one : BodySeen)
+        → i < length order → function ≡ first + i → AppendsBodies p names features (take i order) first chosen asked named lengths old now
+        → IsBody (slice_index_or order i d) one → cleared ≡ [] → made ≡ cleared ++ one.bytes → new ≡ now ++ block_bytes made → size ≡ length made
+        → (asked ≡ true → more ≡ lengths ++ size ∷ [])
+        → (chosen ≡ true → maps ≡ with_map named function (local_names (locals p.locals.now) one.used))
+        → AppendsBodies p names features (take (i + 1) order) first chosen asked maps more old new
+    one_appended order i d function named maps lengths more size cleared made old now new one low counted w is none is_made added long pushed noted =
+        let same : made ≡ one.bytes = is_made ∙ ap (λ (l : List ℕ). l ++ one.bytes) none in
+        record {
+          texts = w.texts ++ one.bytes ∷ [];
+          written = one_written order i d first chosen function w.texts (w.texts ++ one.bytes ∷ []) named maps one low counted w.written is refl noted;
+          lengths_are = λ so.
+              pushed so ∙ ap₂ (λ (ls : List ℕ) (n : ℕ). ls ++ n ∷ []) (w.lengths_are so) (long ∙ ap length same)
+              ∙ sym (map_snoc (λ (t : List ℕ). length t) w.texts one.bytes);
+          stand =
+              added ∙ ap (λ (l : List ℕ). now ++ block_bytes l) same
+              ∙ ap (λ (l : List ℕ). l ++ block_bytes one.bytes) w.stand ∙ append_assoc old (row_bytes block_bytes w.texts) (block_bytes one.bytes)
+              ∙ ap (λ (l : List ℕ). old ++ l) (ap (λ (l : List ℕ). row_bytes block_bytes w.texts ++ l) (sym (append-nil (block_bytes one.bytes))) ∙ sym (row_bytes-append block_bytes w.texts (one.bytes ∷ [])));
+        }
+
+    -- behind nothing they are found again by their lengths
+    pub found : (order : List (Id FunctionKey)) (named : List (ℕ × NameMap)) (lengths old new : List ℕ) → asked ≡ true → old ≡ [] → AppendsBodies p names features order first chosen asked named lengths old new
+        → AreWritten p names features order first chosen (texts_in lengths new) named
+    found order named lengths old new so none w =
+        subst (λ (ts : List (List ℕ)). AreWritten p names features order first chosen ts named)
+        (sym (ap₂ texts_in (w.lengths_are so) (w.stand ∙ ap (λ (l : List ℕ). l ++ row_bytes block_bytes w.texts) none) ∙ texts_found w.texts)) w.written
+
+    pub found_within : (order : List (Id FunctionKey)) (named : List (ℕ × NameMap)) (lengths old new : List ℕ) → asked ≡ true → AppendsBodies p names features order first chosen asked named lengths old new → sum_by size_with_count lengths ≤ length new
+    found_within order named lengths old new so w =
+        omega (arith, ap (sum_by size_with_count) (w.lengths_are so), texts_whole w.texts, ap length w.stand, length-append old (row_bytes block_bytes w.texts))

@@ -25,7 +25,6 @@ pub mod JoinedBodies
 pub mod LastPlaces
 pub mod LocatedBodies
 pub mod LocatedLoops
-pub mod NameRefusals
 mod NamesAre
 pub mod NamesSpelled
 pub mod NamesStand
@@ -40,6 +39,7 @@ pub mod OwnCustoms
 pub mod OwnPlaces
 pub mod OwnSaid
 pub mod Parted
+pub mod PayloadRefusals
 pub mod Permuted
 pub mod Placed
 pub mod PlacedInTurn
@@ -49,6 +49,7 @@ pub mod RefusesAll
 pub mod RefusesLarge
 pub mod RefusesUnspelled
 pub mod Refusing
+pub mod Replaced
 pub mod SameBodies
 pub mod Sections
 pub mod Spelled

@@ -40,7 +40,7 @@ use Rattle.walrus_base.proofs.Standing.{got_where, some_inj, some_of, zip_right}
 use Rattle.walrus_plan.specs.Brought.{import_numbers}
 use Rattle.walrus_theorem.specs.Refused.{IsSayable}
 use Rattle.walrus_theorem.proofs.SameItems.{with_own}
-use Rattle.walrus_writing.specs.Customs.{Task, chosen_producers, made_sections, payload_of, sections_made}
+use Rattle.walrus_writing.specs.Customs.{Task, chosen_producers, payload_of, sections_made}
 use Rattle.walrus_writing.specs.Emitted.{IsWrittenWith}
 use Rattle.walrus_writing.specs.Located.{AreOffsets, AreSorted, LastPlaces, all_placed_from, by_ends, ends_of, lasts}
 use Rattle.walrus_writing.specs.Parts.{HasBytes, unplaced}
@@ -56,6 +56,7 @@ use Rattle.walrus_writing.proofs.OneTransform.{parts_same}
 use Rattle.walrus_writing.proofs.Parted.{body_among, own_distinct}
 use Rattle.walrus_writing.proofs.Placing.{Pair, also_there, offsets_at, offsets_in, offsets_none}
 use Rattle.walrus_writing.proofs.TransformTrue.{body_there, is_transform}
+use Rattle.walrus_writing.proofs.WritesSections.{none_made}
 use Rattle.walrus_writing.proofs.WrittenAs.{number_is, renaming_of}
 use Rattle.walrus_groups.proofs.TypeLists.{got_right as behind_at}
 use Rattle.walrus_model.proofs.Looked.{got_contains as is_there}
@@ -71,13 +72,6 @@ filter_twice test [] = refl
 filter_twice test (x ∷ xs) = filter_one test (test x) x (filter test xs) refl (filter_twice test xs)
 
 -- ---- sections of dynamic linking
-
--- those that are made are none
-none_made : (names producers : List ℕ) → group_of Dylink (made_sections names producers) ≡ []
-none_made [] [] = refl
-none_made [] (b ∷ bs) = refl
-none_made (a ∷ as_) [] = refl
-none_made (a ∷ as_) (b ∷ bs) = refl
 
 dylinks_same : (sections : List wire.Custom) (names : NameText) (fields : List ProducerField) → group_of Dylink (sections ++ sections_made names fields) ≡ group_of Dylink (group_of Dylink sections)
 dylinks_same sections names fields =

@@ -1,13 +1,14 @@
 -- A section written from records, and the sections of a module one behind the other.
-use Rattle.std.proofs.Common.{◌≡◌, ℕ, List, [], ◌++◌, map, refl, sym, ap, ◌∙◌, subst}
-use Rattle.std.specs.Prelude.{All, IfSome, Option, Some}
+use Rattle.std.proofs.Common.{◌≡◌, ℕ, List, [], ◌∷◌, ◌++◌, map, refl, sym, ap, ◌∙◌, subst}
+use Rattle.std.specs.Prelude.{All, IfSome, Option, Some, None}
 use Rattle.std.proofs.lemmas.List.{append-nil}
+use Rattle.std.proofs.lemmas.List.Elements.{filter-append}
 use Rattle.wasm_entries.specs.Record.{Group, data_entry, element_entry, export_entry, global_entry, import_entry, table_entry}
 use Rattle.wasm_entries.specs.declared.record.RawLimits.{RawLimits}
-use Rattle.wasm_frames.specs.Frames.{Section, header, CustomSection, Types, Imports, Functions, Tables, Memories, Globals, Exports, Start, Elements, Code, DataSegments, DataCount, Tags}
+use Rattle.wasm_frames.specs.Frames.{Section, CustomSection, Types, Imports, Functions, Tables, Memories, Globals, Exports, Start, Elements, Code, DataSegments, DataCount, Tags}
 use Rattle.wasm_frames.specs.Record as wire
-use Rattle.wasm_writer.specs.Spelling.{SectionFits, all_spelled, listed, spelled}
-use Rattle.wasm_wire.specs.ModuleSpelling.{before_code, customs_behind, customs_of, group_of, if_any, if_given, module_bytes, sections_in_order, standard_sections}
+use Rattle.wasm_writer.specs.Spelling.{SectionFits, listed, spelled}
+use Rattle.wasm_wire.specs.ModuleSpelling.{before_code, customs_behind, customs_of, group_of, if_any, if_given, is_in, standard_sections}
 use Rattle.wasm_wire.specs.declared.written.CustomGroup.TheVariants as group
 use Rattle.wasm_wire.proofs.ModuleWritten.{grown, listed_first, listed_grown}
 use Rattle.walrus_base.specs.Arena.{items}
@@ -23,6 +24,8 @@ use Rattle.walrus_items.specs.Globals.{globals}
 use Rattle.walrus_items.specs.Memories.{memories}
 use Rattle.walrus_items.specs.Tables.{tables}
 use Rattle.walrus_items.specs.Tags.{tags}
+use Rattle.walrus_writing.specs.Customs.{made_sections, sections_of}
+use Rattle.walrus_writing.specs.declared.customs.Payloads.{Payloads}
 use Rattle.walrus_writing.specs.BySection.{AreElements, AreExports, AreGlobals, AreImports, AreMemories, AreSegments, AreTables, AreTags, Stand, Told, Writes, WritesAll, WritesBack, WritesFront, told_module}
 
 -- ---- one section
@@ -128,16 +131,26 @@ all_stand p names functions start count bodies customs w0 w1 w2 w3 w4 w5 w6 w7 w
       };
     }
 
--- those before the code, and those from the code on
-pub both_stand : (p : Parts) (names : Lookup) (functions : List ℕ) (start count : Option ℕ) (bodies : List wire.Body) (customs : List wire.Custom) (old front bytes all : List ℕ)
-    → WritesFront p names functions start count customs old front → bytes ≡ front → WritesBack p names bodies customs bytes all → WritesAll p names functions start count bodies customs old all
-both_stand p names functions start count bodies customs old front bytes all f same back =
-    let b = subst (λ (l : List ℕ). WritesBack p names bodies customs l all) same back in
-    all_stand p names functions start count bodies customs old f.behind_dylinks f.behind_types f.behind_imports f.behind_functions f.behind_tables f.behind_memories f.behind_tags f.behind_globals f.behind_exports f.behind_start f.behind_elements front b.behind_code b.behind_segments b.behind_names b.behind_producers all
-    f.fit f.dylinks_stand f.types_stand f.imports_stand f.functions_stand f.tables_stand f.memories_stand f.tags_stand f.globals_stand f.exports_stand f.start_stands f.elements_stand f.count_stands b.code_stands b.segments_stand b.names_stand b.producers_stand b.others_stand
+-- those that are made are none of dynamic linking
+pub none_made : (names producers : List ℕ) → group_of group.Dylink (made_sections names producers) ≡ []
+none_made [] [] = refl
+none_made [] (b ∷ bs) = refl
+none_made (a ∷ as_) [] = refl
+none_made (a ∷ as_) (b ∷ bs) = refl
 
--- ---- the bytes
+same_dylinks : (own : List wire.Custom) (payloads : Option Payloads) → group_of group.Dylink own ≡ group_of group.Dylink (own ++ sections_of payloads)
+same_dylinks own None = ap (group_of group.Dylink) (sym (append-nil own))
+same_dylinks own (Some made) =
+    sym
+    (filter-append (λ (c : wire.Custom). is_in group.Dylink c.name) own (made_sections made.names.items made.producers.items)
+    ∙ ap (λ (l : List wire.Custom). group_of group.Dylink own ++ l) (none_made made.names.items made.producers.items)
+    ∙ append-nil (group_of group.Dylink own))
 
--- they are those of a module, all of whose sections stand behind the header
-pub whole_bytes : (m : wire.Module) (bytes first front all : List ℕ) → first ≡ [] → front ≡ first ++ header → Stand front all (sections_in_order m) → bytes ≡ all → bytes ≡ module_bytes m
-whole_bytes m bytes first front all none headed stand same = same ∙ stand ∙ ap (λ (l : List ℕ). l ++ all_spelled (sections_in_order m)) (headed ∙ ap (λ (l : List ℕ). l ++ header) none)
+-- those before the code, the code, and those behind it, with custom sections that are made
+pub in_turn : (p : Parts) (names : Lookup) (functions : List ℕ) (start count : Option ℕ) (bodies : List wire.Body) (own : List wire.Custom) (payloads : Option Payloads) (old front coded all : List ℕ)
+    → WritesFront p names functions start count own old front → Stand front coded (if_any Code bodies) × SectionFits (Code bodies) → WritesBack p names (own ++ sections_of payloads) coded all
+    → WritesAll p names functions start count bodies (own ++ sections_of payloads) old all
+in_turn p names functions start count bodies own payloads old front coded all f code b =
+    all_stand p names functions start count bodies (own ++ sections_of payloads) old f.behind_dylinks f.behind_types f.behind_imports f.behind_functions f.behind_tables f.behind_memories f.behind_tags f.behind_globals f.behind_exports f.behind_start f.behind_elements front coded b.behind_segments b.behind_names b.behind_producers all
+    b.fit (subst (λ (l : List wire.Custom). Stand old f.behind_dylinks (map CustomSection l)) (same_dylinks own payloads) f.dylinks_stand)
+    f.types_stand f.imports_stand f.functions_stand f.tables_stand f.memories_stand f.tags_stand f.globals_stand f.exports_stand f.start_stands f.elements_stand f.count_stands code b.segments_stand b.names_stand b.producers_stand b.others_stand

@@ -9,15 +9,22 @@ use Rattle.wasm_entries.specs.declared.record.RawTable.{RawTable}
 use Rattle.wasm_entries.specs.Record.{Group, data_entry, element_entry, export_entry, global_entry, import_entry, table_entry}
 use Rattle.wasm_entries.specs.Spelling.{DataStands, ElementStands, GlobalStands, TableStands}
 use Rattle.wasm_entries.specs.TypeSpelling.{LimitsStand}
-use Rattle.wasm_frames.specs.Frames.{Section, CustomSection, Types, Imports, Functions, Tables, Memories, Globals, Exports, Start, Elements, Code, DataSegments, DataCount, Tags}
+use Rattle.wasm_frames.specs.Frames.{Section, header, CustomSection, Types, Imports, Functions, Tables, Memories, Globals, Exports, Start, Elements, Code, DataSegments, DataCount, Tags}
 use Rattle.wasm_frames.specs.Record as wire
 use Rattle.wasm_writer.specs.Spelling.{SectionFits, all_spelled, listed}
 use Rattle.wasm_wire.specs.ModuleSpelling.{ModuleFits, group_of, if_any, if_given, sections_in_order}
 use Rattle.wasm_wire.specs.declared.written.CustomGroup.TheVariants.{Dylink, Names, Producers, Others}
-use Rattle.std.specs.Prelude.{ℕ, List, ◌++◌, Option, Some, None, IfSome, All, map, ◌≡◌, ⊤, Result, Ok, Err}
+use Rattle.std.specs.Prelude.{ℕ, Bool, List, ◌++◌, Option, Some, None, IfSome, All, map, option_and_then, option_map, ◌≡◌, ⊤, Result, Ok, Err}
 use Rattle.std.specs.List.{AllZip}
 use Rattle.std.specs.Str.{IsUtf8}
+use Rattle.wasm_payloads.specs.Spelling.{NameMap}
 use Rattle.walrus_base.specs.Arena.{entries, items}
+use Rattle.walrus_base.specs.Id.{place}
+use Rattle.walrus_base.specs.Operators as spaces
+use Rattle.walrus_base.specs.declared.id.Id.{Id}
+use Rattle.walrus_base.specs.declared.keys.FunctionKey.{FunctionKey}
+use Rattle.walrus_bodies.specs.declared.features.Features.{Features}
+use Rattle.walrus_code.specs.Indices.{index_of}
 use Rattle.walrus_base.specs.ModuleTypes.{type_slots}
 use Rattle.walrus_code.specs.Names.{Lookup}
 use Rattle.walrus_constants.specs.Named.{named_global, named_table}
@@ -38,10 +45,12 @@ use Rattle.walrus_items.specs.Tags.{TagValue, tags}
 use Rattle.walrus_model.specs.Abstract as abstract
 use Rattle.walrus_model.specs.Sections as said
 use Rattle.walrus_plan.specs.Brought.{own_of}
+use Rattle.walrus_plan.specs.declared.prepared.Prepared.{Prepared}
+use Rattle.walrus_writing.specs.Bodies.{AreWritten}
 use Rattle.walrus_writing.specs.Elements.{ChoosesFlag, IsSpelledElement}
 use Rattle.walrus_writing.specs.Globals.{IsSpelledGlobal}
 use Rattle.walrus_writing.specs.Imported.{IsEntryAt}
-use Rattle.walrus_writing.specs.Parts.{export_with_index, memory_limits, tag_index}
+use Rattle.walrus_writing.specs.Parts.{export_with_index, memory_limits, tag_index, type_index, unplaced}
 use Rattle.walrus_writing.specs.Records.{sections_with}
 use Rattle.walrus_writing.specs.Segments.{IsSpelledData}
 use Rattle.walrus_writing.specs.Tables.{IsSpelledTable}
@@ -101,9 +110,9 @@ pub record Writes {W E : Type 0} (make : List E → Section) (view : List W → 
 abbrev pub Stand : List ℕ → List ℕ → List Section → Type 0
 Stand old new ss = new ≡ old ++ all_spelled ss
 
--- the sections before the code stand one behind the other behind what was there, and each fits, the custom sections among them
+-- the sections before the code stand one behind the other behind what was there, and each fits but for the custom sections, of which nothing is
+-- said
 pub record WritesFront (p : Parts) (names : Lookup) (functions : List ℕ) (start count : Option ℕ) (customs : List wire.Custom) (old new : List ℕ) : Type 0 where
-  pub fit : All (λ c. SectionFits (CustomSection c)) customs
   pub behind_dylinks : List ℕ
   pub dylinks_stand : Stand old behind_dylinks (map CustomSection (group_of Dylink customs))
   pub behind_types : List ℕ
@@ -128,12 +137,24 @@ pub record WritesFront (p : Parts) (names : Lookup) (functions : List ℕ) (star
   pub elements_stand : Writes Elements (map element_entry) (AreElements names (parts_view p).tables (items (elements p.elements.now))) behind_start behind_elements
   pub count_stands : Stand behind_elements new (if_given DataCount count) × IfSome count (λ n. SectionFits (DataCount n))
 
--- and so do those from the code on
-pub record WritesBack (p : Parts) (names : Lookup) (bodies : List wire.Body) (customs : List wire.Custom) (old new : List ℕ) : Type 0 where
-  pub behind_code : List ℕ
-  pub code_stands : Stand old behind_code (if_any Code bodies) × SectionFits (Code bodies)
+-- those of the functions of a plan of the parts stand behind the header
+pub record IsFront (p : Parts) (prepared : Prepared) (customs : List wire.Custom) (bytes : List ℕ) : Type 0 where
+  pub functions : List ℕ
+  pub functions_are : map Some functions ≡ map (λ id. option_and_then (type_index (index_of prepared.indices)) ((parts_view p).functions (place id))) prepared.plan.own_functions.items
+  pub stand : WritesFront p (index_of prepared.indices) functions (option_and_then (index_of prepared.indices spaces.Functions) (option_map place p.start)) prepared.data_count customs header bytes
+
+-- The code section of these functions, the first of which has this index, stands behind what was there, and it fits; and these are the names of
+-- their used locals, where they are chosen.
+pub record WritesCode (p : Parts) (names : Lookup) (features : Features) (order : List (Id FunctionKey)) (first : ℕ) (chosen : Bool) (named : List (ℕ × NameMap)) (old new : List ℕ) : Type 0 where
+  pub texts : List (List ℕ)
+  pub written : AreWritten p names features order first chosen texts named
+  pub stands : Stand old new (if_any Code (map unplaced texts)) × SectionFits (Code (map unplaced texts))
+
+-- the sections behind the code stand one behind the other behind what was there, and each fits, all custom sections of the module among them
+pub record WritesBack (p : Parts) (names : Lookup) (customs : List wire.Custom) (old new : List ℕ) : Type 0 where
+  pub fit : All (λ c. SectionFits (CustomSection c)) customs
   pub behind_segments : List ℕ
-  pub segments_stand : Writes DataSegments (map data_entry) (AreSegments names (items (data_segments p.data_.now))) behind_code behind_segments
+  pub segments_stand : Writes DataSegments (map data_entry) (AreSegments names (items (data_segments p.data_.now))) old behind_segments
   pub behind_names : List ℕ
   pub names_stand : Stand behind_segments behind_names (map CustomSection (group_of Names customs))
   pub behind_producers : List ℕ

@@ -58,6 +58,12 @@ abbrev pub AreSpelled : NameText → List ProducerField → Option Payloads → 
 AreSpelled names fields (Some made) = (made.names.items ≡ names_bytes names) × (made.producers.items ≡ payload_of fields)
 AreSpelled names fields None = NamesFit names → ProducersFit (map raw_field fields) → ⊥
 
+-- so they are, and nothing but lack of memory is told
+abbrev pub SpellsBoth : NameText → List ProducerField → Result (Option Payloads) Error → Type 0
+SpellsBoth names fields (Ok made) = AreSpelled names fields made
+SpellsBoth names fields (Err (errors.Memory e)) = ⊤
+SpellsBoth names fields (Err _) = ⊥
+
 -- the sections of the payloads that are there
 abbrev pub sections_of : Option Payloads → List wire.Custom
 sections_of None = []

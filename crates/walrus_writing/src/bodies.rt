@@ -1,6 +1,8 @@
 //! The bodies of functions, one behind another ("Binary Format > Modules > Code Section"), and the names of their used locals.
-ghost use Rattle.std.specs.Prelude.{◌≡◌, ◌<◌, ◌≤◌, ◌+◌, ◌^◌, ◌++◌, ℕ, List, All, IfErr, IfOk, IsOkUnless, OnOk, true, length, map, option_map, sum};
+ghost use Rattle.std.specs.Prelude.{[], ◌∷◌, ◌≡◌, ◌<◌, ◌≤◌, ◌+◌, ◌^◌, ◌++◌, ℕ, List, All, IfErr, IfOk, IsOkUnless, OnOk, true, length, map, option_map, sum_by};
+ghost use Rattle.wasm_forms.specs.Spelling.{block_bytes};
 ghost use Rattle.wasm_frames.specs.Record.{body_record};
+ghost use Rattle.wasm_writer.specs.Measuring.{size_with_count};
 ghost use Rattle.wasm_payloads.specs.Lent.{locals_entry};
 ghost use Rattle.walrus_base.specs.Id.{place};
 ghost use Rattle.walrus_base.specs.Locals.{locals};
@@ -9,7 +11,7 @@ ghost use Rattle.walrus_items.specs.Functions.{functions};
 ghost use Rattle.walrus_writing.specs.Names.{local_names, used_listed};
 ghost use Rattle.walrus_writing.specs.Pushed.{with_map};
 ghost use Rattle.walrus_items.specs.Errors.{out_of_memory};
-ghost use Rattle.walrus_writing.specs.Bodies.{AreWritten, appended_seen, texts_in, texts_of};
+ghost use Rattle.walrus_writing.specs.Bodies.{AppendsBodies, AreWritten, appended_seen, texts_in, texts_of};
 ghost use Rattle.walrus_writing.specs.Parts.{local_in, unplaced, IsIndexed, IsWrittenBody};
 ghost use Rattle.walrus_writing.specs.Refusals.{RefusesBodies};
 
@@ -22,8 +24,10 @@ use walrus_code::IdsToIndices;
 use walrus_contents::Parts;
 use walrus_functions::{AppendedBody, append_body, likely_length};
 use walrus_items::{Error, FunctionKind, ModuleFunctions, Result};
+use wasm_forms::write_u64;
 use wasm_frames::RawBody;
 use wasm_payloads::RawLocals;
+use wasm_writer::number_len;
 
 /// What bodies are written under: the module's parts, the indices of its items, and the proposals that bodies may use.
 #[derive(Clone, Copy)]
@@ -38,6 +42,15 @@ pub struct Indexed<'a, 'b, 'c> {
 pub struct NamedBodies<'a> {
     /// The bodies.
     pub bodies: WrittenBodies,
+    /// The names, of each function that has some.
+    pub named: Vec<RawLocals<'a>>,
+}
+
+/// What is told of bodies that are appended: how many bytes each has, and the names of their used locals.
+#[derive(Drop)]
+pub struct ToldBodies<'a> {
+    /// The lengths, where they are asked for.
+    pub lengths: Vec<usize>,
     /// The names, of each function that has some.
     pub named: Vec<RawLocals<'a>>,
 }
@@ -61,8 +74,8 @@ fn kept_length(funcs: &ModuleFunctions, order: &[FunctionId]) -> Option<usize> {
     Some(first.text()?.code_length())
 }
 
-// For how many bytes to reserve memory for the bodies of these functions.
-fn likely_lengths(funcs: &ModuleFunctions, order: &[FunctionId]) -> usize {
+/// For how many bytes to reserve memory for the bodies of these functions.
+pub fn likely_lengths(funcs: &ModuleFunctions, order: &[FunctionId]) -> usize {
     if let Some(kept) = kept_length(funcs, order) {
         return kept.saturating_add(order.len().saturating_mul(4));
     }
@@ -132,6 +145,56 @@ fn push_names<'a>(
     push_local_names(alloc, parts.locals, function, order, used, to)
 }
 
+// Appends a body behind its size; and puts its length behind others, where these are asked for.
+fn append_sized(to: &mut Vec<u8>, body: &[u8], asked: bool, lengths: &mut Vec<usize>) -> Result<()>
+    ensures value { OnOk result (to.new.items ≡ to.old.items ++ block_bytes body.now) }
+    ensures told { asked ≡ true
+        → OnOk result (lengths.new.items ≡ lengths.old.items ++ length body.now ∷ []) }
+    ensures fails { IsOkUnless result out_of_memory }
+{
+    write_u64(to, body.len() as u64)?;
+    to.extend_from_slice(body)?;
+    if !asked {
+        return Ok(());
+    }
+    lengths.push(body.len())?;
+    Ok(())
+}
+
+/// Appends each function's body behind its size, in the order of the functions, of which the first has this index; and tells the names of their
+/// used locals, where these are chosen, and the lengths of the bodies, where they are asked for. Each body is made in memory of its own, which
+/// is used again for the next. Refused, what was appended means nothing.
+pub fn append_bodies<'a>(
+    alloc: Global,
+    to: &mut Vec<u8>,
+    under: Indexed<'a, '_, '_>,
+    order: &[FunctionId],
+    first: u32,
+    chosen: bool,
+    asked: bool,
+) -> Result<ToldBodies<'a>>
+    requires indexed { All (λ id.
+        IsIndexed under.parts (index_of under.indices.now) under.features.now (place id)) order.now }
+    requires few { first + length order.now < 2 ^ 32 }
+    ensures value { IfOk result (λ told. AppendsBodies under.entry.parts (index_of under.entry.indices.now)
+        under.entry.features.now order.now first chosen asked
+        (map locals_entry told.named.items) told.lengths.items to.old.items to.new.items) }
+    ensures fails { IfErr result (RefusesBodies under.entry.parts under.entry.features.now) }
+{
+    let mut one = Vec::new(alloc);
+    let mut lengths = Vec::new(alloc);
+    let mut named = Vec::new(alloc);
+    let mut function = first;
+    'order: for id in order {
+        one.clear();
+        let body = append_one(alloc, under, *id, &mut one)?;
+        append_sized(to, one.as_slice(), asked, &mut lengths)?;
+        push_names(alloc, under.parts, chosen, function, &body, &mut named)?;
+        function += 1;
+    }
+    Ok(ToldBodies { lengths, named })
+}
+
 /// Each function's body, in the order of the functions, of which the first has this index; and the names of their used locals, where these are
 /// chosen.
 pub fn written_bodies<'a>(
@@ -146,30 +209,24 @@ pub fn written_bodies<'a>(
     requires few { first + length order.now < 2 ^ 32 }
     ensures value { IfOk result (λ written. AreWritten under.entry.parts
         (index_of under.entry.indices.now) under.entry.features.now order.now first chosen
-        written.bodies.bytes.items written.bodies.lengths.items (map locals_entry written.named.items)) }
+        (texts_of written.bodies) (map locals_entry written.named.items)) }
     ensures fails { IfErr result (RefusesBodies under.entry.parts under.entry.features.now) }
 {
     let mut bytes = Vec::with_capacity(alloc, likely_lengths(under.parts.funcs, order))?;
-    let mut lengths = Vec::with_capacity(alloc, order.len())?;
-    let mut named = Vec::new(alloc);
-    let mut function = first;
-    'order: for id in order {
-        let before = bytes.len();
-        let body = append_one(alloc, under, *id, &mut bytes)?;
-        let size = bytes.len() - before;
-        lengths.push(size)?;
-        push_names(alloc, under.parts, chosen, function, &body, &mut named)?;
-        function += 1;
-    }
+    let told = append_bodies(alloc, &mut bytes, under, order, first, chosen, true)?;
+    let bodies = WrittenBodies {
+        bytes,
+        lengths: told.lengths,
+    };
     Ok(NamedBodies {
-        bodies: WrittenBodies { bytes, lengths },
-        named,
+        bodies,
+        named: told.named,
     })
 }
 
-// The records of bodies of these lengths, with which bytes begin.
+// The records of bodies of these lengths, with which bytes begin, each behind its size.
 fn raw_texts<'a>(alloc: Global, lengths: &[usize], bytes: &'a [u8]) -> Result<Vec<RawBody<'a>>>
-    requires within { sum lengths.now ≤ length bytes.now }
+    requires within { sum_by size_with_count lengths.now ≤ length bytes.now }
     ensures value { IfOk result (λ raw. map body_record raw.items
         ≡ map unplaced (texts_in lengths.now bytes.now)) }
     ensures fails { IsOkUnless result out_of_memory }
@@ -177,7 +234,8 @@ fn raw_texts<'a>(alloc: Global, lengths: &[usize], bytes: &'a [u8]) -> Result<Ve
     let mut raw = Vec::with_capacity(alloc, lengths.len())?;
     let mut rest = bytes;
     'lengths: for size in lengths {
-        let (text, behind) = rest.split_at(*size);
+        let (_size, sized) = rest.split_at(number_len(*size as u64) as usize);
+        let (text, behind) = sized.split_at(*size);
         raw.push(RawBody {
             start: 0,
             bytes: text,

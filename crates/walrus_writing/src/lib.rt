@@ -9,6 +9,7 @@
 mod behind;
 mod bodies;
 mod by_section;
+mod code;
 mod customs;
 mod data;
 mod elements;
@@ -25,6 +26,7 @@ mod names;
 mod offsets;
 mod one_section;
 mod producers;
+mod room;
 mod start;
 mod tables;
 mod tags;

@@ -20,7 +20,7 @@ ghost use Rattle.walrus_writing.specs.declared.write.Choices.{Choices};
 
 use crate::bodies::{Indexed, raw_bodies, written_bodies};
 use crate::by_section::write_by_section;
-use crate::customs::{Payloads, both_payloads, raw_customs};
+use crate::customs::{Payloads, made_payloads, raw_customs};
 use crate::data::raw_data;
 use crate::elements::raw_elements;
 use crate::exports::raw_exports;
@@ -29,8 +29,7 @@ use crate::globals::raw_globals;
 use crate::imports::raw_imports;
 use crate::joined::WrittenBodies;
 use crate::memories::raw_memories;
-use crate::names::{first_index, names_payload};
-use crate::producers::producers_payload;
+use crate::names::first_index;
 use crate::start::raw_start;
 use crate::tables::raw_tables;
 use crate::tags::raw_tags;
@@ -81,9 +80,7 @@ fn make(alloc: Global, parts: Parts<'_>, prepared: &Prepared, choices: &Choices)
     let order = plan.own_functions.as_slice();
     let first = first_index(plan);
     let written = written_bodies(alloc, under, order, first, choices.names)?;
-    let names = names_payload(alloc, parts, plan, written.named, choices.names)?;
-    let producers = producers_payload(alloc, parts.producers, choices.producers)?;
-    let payloads = both_payloads(names, producers);
+    let payloads = made_payloads(alloc, parts, plan, written.named, choices)?;
     Ok(Made {
         bodies: written.bodies,
         payloads,
@@ -191,9 +188,9 @@ fn order_asked(alloc: Global, plan: Plan, asked: bool) -> Vec<FunctionId>
 }
 
 // The bytes of items that name nothing dead, in the order of their plan, by the indices that it gives, and where the bodies of functions stand
-// in them, where that is asked for. Of the plan only the order of functions is left, if that, before the records that don't need it are made.
-// Where no transform is asked for, the module is written section by section. If that gives up, or one is asked for, all records are made
-// first, the indices are dropped before the bytes, and a refusal comes with its cause.
+// in them, where that is asked for. Where no transform is asked for, the module is written section by section. If that gives up, or one is asked
+// for, all records are made first, and a refusal comes with its cause: of the plan only the order of functions is left, if that, before the
+// records that don't need it are made, and the indices are dropped before the bytes.
 fn write_items<'a>(
     alloc: Global,
     parts: Parts<'a>,
@@ -211,6 +208,10 @@ fn write_items<'a>(
     ensures told { tells ≡ true → IfOk result (λ r. TellsItems parts.entry
         (task choices.now (index_of prepared.indices) (map custom_record own.now)) r.1) }
 {
+    let by_section = write_by_section(alloc, parts, &prepared, own, choices, tells)?;
+    if let Some(whole) = by_section {
+        return Ok((whole, untold(alloc)));
+    }
     let made = make(alloc, parts, &prepared, choices)?;
     let order = prepared.plan.own_functions.as_slice();
     let functions = raw_functions(alloc, parts, order, &prepared.indices)?;
@@ -220,13 +221,6 @@ fn write_items<'a>(
         data_count,
     } = prepared;
     let left = order_asked(alloc, plan, tells);
-    let listed = functions.as_slice();
-    let by_section = write_by_section(
-        alloc, parts, &indices, data_count, listed, &made, &*own, tells,
-    )?;
-    if let Some(whole) = by_section {
-        return Ok((whole, untold(alloc)));
-    }
     let raw = raw_items(alloc, parts, &indices, data_count, functions, &made, own)?;
     drop(indices);
     let transform = bodies_told(alloc, &raw, left, tells)?;

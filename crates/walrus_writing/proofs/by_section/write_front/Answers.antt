@@ -64,7 +64,6 @@ write_elements-requires c = record {
 
 pub returns : goal.returns
 returns c = record {
-  fit = c.in_ok-measure_customs.ensures;
   behind_dylinks = written c.write_customs.new.to;
   dylinks_stand = c.in_ok-write_customs.ensures;
   behind_types = written c.write_types.new.to;

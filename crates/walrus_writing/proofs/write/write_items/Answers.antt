@@ -1,6 +1,6 @@
 use Rattle.std.proofs.Common.{◌∙◌, ℕ, length, map, refl, sym, ap, subst}
 use Rattle.std.specs.Global.{Vec}
-use Rattle.std.specs.Prelude.{Ok, Option, Some}
+use Rattle.std.specs.Prelude.{Ok, Option}
 use Rattle.std.proofs.lemmas.List.{length-map}
 use Rattle.std.proofs.lemmas.Result.{err_from_is_err_and}
 use Rattle.wasm_frames.specs.Record.{custom_record, sections}
@@ -34,25 +34,20 @@ raw_functions-requires c = record {
 pub raw_items-requires-clause-planned : goal.raw_items-requires-clause-planned
 raw_items-requires-clause-planned c = (c.args.prepared, c.requires.planned)
 
-pub write_by_section-requires-clause-planned : goal.write_by_section-requires-clause-planned
-write_by_section-requires-clause-planned c = (c.args.prepared, c.requires.planned)
-
 pub returns-in-Some-clause-spells : goal.returns-in-Some-clause-spells
 returns-in-Some-clause-spells c =
     let job = task c.args.choices.now (index_of c.args.prepared.indices) (map custom_record c.args.own.now) in
-    subst (λ (o : Option (Vec ℕ)). GivesOrNone (λ (v : Vec ℕ). Spells c.args.parts job v.items) (Ok o)) c.in-Some.is
-    (c.in_ok-by_section.ensures.spells c.args.choices.now (followed c.args.parts c.args.prepared c.requires.planned c.args.choices.now c.as_slice-listed.result.now c.in_ok-made.made _ (ap (map Some) c.as_slice-listed.ensures.value ∙ c.in_ok-functions.ensures.value) c.as_slice-order.ensures.value c.in_ok-made.ensures.written))
+    subst (λ (o : Option (Vec ℕ)). GivesOrNone (λ (v : Vec ℕ). Spells c.args.parts job v.items) (Ok o)) c.in-Some.is c.in_ok-by_section.ensures.spells
 
 pub returns-in_err-by_section-clause-refused : goal.returns-in_err-by_section-clause-refused
 returns-in_err-by_section-clause-refused c =
-    let p = err_from_is_err_and c.from_residual-in_err-by_section.result c.from_residual-in_err-by_section.ensures.1 in
+    let p = err_from_is_err_and c.from_residual.result c.from_residual.ensures.1 in
     let job = task c.args.choices.now (index_of c.args.prepared.indices) (map custom_record c.args.own.now) in
-    rw (p.1, p.2) (memory_refused c.args.parts job (Vec ℕ × CodeTransform) (Vec ℕ) (λ v. Spells c.args.parts job v.items) _
-    (c.in_err-by_section.ensures.spells c.args.choices.now (followed c.args.parts c.args.prepared c.requires.planned c.args.choices.now c.as_slice-listed.result.now c.in_ok-made.made _ (ap (map Some) c.as_slice-listed.ensures.value ∙ c.in_ok-functions.ensures.value) c.as_slice-order.ensures.value c.in_ok-made.ensures.written)))
+    rw (p.1, p.2) (memory_refused c.args.parts job (Vec ℕ × CodeTransform) (Vec ℕ) (λ v. Spells c.args.parts job v.items) _ c.in_err-by_section.ensures.spells)
 
 pub returns-in_err-made-clause-refused : goal.returns-in_err-made-clause-refused
 returns-in_err-made-clause-refused c =
-    let p = err_from_is_err_and c.from_residual.result c.from_residual.ensures.1 in
+    let p = err_from_is_err_and c.from_residual-in_err-made.result c.from_residual-in_err-made.ensures.1 in
     rw (p.1, p.2) (bodies_refused c.args.parts (task c.args.choices.now (index_of c.args.prepared.indices) (map custom_record c.args.own.now)) (Vec ℕ × CodeTransform) _ c.in_err-made.ensures.fails)
 
 pub returns-in_err-raw-clause-refused : goal.returns-in_err-raw-clause-refused
