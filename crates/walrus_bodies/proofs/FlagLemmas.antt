@@ -162,18 +162,6 @@ module _ (first i : ℕ) (old now : List Bool) (f : FlagsTo first i old now) (be
   pub one_more : FlagsTo first (i + 1) old (slice_set now i true)
   one_more x = (λ h. one_to x ((flags_one now i low x).0 h), λ h. (flags_one now i low x).1 (one_from x (eqb_tells x i) h))
 
-pub all_from : (first i : ℕ) (old now : List Bool) → FlagsTo first i old now → length old ≤ i → (x : ℕ) → (get_or now x false ≡ true) ↔ ((get_or old x false ≡ true) ⊎ ((first ≤ x) × (x < length old)))
-all_from first i old now f past x = (
-  λ h. elim ((f x).0 h) as (λ _. (get_or old x false ≡ true) ⊎ ((first ≤ x) × (x < length old))) [
-    | inl k ↦ inl k
-    | inr k ↦ inr (k.0, k.2)
-  ],
-  λ h. elim h as (λ _. get_or now x false ≡ true) [
-    | inl k ↦ (f x).1 (inl k)
-    | inr k ↦ (f x).1 (inr (k.0, omega (arith, k.1, past), k.1))
-  ],
-)
-
 -- ---- the locals of a body lie one behind another
 
 moved_locals : (by : ℕ) (a : Arg) → arg_locals (moved_arg by a) ≡ map (λ x. by + x) (arg_locals a)

@@ -15,6 +15,7 @@ use Rattle.wasm_text.specs.Marks.{AreInOrder, Shows, all_args, arg_names, args_a
 use Rattle.wasm_text.specs.Unmarked.{AreLeft, needs_none}
 use Rattle.wasm_text.proofs.Between.{join}
 use Rattle.wasm_text.proofs.Filling.{fill_next, fill_run, found_is}
+use Rattle.wasm_text.proofs.Leaving.{left_in_order}
 use Rattle.walrus_bodies.specs.Shown.{AreShown, StaysUnmarked, needs_mark}
 use Rattle.walrus_bodies.specs.declared.plain_code.LeftOut.{LeftOut}
 
@@ -67,17 +68,7 @@ ends_once bytes mark behind behind' arg arg' s s' =
     let long : length (drop behind bytes) ≡ length (drop behind' bytes) = ap (λ (x : RawArg × List ℕ). length x.1) same in
     (omega (arith, long, length-drop behind bytes, length-drop behind' bytes, s.within, s'.within), ap (λ (x : RawArg × List ℕ). x.0) same)
 
--- from an earlier place on
-sooner : (bytes : List ℕ) (from start : ℕ) (marks : List ℕ) → from ≤ start → AreInOrder bytes start marks → AreInOrder bytes from marks
-sooner bytes from start [] l h = omega (arith, l, h)
-sooner bytes from start (mark ∷ marks) l (h, rest) = (omega (arith, l, h), rest)
-
 module _ (first : ℕ) (accessed : Bool) (bytes : List ℕ) where
-  left_order : (from : ℕ) (all left : List ℕ) → AreInOrder bytes from all → AreLeft first accessed bytes all left → AreInOrder bytes from left
-  left_order from [] left h e = subst (λ (l : List ℕ). AreInOrder bytes from l) (sym e) h
-  left_order from (mark ∷ all) left (start, (arg, (behind, (s, rest)))) (inl (u, k)) = sooner bytes from behind left (omega (arith, start, s.forward)) (left_order behind all left rest k)
-  left_order from (mark ∷ all) left (start, (arg, (behind, (s, rest)))) (inr (left', (e, k))) = subst (λ (l : List ℕ). AreInOrder bytes from l) (sym e) (start, (arg, (behind, (s, left_order behind all left' rest k))))
-
   -- the arguments at marks of which the first one is this
   args_next : (mark behind : ℕ) (arg : RawArg) (all : List ℕ) → Stands (form_of (kind_of mark)) bytes (place_of mark) behind arg → args_at bytes (mark ∷ all) ≡ arg ∷ args_at bytes all
   args_next mark behind arg all s = ap (λ o. argument o ++ args_at bytes all) (found_is bytes mark behind arg s)
@@ -95,7 +86,7 @@ module _ (first : ℕ) (accessed : Bool) (bytes : List ℕ) where
       fill_next f bytes from mark behind all arg s
       ∙ ap₂ (λ x y. between from (place_of mark) bytes ++ x ++ y) spelled (left_fill f behind all left rest each'.1 k)
       ∙ ap (λ x. x ++ more) (join bytes from (place_of mark) behind start (omega (arith, s.forward)))
-      ∙ fill_run f bytes from behind left (omega (arith, start, s.forward)) (left_order behind all left rest k)
+      ∙ fill_run f bytes from behind left (omega (arith, start, s.forward)) (left_in_order first accessed bytes behind all left rest k)
   left_fill f from (mark ∷ all) left (start, (arg, (behind, (s, rest)))) each (inr (left', (e, k))) =
       let each' = subst (EachFits (λ arg. needs_none first accessed arg ≡ true → f arg ≡ arg)) (args_next mark behind arg all s) each in
       fill_next f bytes from mark behind all arg s
@@ -178,7 +169,7 @@ untrue false e f = cc
 pub left_shown : (first : ℕ) (accessed : Bool) (bytes marks left : List ℕ) (texts : List Op) → Shows bytes marks (all_args texts) (λ f. row_bytes op_bytes (map (with f) texts)) → AreLeft first accessed bytes marks left
     → AreShown (record { first = first; accessed = accessed }) bytes left texts
 left_shown first accessed bytes marks left texts shows are = record {
-  ordered = left_order first accessed bytes 0 marks left shows.ordered are;
+  ordered = left_in_order first accessed bytes 0 marks left shows.ordered are;
   becomes = λ f leaves stays. shows.becomes f leaves ∙ left_fill first accessed bytes f 0 marks left shows.ordered (stay f stays) are;
   needed = passes_both p arg_names quiet (all_args texts) ∙ ap (filter p) shows.named ∙ sym (passes_both p arg_names quiet (args_at bytes marks)) ∙ left_needed first accessed bytes p never 0 marks left shows.ordered are;
   among = λ asks silent some.

@@ -19,6 +19,7 @@ use Rattle.wasm_text.specs.Places.{between, Stands, IsShortest, IfPlace}
 use Rattle.wasm_text.specs.Marks.{place_of, kind_of, form_of, AreInOrder, shifted}
 use Rattle.wasm_text.specs.Scans.{mark_at, IsMarked, IsMarkedIfPadded, IsIndexed, HasArgs, ScansArgs}
 use Rattle.wasm_text.specs.Unmarked.{needs_none, IsUnneeded, AreLeft, is_local, is_access, AreNamed, Flags, HasLeft, ScansLeft, IsShortAccess}
+use Rattle.wasm_text.proofs.Steps.{order_from}
 use Rattle.wasm_text.proofs.Between.{join}
 use Rattle.wasm_text.proofs.Forms.{stands_byte, unsigned_byte}
 use Rattle.wasm_text.proofs.Shortest.{number_once, lone_between}
@@ -44,14 +45,10 @@ left_behind first accessed bytes (mark ∷ all) left all' left' (inl (none, more
 left_behind first accessed bytes (mark ∷ all) left all' left' (inr (rest, (e, more))) h = inr (rest ++ left', (ap (λ l. l ++ left') e, left_behind first accessed bytes all rest all' left' more h))
 
 -- in order as before
-sooner : (bytes : List ℕ) (from start : ℕ) (marks : List ℕ) → from ≤ start → AreInOrder bytes start marks → AreInOrder bytes from marks
-sooner bytes from start [] l h = omega (arith, l, h)
-sooner bytes from start (mark ∷ marks) l (there, more) = (omega (arith, l, there), more)
-
 pub left_in_order : (first : ℕ) (accessed : Bool) (bytes : List ℕ) (from : ℕ) (all left : List ℕ) → AreInOrder bytes from all → AreLeft first accessed bytes all left → AreInOrder bytes from left
 left_in_order first accessed bytes from [] left h e = subst (λ (l : List ℕ). AreInOrder bytes from l) (sym e) h
 left_in_order first accessed bytes from (mark ∷ all) left (there, (arg, (behind, (s, rest)))) (inl (none, more)) =
-    sooner bytes from behind left (omega (arith, there, s.forward)) (left_in_order first accessed bytes behind all left rest more)
+    order_from bytes from behind left (omega (arith, there, s.forward)) (left_in_order first accessed bytes behind all left rest more)
 left_in_order first accessed bytes from (mark ∷ all) left (there, (arg, (behind, (s, rest)))) (inr (some, (e, more))) =
     subst (λ (l : List ℕ). AreInOrder bytes from l) (sym e) (there, (arg, (behind, (s, left_in_order first accessed bytes behind all some rest more))))
 

@@ -34,7 +34,7 @@ pub record Going (number : Numbering) (bytes marks left : List ℕ) (run : ℕ) 
 pub going_first : (number : Numbering) (bytes marks old : List ℕ) → AreInOrder bytes 0 marks → Going number bytes marks marks 0 old old
 going_first number bytes marks old h = record { ordered = h; same = refl; all = λ x. x; some = λ x. x; keeps = take-length old }
 
-order_from : (bytes : List ℕ) (from start : ℕ) (marks : List ℕ) → from ≤ start → AreInOrder bytes start marks → AreInOrder bytes from marks
+pub order_from : (bytes : List ℕ) (from start : ℕ) (marks : List ℕ) → from ≤ start → AreInOrder bytes start marks → AreInOrder bytes from marks
 order_from bytes from start [] l h = omega (arith, l, h)
 order_from bytes from start (mark ∷ marks) l (h, rest) = (omega (arith, l, h), rest)
 
