@@ -4,7 +4,7 @@ use Rattle.std.proofs.lemmas.List.{length-append, length-map, map-append}
 use Rattle.wasm_forms.specs.Spelling.{number_bytes, row_bytes, vector_bytes}
 use Rattle.wasm_forms.specs.Writing.{EachFits, FitsLength, FitsVector}
 use Rattle.wasm_frames.specs.Frames.{Section}
-use Rattle.wasm_writer.specs.Spelling.{SectionFits, section_bytes, spelled}
+use Rattle.wasm_writer.specs.Spelling.{SectionFits, listed, section_bytes, spelled}
 use Rattle.wasm_writer.proofs.Listed.{no_section}
 use Rattle.walrus_writing.specs.Appended.{AppendsEntry, AppendsEntries, ListsEntries}
 use Rattle.walrus_writing.specs.BySection.{Writes}
@@ -29,6 +29,18 @@ lists_some id count row begun counted content all old new some fresh noted put w
       λ (none : count ≡ 0). absurd (omega (arith, some, none)),
       λ u. (wrote.0 ∙ ap (λ (l : List ℕ). old ++ section_bytes id l) all_is, subst (λ (l : List ℕ). FitsLength l) all_is wrote.1),
     )
+
+-- the section of entries whose bytes these are
+module _ {E : Type 0} (spell : E → List ℕ) (Fits : E → Type 0) (make : List E → Section) (id : ℕ) (held : (es : List E) → spelled (make es) ≡ section_bytes id (vector_bytes spell es)) (fits : (es : List E) → FitsVector Fits es → FitsLength (vector_bytes spell es) → SectionFits (make es)) where
+  pub rows_listed : (es : List E) → EachFits Fits es → (count : ℕ) (row old new : List ℕ) → count ≡ length es → count < 4294967296 → row ≡ row_bytes spell es → ListsEntries id count row old new → (new ≡ old ++ listed make es) × SectionFits (make es)
+  rows_listed [] fit count row old new counted few is w =
+      let empty = no_section make Fits spell [] old refl in (w.0 counted ∙ empty.0, fits [] empty.1.0 empty.1.1)
+  rows_listed (e ∷ es) fit count row old new counted few is w =
+      let some = w.1 (omega (arith, counted)) in
+      let all_is : number_bytes count ++ row ≡ vector_bytes spell (e ∷ es) = ap₂ (λ (n : ℕ) (l : List ℕ). number_bytes n ++ l) counted is in (
+        some.0 ∙ ap (λ (l : List ℕ). old ++ section_bytes id l) all_is ∙ ap (λ (l : List ℕ). old ++ l) (sym (held (e ∷ es))),
+        fits (e ∷ es) (omega (arith, few, counted), fit) (subst (λ (l : List ℕ). FitsLength l) all_is some.1),
+      )
 
 -- ---- the entries so far
 
@@ -69,28 +81,13 @@ module _ {W E : Type 0} (entry : W → E) (spell : E → List ℕ) (Fits : E →
   }
 
   -- the section that lists them
-  module _ (make : List E → Section) (id : ℕ) (held : (es : List E) → spelled (make es) ≡ section_bytes id (vector_bytes spell es)) (fits : (es : List E) → FitsVector Fits es → FitsLength (vector_bytes spell es) → SectionFits (make es)) where
-    listed_of : (Said : List W → Type 0) (raw : List W) → Said raw → EachFits Fits (map entry raw) → (count : ℕ) (row old new : List ℕ) → count ≡ length raw → count < 4294967296 → row ≡ row_bytes spell (map entry raw)
-        → ListsEntries id count row old new → Writes make (map entry) Said old new
-    listed_of Said [] said fit count row old new counted few is w =
-        let empty = no_section make Fits spell [] old refl in
-        record {
-          raw = [];
-          said = said;
-          appends = w.0 counted ∙ empty.0;
-          fits = fits [] empty.1.0 empty.1.1;
-        }
-    listed_of Said (x ∷ xs) said fit count row old new counted few is w =
-        let some = w.1 (omega (arith, counted)) in
-        let many : count ≡ length (map entry (x ∷ xs)) = counted ∙ sym (length-map (x ∷ xs) entry) in
-        let all_is : number_bytes count ++ row ≡ vector_bytes spell (map entry (x ∷ xs)) = ap₂ (λ (n : ℕ) (l : List ℕ). number_bytes n ++ l) many is in
-        record {
-          raw = x ∷ xs;
-          said = said;
-          appends = some.0 ∙ ap (λ (l : List ℕ). old ++ section_bytes id l) all_is ∙ ap (λ (l : List ℕ). old ++ l) (sym (held (map entry (x ∷ xs))));
-          fits = fits (map entry (x ∷ xs)) (omega (arith, few, many), fit) (subst (λ (l : List ℕ). FitsLength l) all_is some.1);
-        }
-
-    pub entries_listed : (Said : List W → Type 0) (count : ℕ) (first row lent old new : List ℕ) → first ≡ [] → count < 4294967296 → Entries Said count first row → lent ≡ row → ListsEntries id count lent old new → Writes make (map entry) Said old new
-    entries_listed Said count first row lent old new none few a same w =
-        listed_of Said a.raw a.said a.fit count lent old new a.counted few (same ∙ a.appends ∙ ap (λ (l : List ℕ). l ++ row_bytes spell (map entry a.raw)) none) w
+  pub entries_listed : (make : List E → Section) (id : ℕ) → ((es : List E) → spelled (make es) ≡ section_bytes id (vector_bytes spell es)) → ((es : List E) → FitsVector Fits es → FitsLength (vector_bytes spell es) → SectionFits (make es))
+      → (Said : List W → Type 0) (count : ℕ) (first row lent old new : List ℕ) → first ≡ [] → count < 4294967296 → Entries Said count first row → lent ≡ row → ListsEntries id count lent old new → Writes make (map entry) Said old new
+  entries_listed make id held fits Said count first row lent old new none few a same w =
+      let stands = rows_listed spell Fits make id held fits (map entry a.raw) a.fit count lent old new (a.counted ∙ sym (length-map a.raw entry)) few (same ∙ a.appends ∙ ap (λ (l : List ℕ). l ++ row_bytes spell (map entry a.raw)) none) w in
+      record {
+        raw = a.raw;
+        said = a.said;
+        appends = stands.0;
+        fits = stands.1;
+      }

@@ -47,6 +47,20 @@ use wasm_frames::RawCustom;
 use wasm_wire::CustomGroup;
 use wasm_writer::{Section, Writer, measure};
 
+// The section of this id that lists so many entries, whose bytes these are, or nothing where there are none.
+fn write_listed(alloc: Global, to: &mut Writer, id: u8, count: u32, row: &[u8]) -> Result<()>
+    ensures { OnOk result (ListsEntries id count row.now (written to.old) (written to.new)) }
+{
+    if count == 0 {
+        return Ok(());
+    }
+    let mut content = Vec::with_capacity(alloc, row.len().saturating_add(5))?;
+    write_u32(&mut content, count)?;
+    content.extend_from_slice(row)?;
+    to.section(id, content.as_slice())?;
+    Ok(())
+}
+
 /// The type section. Its groups are appended one by one, with no record of all of them.
 pub fn write_types(
     alloc: Global,
@@ -62,13 +76,7 @@ pub fn write_types(
 {
     let mut row = Vec::new(alloc);
     let count = append_types(alloc, types, indices, &mut row)?;
-    if count == 0 {
-        return Ok(());
-    }
-    let mut content = Vec::with_capacity(alloc, row.len().saturating_add(5))?;
-    write_u32(&mut content, count)?;
-    content.extend_from_slice(row.as_slice())?;
-    to.section(1, content.as_slice())?;
+    write_listed(alloc, to, 1, count, row.as_slice())?;
     Ok(())
 }
 
@@ -131,20 +139,6 @@ pub fn write_tags(
 {
     let raw = raw_tags(alloc, all, indices)?;
     to.tag_section(raw.as_slice())?;
-    Ok(())
-}
-
-// The section of this id that lists so many entries, whose bytes these are, or nothing where there are none.
-fn write_listed(alloc: Global, to: &mut Writer, id: u8, count: u32, row: &[u8]) -> Result<()>
-    ensures { OnOk result (ListsEntries id count row.now (written to.old) (written to.new)) }
-{
-    if count == 0 {
-        return Ok(());
-    }
-    let mut content = Vec::with_capacity(alloc, row.len().saturating_add(5))?;
-    write_u32(&mut content, count)?;
-    content.extend_from_slice(row)?;
-    to.section(id, content.as_slice())?;
     Ok(())
 }
 
