@@ -21,7 +21,7 @@ use Rattle.walrus_code.specs.declared.location.InstrLocId.{InstrLocId}
 use Rattle.walrus_bodies.specs.Emitting.{places_from}
 use Rattle.walrus_bodies.specs.Function.{body_in, body_of, function_type, locations_of, places_in}
 use Rattle.walrus_bodies.specs.Placed.{placed_op}
-use Rattle.walrus_bodies.specs.Text.{at_place, bytes_of, entry_of, first_local_of, locations_in, ops_in, texts_of}
+use Rattle.walrus_bodies.specs.Text.{at_place, bytes_of, entry_of, start_of, first_local_of, locations_in, ops_in, texts_of}
 use Rattle.walrus_bodies.specs.Texts.{behind_first, places_at, texts_at, values}
 use Rattle.walrus_bodies.specs.declared.features.Features.{Features}
 use Rattle.walrus_bodies.specs.Listed.{operators_of}
@@ -73,9 +73,9 @@ text_many : (t : Text) → length (locations_in t) ≡ length (ops_in t)
 unfolding texts_of locations_in
 text_many t =
     let count = (entry_of t).count in
-    let end = (entry_of t).start + length (bytes_of t) in
+    let end = start_of t + length (bytes_of t) in
     length-map (places_at end count (bytes_of t)) at_place
-    ∙ ∥∥₁_elim t.body (hlevel props) (λ b. plain_many end count (bytes_of t) b.texts b.counted b.holds.row)
+    ∙ ∥∥₁_elim t.body (hlevel props) (λ b. plain_many end count (bytes_of t) b.texts b.counted b.row)
     ∙ sym (length-map (texts_at count (bytes_of t)) (placed_op (first_local_of t)))
 
 body_many : (b : Body) → length (places_in b) ≡ length (body_in b)
