@@ -1,4 +1,6 @@
 pub mod AppendedBodies
+pub mod AppendedExports
+pub mod AppendedRows
 pub mod AppendedTypes
 pub mod Bare
 pub mod BodiesTold

@@ -1,3 +1,4 @@
+pub mod Appended
 pub mod Bodies
 pub mod Customs
 pub mod Elements

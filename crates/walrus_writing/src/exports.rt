@@ -8,12 +8,16 @@ ghost use Rattle.walrus_items.specs.Exports.{exports, export_value};
 ghost use Rattle.walrus_contents.specs.View.{export_of};
 ghost use Rattle.walrus_items.specs.Errors.{out_of_memory};
 ghost use Rattle.wasm_entries.specs.Record.{export_entry};
+ghost use Rattle.wasm_entries.specs.Spelling.{ExportFits, export_bytes};
+ghost use Rattle.walrus_writing.specs.Appended.{AppendsEntries, AppendsEntry};
+ghost use Rattle.walrus_writing.specs.BySection.{AreExports};
 ghost use Rattle.walrus_writing.specs.Parts.{kind_in, export_with_index};
 
 use std::alloc::Global;
 use walrus_code::IdsToIndices;
-use walrus_items::{Export, ExportItem, Memory, ModuleExports, Result, Tag};
+use walrus_items::{Error, Export, ExportItem, Memory, ModuleExports, Result, Tag};
 use wasm_entries::{RawExport, RawExportKind};
+use wasm_forms::Written;
 
 fn raw_export<'a>(export: &'a Export, indices: &IdsToIndices) -> Option<RawExport<'a>>
     ensures value { option_map export_entry result ≡ export_with_index (index_of indices.now)
@@ -75,4 +79,48 @@ pub fn raw_exports<'a>(
         raw.push(one)?;
     }
     Ok(raw)
+}
+
+// Appends the entry of an export: how many there are with it.
+fn append_export(
+    export: &Export,
+    indices: &IdsToIndices,
+    count: u32,
+    to: &mut Vec<u8>,
+) -> Result<u32>
+    ensures { IfOk result (λ more. AppendsEntry export_entry export_bytes ExportFits
+        (λ raw. (Some (export_entry raw) ≡ export_with_index (index_of indices.now)
+        (export_of (export_value export.now))) × IsUtf8 raw.name.now)
+        count more to.old.items to.new.items) }
+{
+    let Some(one) = raw_export(export, indices) else {
+        return Err(Error::NoIndex);
+    };
+    one.write(to)?;
+    match count.checked_add(1) {
+        Some(more) => Ok(more),
+        None => Err(Error::TooLarge),
+    }
+}
+
+/// The same exports, appended to bytes one after another, with no record of all of them: how many they are.
+///
+/// # Errors
+///
+/// `NoIndex` where what is exported has no index, `TooLarge` where a name has 2^32 bytes or more or there are as many exports, and
+/// `Memory`. Refused, what was appended means nothing.
+pub fn append_exports(
+    all_exports: &ModuleExports,
+    indices: &IdsToIndices,
+    to: &mut Vec<u8>,
+) -> Result<u32>
+    ensures { IfOk result (λ count. AppendsEntries export_entry export_bytes ExportFits
+        (AreExports (index_of indices.now) (items (exports all_exports.now))) count
+        to.old.items to.new.items) }
+{
+    let mut count: u32 = 0;
+    for export in all_exports.iter() {
+        count = append_export(export, indices, count, to)?;
+    }
+    Ok(count)
 }

@@ -1,7 +1,7 @@
 //! The globals that a module defines, as records ("Binary Format > Modules > Global Section").
-ghost use Rattle.std.specs.Prelude.{◌≡◌, None, Some, IsSome, IfOk, IfErr, All, map, option_map};
+ghost use Rattle.std.specs.Prelude.{◌≡◌, None, Ok, Some, IsSome, IfOk, IfErr, All, map, option_map, ⊤};
 ghost use Rattle.wasm_entries.specs.Record.{expression, global_entry};
-ghost use Rattle.wasm_entries.specs.Spelling.{ExpressionStands, GlobalStands};
+ghost use Rattle.wasm_entries.specs.Spelling.{ExpressionStands, GlobalStands, global_bytes};
 ghost use Rattle.walrus_base.specs.Arena.{items};
 ghost use Rattle.walrus_code.specs.Indices.{index_of};
 ghost use Rattle.walrus_constants.specs.Named.{named_global};
@@ -10,6 +10,8 @@ ghost use Rattle.walrus_base.specs.ConstOps.{const_ops};
 ghost use Rattle.walrus_items.specs.Globals.{globals, global_import, global_init, global_value};
 ghost use Rattle.walrus_model.specs.Sections as said;
 ghost use Rattle.walrus_plan.specs.Brought.{own_of};
+ghost use Rattle.walrus_writing.specs.Appended.{AppendsEntries, AppendsEntry};
+ghost use Rattle.walrus_writing.specs.BySection.{AreGlobals};
 ghost use Rattle.walrus_writing.specs.Globals.{IndexesGlobal, IndexesInitialiser, IsSpelledGlobal, RefusesGlobals};
 
 use std::alloc::Global;
@@ -18,6 +20,7 @@ use walrus_constants::raw_const;
 use walrus_items::{Error, GlobalKind, ModuleGlobals};
 use walrus_plan::global_import;
 use wasm_entries::{RawExpression, RawGlobal, RawGlobalType};
+use wasm_forms::Written;
 
 // The initialiser of a global that the module defines, over indices.
 fn raw_initialiser(
@@ -91,4 +94,48 @@ pub fn raw_globals(
         }
     }
     Ok(raw)
+}
+
+// Appends the entry of a global that the module defines: how many there are with it.
+fn append_global(
+    alloc: Global,
+    global: &walrus_items::Global,
+    indices: &IdsToIndices,
+    count: u32,
+    to: &mut Vec<u8>,
+) -> Result<u32, Error>
+    requires own { global_import global.now.kind ≡ None }
+    ensures { IfOk result (λ more. AppendsEntry global_entry global_bytes (λ _. ⊤)
+        (λ raw. IndexesGlobal (index_of indices.now) (global_of (global_value global.now)) (Ok raw))
+        count more to.old.items to.new.items) }
+{
+    let raw = raw_global(alloc, global, indices)?;
+    raw.write(to)?;
+    match count.checked_add(1) {
+        Some(more) => Ok(more),
+        None => Err(Error::TooLarge),
+    }
+}
+
+/// The same globals, appended to bytes one after another, with no record of all of them: how many they are.
+///
+/// # Errors
+///
+/// Those of [`raw_global`], and `TooLarge` where there are 2^32 or more. Refused, what was appended means nothing.
+pub fn append_globals(
+    alloc: Global,
+    all: &ModuleGlobals,
+    indices: &IdsToIndices,
+    to: &mut Vec<u8>,
+) -> Result<u32, Error>
+    ensures { IfOk result (λ count. AppendsEntries global_entry global_bytes (λ _. ⊤)
+        (AreGlobals (index_of indices.now) (items (globals all.now))) count to.old.items to.new.items) }
+{
+    let mut count: u32 = 0;
+    for global in all.iter() {
+        if global_import(&global.kind).is_none() {
+            count = append_global(alloc, global, indices, count, to)?;
+        }
+    }
+    Ok(count)
 }

@@ -22,13 +22,14 @@ ghost use Rattle.walrus_items.specs.Memories.{memories};
 ghost use Rattle.walrus_items.specs.Tables.{tables};
 ghost use Rattle.walrus_items.specs.Tags.{tags};
 ghost use Rattle.walrus_plan.specs.Brought.{own_of};
+ghost use Rattle.walrus_writing.specs.Appended.{ListsEntries};
 ghost use Rattle.walrus_writing.specs.BySection.{AreElements, AreExports, AreGlobals, AreImports, AreMemories, AreSegments, AreTables, AreTags, Stand, Writes};
 ghost use Rattle.walrus_writing.specs.Imported.{ImportsIndexed};
 ghost use Rattle.walrus_writing.specs.Parts.{export_with_index, tag_index, unplaced};
 
 use crate::elements::raw_elements;
-use crate::exports::raw_exports;
-use crate::globals::raw_globals;
+use crate::exports::append_exports;
+use crate::globals::append_globals;
 use crate::imports::raw_imports;
 use crate::memories::raw_memories;
 use crate::tables::raw_tables;
@@ -46,6 +47,20 @@ use wasm_frames::RawCustom;
 use wasm_wire::CustomGroup;
 use wasm_writer::{Section, Writer, measure};
 
+// The section of this id that lists so many entries, whose bytes these are, or nothing where there are none.
+fn write_listed(alloc: Global, to: &mut Writer, id: u8, count: u32, row: &[u8]) -> Result<()>
+    ensures { OnOk result (ListsEntries id count row.now (written to.old) (written to.new)) }
+{
+    if count == 0 {
+        return Ok(());
+    }
+    let mut content = Vec::with_capacity(alloc, row.len().saturating_add(5))?;
+    write_u32(&mut content, count)?;
+    content.extend_from_slice(row)?;
+    to.section(id, content.as_slice())?;
+    Ok(())
+}
+
 /// The type section. Its groups are appended one by one, with no record of all of them.
 pub fn write_types(
     alloc: Global,
@@ -61,13 +76,7 @@ pub fn write_types(
 {
     let mut row = Vec::new(alloc);
     let count = append_types(alloc, types, indices, &mut row)?;
-    if count == 0 {
-        return Ok(());
-    }
-    let mut content = Vec::with_capacity(alloc, row.len().saturating_add(5))?;
-    write_u32(&mut content, count)?;
-    content.extend_from_slice(row.as_slice())?;
-    to.section(1, content.as_slice())?;
+    write_listed(alloc, to, 1, count, row.as_slice())?;
     Ok(())
 }
 
@@ -133,7 +142,7 @@ pub fn write_tags(
     Ok(())
 }
 
-/// The global section.
+/// The global section. Its entries are appended one by one, with no record of all of them.
 pub fn write_globals(
     alloc: Global,
     to: &mut Writer,
@@ -146,12 +155,13 @@ pub fn write_globals(
     ensures { OnOk result (Writes frames.Globals (map global_entry)
         (AreGlobals (index_of indices.now) (items (globals all.now))) (written to.old) (written to.new)) }
 {
-    let raw = raw_globals(alloc, all, indices)?;
-    to.global_section(raw.as_slice())?;
+    let mut row = Vec::with_capacity(alloc, all.len().saturating_mul(8))?;
+    let count = append_globals(alloc, all, indices, &mut row)?;
+    write_listed(alloc, to, 6, count, row.as_slice())?;
     Ok(())
 }
 
-/// The export section.
+/// The export section. Its entries are appended one by one, with no record of all of them.
 pub fn write_exports(
     alloc: Global,
     to: &mut Writer,
@@ -163,8 +173,9 @@ pub fn write_exports(
     ensures { OnOk result (Writes frames.Exports (map export_entry)
         (AreExports (index_of indices.now) (items (exports all.now))) (written to.old) (written to.new)) }
 {
-    let raw = raw_exports(alloc, all, indices)?;
-    to.export_section(raw.as_slice())?;
+    let mut row = Vec::with_capacity(alloc, all.len().saturating_mul(16))?;
+    let count = append_exports(all, indices, &mut row)?;
+    write_listed(alloc, to, 7, count, row.as_slice())?;
     Ok(())
 }
 
