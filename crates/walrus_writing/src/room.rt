@@ -56,12 +56,8 @@ fn likely_entries(plan: &Plan, exports: &ModuleExports) -> usize {
     first.saturating_add(others).saturating_mul(32)
 }
 
-/// For a module of these parts, of which this is the plan: with bodies that likely have so many bytes, and custom sections of its own. None where
-/// there are no bodies: its bytes go where records were let go then.
+/// For a module of these parts, of which this is the plan: with bodies that likely have so many bytes, and custom sections of its own.
 pub fn likely_whole(parts: Parts<'_>, plan: &Plan, bodies: usize, own: &[RawCustom<'_>]) -> usize {
-    if bodies == 0 {
-        return 0;
-    }
     let before = likely_entries(plan, parts.exports).saturating_add(likely_names(parts.funcs));
     let behind = likely_behind(parts.data_, own).saturating_add(1024);
     before.saturating_add(bodies).saturating_add(behind)
