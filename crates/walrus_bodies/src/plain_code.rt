@@ -221,7 +221,8 @@ impl PlainCode {
 
     /// The same bodies, and behind them the one whose operators are these bytes, which begin at `start` of the input, of a function of so
     /// many locals. If it isn't plain or names more than the limits allow, it stands there without operators. Where the locals that the function
-    /// declares stand by the ranks of their types, `ranked` is the index of the first of them, as [`first_ranked`] answers it.
+    /// declares stand by the ranks of their types, `ranked` is the index of the first of them, as [`first_ranked`] answers it; none where that
+    /// isn't known.
     ///
     /// # Errors
     ///
