@@ -1,5 +1,5 @@
 -- The bodies of a code stay what they are when one comes behind them.
-use Rattle.std.proofs.Common.{◌≡◌, ℕ, zero, suc, ◌+◌, ◌-◌, ◌≤◌, List, [], ◌∷◌, ◌++◌, length, take, drop, refl, sym, ap, ap₂, subst, ◌∙◌, arith, length-append, inl, inr}
+use Rattle.std.proofs.Common.{◌≡◌, Bool, cond, ℕ, zero, suc, ◌+◌, ◌-◌, ◌≤◌, List, [], ◌∷◌, ◌++◌, length, take, drop, refl, sym, ap, ap₂, subst, ◌∙◌, arith, length-append, inl, inr}
 use Rattle.std.specs.Prelude.{◌⊎◌, slice_index_or}
 use Rattle.std.specs.List.{All}
 use Rattle.std.proofs.Math.Logic.{∥∥₁_elim}
@@ -7,6 +7,7 @@ use Rattle.std.proofs.Math.Seq.{drop-append_seam, take-length}
 use Rattle.std.proofs.Props.{props}
 use Rattle.std.proofs.lemmas.List.{drop-append-le, take-append-le, length-drop}
 use Rattle.std.proofs.lemmas.List.Elements.{All-append}
+use Rattle.walrus_base.proofs.Indexed.{either}
 use Rattle.wasm_text.specs.Places.{between}
 use Rattle.wasm_text.specs.declared.limits.Limits.{Limits}
 use Rattle.walrus_bodies.specs.LeftOut.{unpacked}
@@ -74,6 +75,16 @@ all_kept limits bytes marks others es all k d low = body_kept limits bytes marks
 pub none_more : (limits : Limits) (bytes marks : List ℕ) (old new : List Entry) → new ≡ old ++ nowhere ∷ [] → ∥ All (IsHeld limits bytes marks) old ∥₁ → ∥ All (IsHeld limits bytes marks) new ∥₁
 none_more limits bytes marks old new same held =
     ∥∥₁_elim held (hlevel props) (λ all. ∣ subst (All (IsHeld limits bytes marks)) (sym same) (All-append (IsHeld limits bytes marks) old (nowhere ∷ []) all (one (IsHeld limits bytes marks) nowhere (none_held limits bytes marks))) ∣₁)
+
+-- or none, where no memory is left
+pub none_or_one : (limits : Limits) (bytes marks : List ℕ) (ok : Bool) (old new : List Entry) → new ≡ cond ok (old ++ nowhere ∷ []) old → ∥ All (IsHeld limits bytes marks) old ∥₁ → ∥ All (IsHeld limits bytes marks) new ∥₁
+none_or_one limits bytes marks ok old new is held =
+    either (λ (es : List Entry). ∥ All (IsHeld limits bytes marks) es ∥₁) ok new (old ++ nowhere ∷ []) old is (none_more limits bytes marks old (old ++ nowhere ∷ []) refl held) held
+
+-- marks alone
+pub marks_more : (limits : Limits) (bytes marks others new : List ℕ) (es : List Entry) → new ≡ marks ++ others → ∥ All (IsHeld limits bytes marks) es ∥₁ → ∥ All (IsHeld limits bytes new) es ∥₁
+marks_more limits bytes marks others new es same held =
+    ∥∥₁_elim held (hlevel props) (λ all. ∣ subst (λ (ms : List ℕ). All (IsHeld limits bytes ms) es) (sym same) (all_kept limits bytes marks others es all) ∣₁)
 
 module _ (code : PlainCode) (bytes marks : List ℕ) (count start locals : ℕ) (out : LeftOut) (entry : Entry) (behind : IsBehind code bytes marks count start locals out entry) (plain : IsPlainBody (with_locals code.limits locals) out bytes marks count) where
   abbrev pub kept : List ℕ

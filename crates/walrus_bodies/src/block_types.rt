@@ -82,16 +82,14 @@ fn has_blocks(marks: &[u32]) -> bool
     found
 }
 
-// The same of all marks.
+// Whether what stands at each mark is no type of a block, or one that is a function type or none of the module's.
+#[inline(never)]
 fn marks_hold<T: FunctionTypes>(types: &T, bytes: &[u8], marks: &[u32]) -> Result<bool, AllocError>
     requires { AreInOrder bytes.now 0 marks.now }
     ensures { IfOk result (λ hold. hold
         ≡ list_all (λ arg. block_holds (T.function_types types.now) (from_raw.arg_of arg))
         (args_at bytes.now marks.now)) }
 {
-    if !has_blocks(marks) {
-        return Ok(true);
-    }
     'marks: for mark in marks {
         if !mark_holds(types, bytes, *mark)? {
             return Ok(false);
@@ -109,6 +107,10 @@ impl Text {
     pub fn blocks_hold<T: FunctionTypes>(&self, types: &T) -> Result<bool, AllocError>
         ensures { IfOk result (λ hold. hold ≡ blocks_hold (T.function_types types.now) (ops_in self.now)) }
     {
-        marks_hold(types, self.bytes(), self.marks())
+        let marks = self.marks();
+        if !has_blocks(marks) {
+            return Ok(true);
+        }
+        marks_hold(types, self.bytes(), marks)
     }
 }

@@ -219,23 +219,23 @@ impl PlainCode {
         })
     }
 
-    /// The same bodies, and behind them the one whose operators are these bytes, which begin at `start` of the input, of a function of so
-    /// many locals. If it isn't plain or names more than the limits allow, it stands there without operators. Where the locals that the function
+    /// Adds, behind these bodies, the one whose operators are these bytes, which begin at `start` of the input, of a function of so many
+    /// locals. If it isn't plain or names more than the limits allow, it stands there without operators. Where the locals that the function
     /// declares stand by the ranks of their types, `ranked` is the index of the first of them, as [`first_ranked`] answers it; none where that
     /// isn't known.
     ///
     /// # Errors
     ///
-    /// `AllocError` where no memory is left.
+    /// `AllocError` where no memory is left. Then no body is added.
     pub fn scan(
-        self,
+        &mut self,
         operators: &[u8],
         start: usize,
         locals: u32,
         ranked: Option<u32>,
         room: &mut ScanRoom,
-    ) -> Result<PlainCode, AllocError>
-        ensures { IfOk result (λ code. limits_in code ≡ limits_in self) }
+    ) -> Result<(), AllocError>
+        ensures { limits_in self.new ≡ limits_in self.old }
     {
         let limits = with_locals(self.limits, locals);
         match scan_body(operators, &limits, ranked, room)? {
@@ -250,40 +250,38 @@ impl PlainCode {
         }
     }
 
-    // The same with such a body behind them.
+    // Adds such a body behind them. Where no memory is left for its entry, its marks stay behind those of the others, and none names them.
     fn push(
-        self,
+        &mut self,
         operators: &[u8],
         marks: &[u32],
         count: usize,
         start: usize,
         locals: u32,
         left_out: LeftOut,
-    ) -> Result<PlainCode, AllocError>
-        requires plain { IsPlainBody (with_locals self.limits locals) left_out operators.now marks.now count }
-        ensures { IfOk result (λ code. limits_in code ≡ limits_in self) }
+    ) -> Result<(), AllocError>
+        requires plain { IsPlainBody (with_locals self.old.limits locals) left_out operators.now marks.now count }
+        ensures { limits_in self.new ≡ limits_in self.old }
     {
         let Some(entry) = self.entry_behind(operators, marks, count, start, locals, left_out) else {
             return self.skip();
         };
-        let mut code = self;
-        code.operator_bytes = code.operator_bytes.saturating_add(operators.len());
-        code.marks.extend_from_slice(marks)?;
-        code.entries.push(entry)?;
-        Ok(code)
+        self.marks.extend_from_slice(marks)?;
+        self.entries.push(entry)?;
+        self.operator_bytes = self.operator_bytes.saturating_add(operators.len());
+        Ok(())
     }
 
-    /// The same bodies, and behind them one that isn't plain.
+    /// Adds, behind these bodies, one that isn't plain.
     ///
     /// # Errors
     ///
-    /// `AllocError` where no memory is left.
-    pub fn skip(self) -> Result<PlainCode, AllocError>
-        ensures { IfOk result (λ code. limits_in code ≡ limits_in self) }
+    /// `AllocError` where no memory is left. Then no body is added.
+    pub fn skip(&mut self) -> Result<(), AllocError>
+        ensures { limits_in self.new ≡ limits_in self.old }
     {
-        let mut code = self;
-        code.entries.push(NOWHERE)?;
-        Ok(code)
+        self.entries.push(NOWHERE)?;
+        Ok(())
     }
 
     /// These bodies, to be shared by their functions.
