@@ -1,5 +1,5 @@
 -- The locals that a body declares.
-use Rattle.std.proofs.Common.{◌≡◌, ℕ, zero, suc, List, ◌∷◌, ◌++◌, Option, Some, None, option_map, map, Result, Ok, Err, replicate, refl, ap, ◌∙◌, sym, append_assoc}
+use Rattle.std.proofs.Common.{◌≡◌, ℕ, zero, suc, List, [], ◌∷◌, ◌++◌, Option, Some, None, option_map, map, Result, Ok, Err, replicate, refl, ap, ◌∙◌, sym, append_assoc}
 use Rattle.wasm_forms.specs.declared.types.RawVal.{RawVal}
 use Rattle.wasm_forms.specs.Reading.{◌>>=◌}
 use Rattle.wasm_forms.specs.Grammar.{at}
@@ -42,6 +42,10 @@ types_behind-next names done new d rest v whole found is so_far =
 pub map-replicate : {A B : Type 0} (f : A → B) (n : ℕ) (x : A) → map f (replicate n x) ≡ replicate n (f x)
 map-replicate f zero x = refl
 map-replicate {B = B} f (suc n) x = ap (λ (ys : List B). f x ∷ ys) (map-replicate f n x)
+
+pub replicate_more : {A : Type 0} (n : ℕ) (x : A) → replicate n x ++ x ∷ [] ≡ replicate (suc n) x
+replicate_more zero x = refl
+replicate_more {A = A} (suc n) x = ap (λ (xs : List A). x ∷ xs) (replicate_more n x)
 
 pub some_of : {A B : Type 0} (f : A → B) (x : A) (o : Option B) → option_map f (Some x) ≡ o → o ≡ Some (f x)
 some_of f x o is = sym is

@@ -1,3 +1,4 @@
+pub mod AddedLemmas
 pub mod BlockLemmas
 pub mod BodyLemmas
 mod DeclarationLemmas

@@ -83,11 +83,11 @@ fn joined(alloc: Global, args: &[LocalId], declared: &[LocalId]) -> Result<Vec<L
     Ok(all)
 }
 
-/// Adds the locals that a body declares to those of the module, in order, and answers them.
-///
-/// Refused as [`IrError::Malformed`] where a type isn't declared, also one of which there are no locals. Locals may be added then; what was
-/// there stays.
-pub fn declare(
+// Adds the locals that a body declares to those of the module, in order, and answers them.
+//
+// Refused as `IrError::Malformed` where a type isn't declared, also one of which there are no locals. Locals may be added then; what was
+// there stays.
+fn declare(
     alloc: Global,
     declarations: &[Declaration],
     indices: &IndicesToIds,

@@ -7,6 +7,7 @@
 //! Its declared locals are added to the module's. It answers `Malformed` only where the bytes are no body.
 #![tactic(auto)]
 
+mod added;
 mod block_types;
 mod blocks;
 mod body;
@@ -31,8 +32,9 @@ mod text;
 mod types;
 mod write;
 
+pub use added::{add_declared, add_types};
 pub use blocks::{OpenBlocks, Opened};
-pub use body::{ReadBody, declare, read_body_over};
+pub use body::{ReadBody, read_body_over};
 pub use declarations::{Declaration, first_ranked, read_declarations};
 pub use emit::{append_operators, emit_operators};
 pub use features::Features;

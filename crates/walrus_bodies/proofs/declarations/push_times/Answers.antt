@@ -1,12 +1,9 @@
-use Rattle.std.proofs.Common.{◌≡◌, ℕ, zero, suc, List, [], ◌∷◌, ◌++◌, replicate, refl, ap, ◌∙◌, sym, arith, add-one, append_assoc}
+use Rattle.std.proofs.Common.{◌≡◌, ℕ, List, [], ◌∷◌, ◌++◌, replicate, ap, ◌∙◌, sym, arith, add-one, append_assoc}
 use Rattle.std.proofs.lemmas.List.{append-nil}
 use Rattle.std.proofs.lemmas.Result.{err_from_is_err_and}
 use Rattle.walrus_base.specs.declared.value.ValType.{ValType}
+use Rattle.walrus_bodies.proofs.DeclarationLemmas.{replicate_more}
 use Rattle.walrus_bodies.proofs.declarations.push_times.Goals as goal
-
-replicate_more : (n : ℕ) (x : ValType) → replicate n x ++ x ∷ [] ≡ replicate (suc n) x
-replicate_more zero x = refl
-replicate_more (suc n) x = ap (λ (ts : List ValType). x ∷ ts) (replicate_more n x)
 
 pub loop-turn-init : goal.loop-turn-init
 loop-turn-init c = sym (append-nil c.args.types.now.items)
