@@ -260,7 +260,8 @@ impl PlainCode {
         locals: u32,
         left_out: LeftOut,
     ) -> Result<(), AllocError>
-        requires plain { IsPlainBody (with_locals self.old.limits locals) left_out operators.now marks.now count }
+        requires plain { IsPlainBody (with_locals self.old.limits locals) left_out operators.now marks.now
+            count }
         ensures { limits_in self.new ≡ limits_in self.old }
     {
         let Some(entry) = self.entry_behind(operators, marks, count, start, locals, left_out) else {
