@@ -1,7 +1,8 @@
 //! The imports of a module, as records ("Binary Format > Modules > Import Section").
-ghost use Rattle.std.specs.Prelude.{◌≡◌, ◌^◌, IfOk, IfErr, map};
+ghost use Rattle.std.specs.Prelude.{◌≡◌, ◌^◌, Ok, IfOk, IfErr, map};
 ghost use Rattle.std.specs.List.{AllZip};
 ghost use Rattle.wasm_entries.specs.Record.{import_entry};
+ghost use Rattle.wasm_entries.specs.Spelling.{ImportFits, import_bytes};
 ghost use Rattle.wasm_entries.specs.TypeSpelling.{IsBelow};
 ghost use Rattle.walrus_base.specs.Arena.{entries};
 ghost use Rattle.walrus_base.specs.Id.{place};
@@ -19,6 +20,8 @@ ghost use Rattle.walrus_items.specs.Functions.{function_value};
 ghost use Rattle.walrus_items.specs.Kinds.{imported};
 ghost use Rattle.walrus_items.specs.Imports.{import_value, imports};
 ghost use Rattle.walrus_model.specs.Live.{IsLive};
+ghost use Rattle.walrus_writing.specs.Appended.{AppendsEntries, AppendsEntry};
+ghost use Rattle.walrus_writing.specs.BySection.{AreImports};
 ghost use Rattle.walrus_writing.specs.Imported.{Describes, ImportsIndexed, IndexesDesc, IndexesImport, IndexesItem, IsEntryAt, RefusesImports};
 ghost use Rattle.walrus_contents.specs.View as seen;
 
@@ -30,6 +33,7 @@ use walrus_code::{IdsToIndices, IrError, index_value};
 use walrus_contents::Parts;
 use walrus_items::{Error, Function, Import, ImportKind, Memory, Table, Tag};
 use wasm_entries::{RawDesc, RawGlobalType, RawImport};
+use wasm_forms::Written;
 
 // The index of a type is a number of 32 bits.
 fn index_of_type(id: TypeId, indices: &IdsToIndices) -> Option<u32>
@@ -149,4 +153,50 @@ pub fn raw_imports<'a>(
         raw.push(one)?;
     }
     Ok(raw)
+}
+
+// Appends the entry of an import: how many there are with it.
+fn append_import(
+    alloc: Global,
+    parts: Parts<'_>,
+    import: &Import,
+    indices: &IdsToIndices,
+    count: u32,
+    to: &mut Vec<u8>,
+) -> Result<u32, Error>
+    requires live { IsLive (parts_view parts) (imported (import_value import.now).kind) }
+    ensures { IfOk result (λ more. AppendsEntry import_entry import_bytes ImportFits
+        (λ raw. IndexesImport (index_of indices.now) (parts_view parts.entry)
+        (import_of (import_value import.now)) (Ok raw))
+        count more to.old.items to.new.items) }
+{
+    let one = raw_import(alloc, parts, import, indices)?;
+    one.write(to)?;
+    match count.checked_add(1) {
+        Some(more) => Ok(more),
+        None => Err(Error::TooLarge),
+    }
+}
+
+/// The same imports, appended to bytes one after another, with no record of all of them: how many they are.
+///
+/// # Errors
+///
+/// Those of [`raw_import`], and `TooLarge` where a name has 2^32 bytes or more or there are as many imports. Refused, what was appended means
+/// nothing.
+pub fn append_imports(
+    alloc: Global,
+    parts: Parts<'_>,
+    indices: &IdsToIndices,
+    to: &mut Vec<u8>,
+) -> Result<u32, Error>
+    requires live { ImportsAreLive (parts_view parts) }
+    ensures { IfOk result (λ count. AppendsEntries import_entry import_bytes ImportFits
+        (AreImports parts.entry (index_of indices.now)) count to.old.items to.new.items) }
+{
+    let mut count: u32 = 0;
+    for (_, import) in parts.imports.iter_entries() {
+        count = append_import(alloc, parts, import, indices, count, to)?;
+    }
+    Ok(count)
 }

@@ -30,7 +30,7 @@ ghost use Rattle.walrus_writing.specs.Parts.{export_with_index, tag_index, unpla
 use crate::elements::raw_elements;
 use crate::exports::append_exports;
 use crate::globals::append_globals;
-use crate::imports::raw_imports;
+use crate::imports::append_imports;
 use crate::memories::raw_memories;
 use crate::tables::raw_tables;
 use crate::tags::raw_tags;
@@ -80,7 +80,7 @@ pub fn write_types(
     Ok(())
 }
 
-/// The import section.
+/// The import section. Its entries are appended one by one, with no record of all of them.
 pub fn write_imports(
     alloc: Global,
     to: &mut Writer,
@@ -92,8 +92,9 @@ pub fn write_imports(
     ensures { OnOk result (Writes frames.Imports (map import_entry)
         (AreImports parts.entry (index_of indices.now)) (written to.old) (written to.new)) }
 {
-    let raw = raw_imports(alloc, parts, indices)?;
-    to.import_section(raw.as_slice())?;
+    let mut row = Vec::with_capacity(alloc, parts.imports.len().saturating_mul(16))?;
+    let count = append_imports(alloc, parts, indices, &mut row)?;
+    write_listed(alloc, to, 2, count, row.as_slice())?;
     Ok(())
 }
 
