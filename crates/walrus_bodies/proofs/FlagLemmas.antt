@@ -299,6 +299,15 @@ module _ (t : Text) (start mid flags : List Bool) (none : start ≡ replicate (e
       let ops = placed_ops t.first_local texts in
       window t.first_local (entry_of t).locals start flags named (locals_of ops) as_many (λ x h. never (entry_of t).locals x (sym (ap (λ l. get_or l x false) none) ∙ h)) all_flagged (locals_named t) (ops_within t.first_local (entry_of t).locals ops (plain t))
 
+-- each local is named from the first one on whose marks are left out
+pub each_named : (t : Text) (index : ℕ) → (left_out_of t).first ≤ index → (x : ℕ) → index ≤ x → x < local_count_of t → Contains (locals_of (ops_in t)) (first_local_of t + x)
+unfolding texts_of first_local_of local_count_of
+each_named t index from x behind low =
+    let texts = texts_at (entry_of t).count (bytes_of t) in
+    let named = flat_map indices_named (all_args texts) in
+    let here : Contains named x = asked_gives indices_named x (is_local x) (λ b e. subst (λ (a : RawArg). Contains (indices_named a) x) (sym (local_is x b e)) (0, omega arith, refl)) (all_args texts) ((left_out_named t).each_local x (omega (arith, from, behind)) low) in
+    subst (λ (xs : List ℕ). Contains xs (t.first_local + x)) (sym (locals_named t)) (contains_moved t.first_local named x here)
+
 pub all_off : (n k : ℕ) (old new : List Bool) → old ≡ [] → k ≡ 0 → new ≡ take n old ++ replicate (n - k) false → new ≡ replicate n false
 all_off n k old new e z is =
     let m : n - k ≡ n = omega (arith, z) in

@@ -1,7 +1,7 @@
 //! The locals that a body names.
 #![tactic(auto, unfolding(crate::specs::PlainCode::limits_in, crate::specs::Function::name_of, crate::specs::Function::as_text, crate::specs::Function::body_of, crate::specs::Function::locations_of, crate::specs::Function::args_of, crate::specs::Function::handlers_in, crate::specs::Function::listed_in, crate::specs::Function::located_in))]
 
-ghost use Rattle.std.specs.Prelude.{◌≡◌, ◌↔◌, ◌⊎◌, ◌<◌, ◌≤◌, ◌++◌, [], List, ℕ, false, flat_map, length, map, slice_index_or, true, IfOk, IfSome};
+ghost use Rattle.std.specs.Prelude.{◌≡◌, ◌↔◌, ◌⊎◌, ◌<◌, ◌≤◌, ◌+◌, ◌++◌, [], List, ℕ, false, flat_map, length, map, slice_index_or, true, Contains, IfOk, IfSome, IsTrue};
 ghost use Rattle.wasm_text.specs.Marks.{AreInOrder, args_at};
 ghost use Rattle.walrus_base.specs.Operators.{arg_locals, locals_of};
 ghost use Rattle.walrus_code.specs.FromRaw as from_raw;
@@ -53,6 +53,15 @@ fn flag_from(flags: &mut Vec<bool>, first: u32)
 }
 
 impl Text {
+    /// Whether its operators name each local of the function from this index on, as far as that is told without a look at them.
+    #[inline]
+    pub fn names_from(&self, index: usize) -> bool
+        ensures { IsTrue result → (x : ℕ) → index ≤ x → x < local_count_of self.now
+            → Contains (locals_of (ops_in self.now)) (first_local_of self.now + x) }
+    {
+        self.left_out().first as usize <= index
+    }
+
     /// A flag for each local of the function, parameters and then declared ones: whether its operators name it.
     ///
     /// # Errors
