@@ -1,7 +1,6 @@
 //! The bodies of a module that is read: the code that they share, where their locals begin, and where their operators stood.
-ghost use Rattle.std.specs.Prelude.{true, ◌≡◌, ◌<◌, ℕ, [], length, zip, IfOk, IfSome, OnOk, IsOkUnless, Some, None, is_some, ◌≤◌, ◌++◌, ◌∷◌, replicate};
+ghost use Rattle.std.specs.Prelude.{true, ◌≡◌, [], length, IfOk, IfSome, OnOk, IsOkUnless, is_some, ◌++◌, ◌∷◌, replicate};
 ghost use Rattle.std.specs.Fn.{FnReturnsAt};
-ghost use Rattle.walrus_base.specs.Arena.{items, IsLive};
 ghost use Rattle.walrus_base.specs.Id.{place};
 ghost use Rattle.walrus_base.specs.Locals.{locals};
 ghost use Rattle.walrus_base.specs.ModuleTypes.{type_slots};
@@ -24,11 +23,11 @@ use crate::input::Input;
 use std::alloc::{AllocError, Global};
 use std::rc::Rc;
 use std::result;
-use walrus_base::{Id, ModuleLocals, ModuleTypes, TypeId};
+use walrus_base::{ModuleLocals, ModuleTypes, TypeId};
 use walrus_bodies::{LocalFunction, PlainCode, ScanRoom, limits_of};
 use walrus_code::{IndicesToIds, InstrLocId, IrError};
 use walrus_functions::{HandlerTypes, read_body_with, scan_body};
-use walrus_items::{Error, ModuleFunctions, Result};
+use walrus_items::{ModuleFunctions, Result};
 use wasm_frames::{Raw, RawBody};
 
 // Reads the body of a function of this type.
@@ -101,7 +100,7 @@ fn scan_bodies(
     let mut room = ScanRoom::new(alloc)?;
     'bodies: for (body, index) in raw.bodies.iter().zip(raw.functions.iter()) {
         let params = param_count(*index, indices, types);
-        code = scan_body(alloc, code, body.bytes, body.start, params, &mut room)?;
+        scan_body(alloc, &mut code, body.bytes, body.start, params, &mut room)?;
     }
     Ok(code)
 }
@@ -137,20 +136,4 @@ pub(crate) fn first_starts(alloc: Global, funcs: &ModuleFunctions) -> Result<Vec
     let mut starts = vec![in alloc; 0usize; funcs.next_id().index()]?;
     starts.push(0)?;
     Ok(starts)
-}
-
-/// The place behind the last local, where none is missing, and all places before this one are in use.
-pub(crate) fn end_of(all: &ModuleLocals, from: usize) -> Result<usize>
-    ensures end { IfOk result (λ end. from ≤ length (locals all.now)
-        → ((i : ℕ) → i < length (locals all.now) → IsLive (locals all.now) i)
-        → end ≡ length (locals all.now)) }
-    ensures fails { IsOkUnless result out_of_memory }
-{
-    'places: for end in from..usize::MAX {
-        if !all.contains(Id::at(end)) {
-            return Ok(end);
-        }
-    }
-    // Memory has room for fewer locals.
-    Err(Error::Memory(AllocError))
 }

@@ -18,7 +18,7 @@ ghost use Rattle.walrus_model.specs.Reads.{declared};
 ghost use Rattle.walrus_reading.specs.Taken.{AddLocated, AddsLocated, AreThere, TakesFunction, TakesFunctions, context_under, tags_under, types_in};
 ghost use Rattle.wasm_frames.specs.Record.{body_record};
 
-use crate::bodies::{end_of, first_starts, read_located};
+use crate::bodies::{first_starts, read_located};
 use crate::unread::{Unread, unread_at};
 use std::alloc::Global;
 use std::rc::Rc;
@@ -107,7 +107,6 @@ pub fn add_functions<L: Fn(&usize) -> InstrLocId>(
 {
     funcs.reserve(of_types.len())?;
     let mut starts = first_starts(under.alloc, funcs)?;
-    let mut end = 0;
     let mut number: u32 = 0;
     let mut handlers = HandlerTypes::new(under.alloc);
     for place in 0..of_types.len() {
@@ -123,7 +122,7 @@ pub fn add_functions<L: Fn(&usize) -> InstrLocId>(
             &mut handlers,
         )?;
         number = number.wrapping_add(1);
-        end = end_of(all, end)?;
+        let end = all.next_id().index();
         starts.push(end)?;
     }
     Ok(starts)

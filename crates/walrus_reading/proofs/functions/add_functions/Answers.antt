@@ -1,4 +1,4 @@
-use Rattle.std.proofs.Common.{◌≡◌, [], ◌∷◌, ◌++◌, get_or, ap, sym, ◌∙◌}
+use Rattle.std.proofs.Common.{◌≡◌, [], ◌∷◌, ◌++◌, get_or, ap, ◌∙◌}
 use Rattle.std.specs.Prelude.{length}
 use Rattle.std.specs.Fn.{FnReturnsAt}
 use Rattle.walrus_functions.specs.ReadFunction.{Given, StaysInFront}
@@ -14,7 +14,6 @@ use Rattle.walrus_reading.proofs.FoundTypes.{all_stay}
 use Rattle.walrus_reading.proofs.Grown.{same_there}
 use Rattle.walrus_reading.proofs.TakenBefore.{refused_before, taken_before}
 use Rattle.walrus_reading.proofs.TakenBody.{none_taken, one_more, all_taken, one_refused}
-use Rattle.walrus_reading.proofs.LocalStarts.{end_is}
 use Rattle.walrus_reading.proofs.Locating.{none_located, more_located, all_located}
 use Rattle.wasm_frames.specs.Record.{body_record}
 use Rattle.walrus_reading.proofs.functions.add_functions.Goals as goal
@@ -42,7 +41,6 @@ pub loop-place-init : goal.loop-place-init
 loop-place-init g c = record {
   taken = none_taken (context_under c.args.under.now c.args.types.now) (types_in c.args.types.now) (tags_under c.args.under.now) c.args.of_types.now c.args.bodies.now c.requires.as_many
       (slots_of c.args.types.now) (locals c.args.all.now) (functions c.args.funcs.now) (functions c.reserve.new.self) c.requires.no_locals c.reserve.ensures.same _ c.in_ok-starts.ensures.begun;
-  end = sym (ap length c.requires.no_locals);
   known = c.new-handlers.ensures (type_slots c.args.types.now);
   located = none_located (Given c.args.under.now.texts (FnReturnsAt g.L.Fn c.args.under.now.locate.now)) c.args.of_types.now c.args.bodies.now c.requires.as_many (functions c.args.funcs.now) (functions c.reserve.new.self) c.reserve.ensures.same;
 }
@@ -53,8 +51,7 @@ loop-place-preserved g c =
     let stays : StaysInFront (type_slots c.args.types.now) (type_slots c.loop-place.types) = all_stay (types_in c.args.types.now) (tags_under c.args.under.now) done.said done.functions.added (slots_of c.args.types.now) (slots_of c.loop-place.types) done.handlers in
     let t = c.in_ok-add_function.ensures.taken in
     let l = c.in_ok-add_function.ensures.located in
-    let end : c.in_ok-end.end ≡ length (locals c.add_function.new.all) =
-    end_is _ _ (locals c.loop-place.all) (locals c.add_function.new.all) c.loop-place.end _ done.locals t.1.1.added c.loop-place.invariant.end c.in_ok-end.ensures.end in
+    let end : c.index-end.result ≡ length (locals c.add_function.new.all) = c.index-end.ensures ∙ c.next_id.ensures in
     record {
       taken = one_more (context_under c.args.under.now c.args.types.now) (types_in c.args.types.now) (tags_under c.args.under.now) c.args.of_types.now c.args.bodies.now c.requires.as_many
           c.loop-place.place _ _ (slots_of c.args.types.now) (slots_of c.loop-place.types) (slots_of c.add_function.new.types) (locals c.loop-place.all) (locals c.add_function.new.all)
@@ -62,7 +59,6 @@ loop-place-preserved g c =
           (taken_before (ids_at c.args.under.now.indices.now) c.args.under.now.features.now (tags_under c.args.under.now) (slots_of c.args.types.now) (slots_of c.loop-place.types) (slots_of c.add_function.new.types) c.requires.there stays
           (get_or c.args.of_types.now c.loop-place.place _, body_record (get_or c.args.bodies.now c.loop-place.place _)) (c.requires.declared c.loop-place.place _ c.loop-place-test.true)
           (locals c.loop-place.all) (locals c.add_function.new.all) (length (functions c.loop-place.funcs)) t.0 t.1.1) (c.in_ok-push.ensures.items ∙ ap (λ n. c.loop-place.starts.items ++ n ∷ []) end);
-      end = end;
       known = c.in_ok-add_function.ensures.known;
       located = more_located (Given c.args.under.now.texts (FnReturnsAt g.L.Fn c.args.under.now.locate.now)) c.args.of_types.now c.args.bodies.now c.requires.as_many c.loop-place.place _ (functions c.args.funcs.now) (functions c.loop-place.funcs) (functions c.add_function.new.funcs) c.loop-place-test.true c.loop-place.invariant.located l.0 l.1.0 l.1.1;
     }

@@ -1,4 +1,4 @@
-use Rattle.std.proofs.Common.{◌≡◌, length, map, take}
+use Rattle.std.proofs.Common.{map, take}
 use Rattle.std.specs.Prelude.{zip}
 use Rattle.std.specs.Fn.{FnReturnsAt}
 use Rattle.walrus_base.specs.Locals.{locals}
@@ -14,7 +14,6 @@ use Rattle.walrus_reading.proofs.functions.add_functions.Given as goal
 abbrev pub invariant-loop-place : goal.invariant-loop-place
 invariant-loop-place g l = record {
   taken : AreTaken (context_under l.under l.fn.types) (types_in l.fn.types) (tags_under l.under) (take l.place (zip l.of_types (map body_record l.bodies))) (locals l.all) (slots_of l.fn.types) (slots_of l.types) (functions l.fn.funcs) (functions l.funcs) l.starts.items;
-  end : l.end ≡ length (locals l.all);
   known : IsOfTypes (type_slots l.types) l.handlers;
   located : AddLocated (Given l.under.texts (FnReturnsAt g.L.Fn l.under.locate.now)) (take l.place (map body_record l.bodies)) (functions l.fn.funcs) (functions l.funcs);
 }
