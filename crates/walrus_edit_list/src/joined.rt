@@ -42,10 +42,10 @@ fn text_of(
     let Ok(kept) = Rc::new(alloc, bytes.to_vec(alloc)?) else {
         return Err(AllocError);
     };
-    let code = PlainCode::new(alloc, limits_of(ids), 1, kept, 0)?;
-    let scanned = code.scan(bytes, 0, text.local_count(), None, &mut room)?;
+    let mut code = PlainCode::new(alloc, limits_of(ids), 1, kept, 0)?;
+    code.scan(bytes, 0, text.local_count(), None, &mut room)?;
     let fronts = text.front_count().saturating_add(1);
-    let shared = scanned.with_fronts(fronts).share(alloc)?;
+    let shared = code.with_fronts(fronts).share(alloc)?;
     Text::find(&shared, 0, bytes, 0, text.first_local(), text.local_count())
 }
 

@@ -19,12 +19,12 @@ ghost use Rattle.walrus_functions.specs.Plain.{IfPlain, IsPlainRead, total};
 ghost use Rattle.walrus_functions.specs.ReadFunction.{ReadsFunction, StaysInFront};
 ghost use Rattle.walrus_functions.specs.Signatures.{slots_of};
 
-use crate::read::add_locals;
 use std::alloc::{AllocError, Global};
 use std::rc::Rc;
 use walrus_base::{ModuleLocals, ModuleTypes, TypeId};
 use walrus_bodies::{
-    Declaration, LocalFunction, PlainCode, ScanRoom, Text, declare, first_ranked, read_declarations,
+    Declaration, LocalFunction, PlainCode, ScanRoom, Text, add_declared, add_types, first_ranked,
+    read_declarations,
 };
 use walrus_code::{IndicesToIds, IrError};
 
@@ -47,20 +47,20 @@ fn count_locals(params: u32, declarations: &[Declaration]) -> Option<u32>
     Some(count)
 }
 
-/// These bodies, and behind them one more, from its bytes, which begin at `start` of the input; its function has so many parameters.
+/// Adds, behind the bodies of a code, one more, from its bytes, which begin at `start` of the input; its function has so many parameters.
 ///
 /// # Errors
 ///
-/// `AllocError` where no memory is left.
+/// `AllocError` where no memory is left. Then no body is added.
 pub fn scan_body(
     alloc: Global,
-    code: PlainCode,
+    code: &mut PlainCode,
     bytes: &[u8],
     start: usize,
     params: usize,
     room: &mut ScanRoom,
-) -> Result<PlainCode, AllocError>
-    ensures { IfOk result (λ new. limits_in new ≡ limits_in code) }
+) -> Result<(), AllocError>
+    ensures { limits_in code.new ≡ limits_in code.old }
 {
     let Ok(params) = u32::try_from(params) else {
         return code.skip();
@@ -122,7 +122,6 @@ pub(crate) fn find_plain(
 
 // The function of this type with a body that was found plain; its parameters and then the locals that it declares are added to the module's.
 pub(crate) fn take_plain(
-    alloc: Global,
     plain: PlainBody,
     ty: TypeId,
     indices: &IndicesToIds,
@@ -139,9 +138,8 @@ pub(crate) fn take_plain(
         bytes result × IfOk result (λ f. BodyLocated IsPlace start bytes (locations_of f)) }
     ensures locals_stay { StaysInFront (locals module_locals.old) (locals module_locals.new) }
 {
-    let _args = add_locals(alloc, types.get(ty).params(), module_locals)?;
-    let declarations = plain.declarations.as_slice();
-    let _declared = declare(alloc, declarations, indices, module_locals)?;
+    add_types(types.get(ty).params(), module_locals)?;
+    add_declared(plain.declarations.as_slice(), indices, module_locals)?;
     plain.text.is_plain();
     Ok(LocalFunction::of_text(ty, plain.params, plain.text))
 }

@@ -113,7 +113,7 @@ pub fn read_body_with<L: Fn(&usize) -> InstrLocId>(
     let first = module_locals.next_id().index();
     let found = find_plain(alloc, bytes, start, texts, number, params, first, types)?;
     if let Some(plain) = found {
-        return take_plain(alloc, plain, ty, indices, types, module_locals);
+        return take_plain(plain, ty, indices, types, module_locals);
     }
     read_list(
         alloc,

@@ -59,9 +59,9 @@ fn scanned(alloc: Global, bytes: &[u8], ids: &IndicesToIds) -> Result<Rc<PlainCo
     let Ok(kept) = Rc::new(alloc, bytes.to_vec(alloc)?) else {
         return Err(AllocError);
     };
-    let empty = PlainCode::new(alloc, limits_of(ids), 1, kept, 40)?;
+    let mut code = PlainCode::new(alloc, limits_of(ids), 1, kept, 40)?;
     let mut room = ScanRoom::new(alloc)?;
-    let code = scan_body(alloc, empty, bytes, 40, 0, &mut room)?;
+    scan_body(alloc, &mut code, bytes, 40, 0, &mut room)?;
     code.share(alloc)
 }
 

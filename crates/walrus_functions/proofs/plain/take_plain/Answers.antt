@@ -1,10 +1,8 @@
-use Rattle.std.proofs.Common.{◌≡◌, ℕ, ◌+◌, ◌++◌, List, [], Err, length, map, ap, ◌∙◌, sym, subst, Vec, Global}
+use Rattle.std.proofs.Common.{◌≡◌, ℕ, ◌+◌, ◌++◌, List, [], Err, length, map, ap, ◌∙◌, sym, subst}
 use Rattle.std.specs.List.{range_with_len}
 use Rattle.std.proofs.lemmas.List.{length-map}
 use Rattle.walrus_base.specs.Arena.{item_at}
 use Rattle.walrus_base.specs.Id.{place}
-use Rattle.walrus_base.specs.declared.id.Id.{Id}
-use Rattle.walrus_base.specs.declared.keys.LocalKey.{LocalKey}
 use Rattle.walrus_base.specs.Locals.{locals}
 use Rattle.walrus_base.specs.ModuleTypes.{type_slots}
 use Rattle.walrus_base.specs.Operators.{Op}
@@ -23,20 +21,21 @@ use Rattle.walrus_functions.specs.Handlers.{handlers_of, params_of}
 use Rattle.walrus_functions.specs.ReadFunction.{AddsTypes, locals_from}
 use Rattle.walrus_functions.specs.Signatures.{slots_of}
 use Rattle.walrus_functions.proofs.HandlerLemmas.{adds_none}
-use Rattle.walrus_functions.proofs.ParameterLemmas.{adds_others}
+use Rattle.walrus_bodies.proofs.AddedLemmas.{adds_others}
 use Rattle.walrus_functions.proofs.PlainLemmas.{no_handlers, none_read, plain_located, plain_reads}
 use Rattle.walrus_functions.proofs.plain.take_plain.Goals as goal
 
-pub returns-in_err-_declared-clause-taken : goal.returns-in_err-_declared-clause-taken
-returns-in_err-_declared-clause-taken c = λ limits start bytes features tags placed known.
+pub returns-in_err-add_declared-clause-taken : goal.returns-in_err-add_declared-clause-taken
+returns-in_err-add_declared-clause-taken c = λ limits start bytes features tags placed known.
     let d : Context = context (ids_at c.args.indices.now) (is_function_at c.args.types.now) features in
     let types = slots_of c.args.types.now in
     let old = locals c.args.module_locals.now in
-    let middle = locals c.add_locals.new.module_locals in
-    let new = locals c.declare.new.module_locals in
-    let e = c.in_err-_declared.field-0.0 in
-    let declares = subst (λ (xs : List Declaration). Declares {X = Vec (Id LocalKey) Global} d.names (declarations_of xs) middle new (λ v. v.items) (Err e)) c.as_slice-declarations.ensures.value c.in_err-_declared.ensures.declared in
-    none_read d tags (place c.args.ty) types types old middle new limits (length old) (length (params_of (item_at (type_slots c.args.types.now) (place c.args.ty)))) start bytes c.args.plain {X = Vec (Id LocalKey) Global} (λ v. v.items) (λ f. BodyLocated IsPlace start bytes (locations_of f)) c.from_residual-in_err-_declared.result e known c.from_residual-in_err-_declared.ensures.1 declares
+    let middle = locals c.add_types.new.module_locals in
+    let new = locals c.add_declared.new.module_locals in
+    let e = c.in_err-add_declared.field-0.0 in
+    let ids = c.in_err-add_declared.ensures.declared.0 in
+    let declares = subst (λ (xs : List Declaration). Declares {X = Unit {0}} d.names (declarations_of xs) middle new (λ _. ids) (Err e)) c.as_slice.ensures.value c.in_err-add_declared.ensures.declared.1 in
+    none_read d tags (place c.args.ty) types types old middle new limits (length old) (length (params_of (item_at (type_slots c.args.types.now) (place c.args.ty)))) start bytes c.args.plain {X = Unit {0}} (λ _. ids) (λ f. BodyLocated IsPlace start bytes (locations_of f)) c.from_residual-in_err-add_declared.result e known c.from_residual-in_err-add_declared.ensures.1 declares
 
 pub returns-clause-taken : goal.returns-clause-taken
 returns-clause-taken c = λ limits start bytes features tags placed known.
@@ -45,13 +44,15 @@ returns-clause-taken c = λ limits start bytes features tags placed known.
     let types = item_at (type_slots c.args.types.now) in
     let holds = is_function_at c.args.types.now in
     let old = locals c.args.module_locals.now in
-    let middle = locals c.add_locals.new.module_locals in
-    let new = locals c.declare.new.module_locals in
+    let middle = locals c.add_types.new.module_locals in
+    let new = locals c.add_declared.new.module_locals in
     let plain = c.args.plain in
     let params = c.params.result.now in
     let asked = params_of (types (place c.args.ty)) in
     let function = c.of_text.result in
-    let declared : AreDeclared d.names (declarations_of plain.declarations.items) middle new c.in_ok-_declared._declared.items = subst (λ (xs : List Declaration). AreDeclared d.names (declarations_of xs) middle new c.in_ok-_declared._declared.items) c.as_slice-declarations.ensures.value c.in_ok-_declared.ensures.declared in
+    let args = c.in_ok-add_types.ensures.added in
+    let ids = c.in_ok-add_declared.ensures.declared.0 in
+    let declared : AreDeclared d.names (declarations_of plain.declarations.items) middle new ids = subst (λ (xs : List Declaration). AreDeclared d.names (declarations_of xs) middle new ids) c.as_slice.ensures.value c.in_ok-add_declared.ensures.declared.1 in
     let takes : map val_type params ≡ asked = c.params.ensures ∙ ap params_of (sym c.get.ensures.value) in
     let count : length asked ≡ length params = ap length (sym takes) ∙ length-map params val_type in
     let many : length (map val_type declared.types) ≡ length declared.types = length-map declared.types val_type in
@@ -65,8 +66,8 @@ returns-clause-taken c = λ limits start bytes features tags placed known.
         declared = declared.types;
         takes = takes;
         parameters = c.of_text.ensures.args ∙ ap (λ (n : ℕ). range_with_len n plain.params) known.scanned.begins ∙ ap (range_with_len (length old)) (known.count ∙ count);
-        ids = c.in_ok-_args._args.items ++ c.in_ok-_declared._declared.items;
-        added = adds_others old middle c.in_ok-_args._args.items params c.in_ok-_args.ensures.added new c.in_ok-_declared._declared.items declared.types declared.added;
+        ids = args.0 ++ ids;
+        added = adds_others old middle args.0 params args.1 new ids declared.types declared.added;
         reads = subst (λ (ops : List Op). BodyReads d (locals_from (length old) (length params + length declared.types)) bytes (map val_type declared.types) ops) (sym ops_are)
             (subst (λ (n : ℕ). BodyReads d (locals_from (length old) (length params + n)) bytes (map val_type declared.types) (ops_in plain.text)) many
             (subst (λ (n : ℕ). BodyReads d (locals_from (length old) (n + length (map val_type declared.types))) bytes (map val_type declared.types) (ops_in plain.text)) count reads));

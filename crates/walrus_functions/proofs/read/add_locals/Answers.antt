@@ -3,7 +3,8 @@ use Rattle.walrus_base.specs.Locals.{locals}
 use Rattle.walrus_base.specs.declared.value.ValType.{ValType}
 use Rattle.walrus_base.specs.declared.value.ValType.TheVariants.{I32}
 use Rattle.walrus_bodies.specs.BodyRead.{AddsLocals}
-use Rattle.walrus_functions.proofs.ParameterLemmas.{adds_nothing, adds_stay, take_next}
+use Rattle.walrus_bodies.proofs.AddedLemmas.{adds_nothing, take_next}
+use Rattle.walrus_functions.proofs.ParameterLemmas.{adds_stay}
 use Rattle.std.proofs.lemmas.List.{take_all}
 use Rattle.std.proofs.lemmas.Result.{err_from_is_err_and}
 use Rattle.walrus_base.specs.declared.id.Id.{Id}

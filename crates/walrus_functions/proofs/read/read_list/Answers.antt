@@ -20,7 +20,8 @@ use Rattle.walrus_functions.specs.Handlers.{handlers_of, params_of}
 use Rattle.walrus_functions.specs.ReadFunction.{AddsTypes, locals_from}
 use Rattle.walrus_functions.specs.Signatures.{slots_of, tag_places}
 use Rattle.walrus_functions.proofs.HandlerLemmas.{stays_same, stays_trans}
-use Rattle.walrus_functions.proofs.ParameterLemmas.{adds_others, no_body, one_range}
+use Rattle.walrus_bodies.proofs.AddedLemmas.{adds_others}
+use Rattle.walrus_functions.proofs.ParameterLemmas.{no_body, one_range}
 use Rattle.walrus_functions.proofs.read.read_list.Goals as goal
 
 pub returns-in_err-body-clause-read : goal.returns-in_err-body-clause-read
