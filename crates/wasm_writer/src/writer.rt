@@ -190,7 +190,7 @@ impl Writer {
     }
 
     /// Appends the section of this id that lists so many entries, whose bytes these are, one behind another (Binary Format > Conventions >
-    /// Vectors; Modules > Sections).
+    /// Lists; Modules > Sections).
     ///
     /// # Errors
     ///
