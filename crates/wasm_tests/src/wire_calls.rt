@@ -46,6 +46,7 @@ fn write_names(writer: &mut Writer) -> bool {
     };
     writer.name("f").is_ok()
         && writer.section(3, &[0x01, 0x00]).is_ok()
+        && writer.rows_section(3, 2, &[0x00, 0x01]).is_ok()
         && writer.custom(&custom).is_ok()
 }
 
@@ -58,7 +59,8 @@ fn parts_are_written(rt: HostRuntime) -> Result<(), Fail> {
             && write_names(&mut writer),
         "memory",
     )?;
-    let known = "80 80 01 03 01 80 01 41 7F 0B 60 00 00 01 66 03 02 01 00 00 03 01 61 01";
+    let known =
+        "80 80 01 03 01 80 01 41 7F 0B 60 00 00 01 66 03 02 01 00 03 03 02 00 01 00 03 01 61 01";
     demand(are(rt.alloc(), &writer.finish(), known), known)
 }
 
