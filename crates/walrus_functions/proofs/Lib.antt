@@ -13,6 +13,7 @@ pub mod BareWritten
 pub mod CountLemmas
 pub mod DeclarationLemmas
 pub mod FitLemmas
+pub mod InPlaceLemmas
 pub mod KeptLemmas
 pub mod KeptWritten
 pub mod LawMoves
