@@ -157,7 +157,13 @@ module _ (first count : ℕ) where
     )
 
 -- those behind the parameters are used, and those that are used keep their indices
-pub named_stay : (slots : List (Option (ValType ℕ))) (used : List ℕ) (first params count : ℕ) → ((flags : List Bool) → ((i : ℕ) → params ≤ i → i < count → slice_index_or flags i false ≡ true) → KeepsIndices slots flags first params count) → ((x : ℕ) → params ≤ x → x < count → Contains used (first + x)) → StayInPlace slots used first params count
+named_stay : (slots : List (Option (ValType ℕ))) (used : List ℕ) (first params count : ℕ) → ((flags : List Bool) → ((i : ℕ) → params ≤ i → i < count → slice_index_or flags i false ≡ true) → KeepsIndices slots flags first params count) → ((x : ℕ) → params ≤ x → x < count → Contains used (first + x)) → StayInPlace slots used first params count
 named_stay slots used first params count kept named flags marked = kept flags (λ i from low.
     let back : (first + i) - first ≡ i = omega arith in
     sym (ap (λ (n : ℕ). get_or flags n false) back) ∙ ((marked (first + i)).0 (named i from low)).1)
+
+-- the same in other words
+pub named_stay_as : (slots : List (Option (ValType ℕ))) (used : List ℕ) (first params count from given many : ℕ) → from ≡ first → given ≡ params → many ≡ count → ((flags : List Bool) → ((i : ℕ) → given ≤ i → i < many → slice_index_or flags i false ≡ true) → KeepsIndices slots flags from given many) → ((x : ℕ) → given ≤ x → x < count → Contains used (first + x)) → StayInPlace slots used first params count
+named_stay_as slots used first params count from given many e f g kept named =
+    let are : (x : ℕ) → given ≤ x → x < many → Contains used (from + x) = λ x behind low. subst (λ (n : ℕ). Contains used (n + x)) (sym e) (named x behind (omega (arith, low, g))) in
+    subst (λ (n : ℕ). StayInPlace slots used n params count) e (subst (λ (n : ℕ). StayInPlace slots used from n count) f (subst (λ (n : ℕ). StayInPlace slots used from given n) g (named_stay slots used from given many kept are)))

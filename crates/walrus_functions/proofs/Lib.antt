@@ -14,6 +14,7 @@ pub mod CountLemmas
 pub mod DeclarationLemmas
 pub mod FitLemmas
 pub mod InPlaceLemmas
+pub mod InPlaceWritten
 pub mod KeptLemmas
 pub mod KeptWritten
 pub mod LawMoves

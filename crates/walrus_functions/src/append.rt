@@ -382,6 +382,7 @@ fn append_in_place(
     text.is_plain();
     function.args_are_first();
     let first = text.first_local() as usize;
+    let count = text.local_count() as usize;
     let params = function.arg_count();
     let fits = parameters_fit_from(function, first, params, types, module_locals);
     if !fits {
@@ -391,7 +392,7 @@ fn append_in_place(
     if !hold {
         return Err(IrError::NotWritable);
     }
-    let end = first + text.local_count() as usize;
+    let end = first + count;
     let declarations = declare_from(alloc, module_locals, first + params, end, indices)?;
     write_kept(to, declarations.as_slice(), text, indices)?;
     Ok(AppendedBody {
