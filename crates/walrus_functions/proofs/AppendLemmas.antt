@@ -77,7 +77,7 @@ pub same_ground : {Y : Type 0} (names : Lookup) (locals : ℕ → Option ℕ) (f
 same_ground names locals features ops given items slice bytes places r same whole h =
     subst (λ (ds : List Declaration). WritesBehind names locals features ops (declarations_of ds) bytes places r) whole (subst (λ (os : List Op). WritesBehind names locals features os (declarations_of slice) bytes places r) (sym same) h)
 
-same_refusal : {X Y : Type 0} (s : Source) (b p : X → List ℕ) (n : X → ℕ → Option ℕ) (i : X → List ℕ) (u : X → List Bool) (bytes places : Y → List ℕ) (numbers : Y → ℕ → Option ℕ) (ids : Y → List ℕ) (used : Y → List Bool) (e : IrError)
+pub same_refusal : {X Y : Type 0} (s : Source) (b p : X → List ℕ) (n : X → ℕ → Option ℕ) (i : X → List ℕ) (u : X → List Bool) (bytes places : Y → List ℕ) (numbers : Y → ℕ → Option ℕ) (ids : Y → List ℕ) (used : Y → List Bool) (e : IrError)
     → EmitsBody s b p n i u (Err e) → EmitsBody s bytes places numbers ids used (Err e)
 same_refusal s b p n i u bytes places numbers ids used NoIndex h = h
 same_refusal s b p n i u bytes places numbers ids used NotWritable h = h

@@ -121,13 +121,13 @@ one_type (Ref r) low = absurd (omega (arith, low))
 same_type : (v w : ValType ℕ) → rank v < 5 → rank v ≡ rank w → v ≡ w
 same_type v w low same = sym (one_type v low) ∙ ap of_rank same ∙ one_type w (omega (arith, low, same))
 
-typed_by : (o : Option (ValType ℕ)) → unwrap_or (option_map rank o) 5 < 5 → (v : ValType ℕ) × ((o ≡ Some v) × (rank v ≡ unwrap_or (option_map rank o) 5))
+pub typed_by : (o : Option (ValType ℕ)) → unwrap_or (option_map rank o) 5 < 5 → (v : ValType ℕ) × ((o ≡ Some v) × (rank v ≡ unwrap_or (option_map rank o) 5))
 typed_by None low = absurd (omega (arith, low))
 typed_by (Some v) low = (v, (refl, refl))
 
 -- ---- flags by places
 
-flagged : (flags : List Bool) (i : ℕ) → get_or flags i false ≡ true → i < length flags
+pub flagged : (flags : List Bool) (i : ℕ) → get_or flags i false ≡ true → i < length flags
 flagged [] i h = absurd cc
 flagged (b ∷ bs) zero h = omega arith
 flagged (b ∷ bs) (suc i) h = let low = flagged bs i h in omega (arith, low)

@@ -13,6 +13,8 @@ pub mod BareWritten
 pub mod CountLemmas
 pub mod DeclarationLemmas
 pub mod FitLemmas
+pub mod InPlaceLemmas
+pub mod InPlaceWritten
 pub mod KeptLemmas
 pub mod KeptWritten
 pub mod LawMoves

@@ -1,4 +1,5 @@
 pub mod Alike
+pub mod Appending
 pub mod Code
 pub mod DeclaredLocals
 pub mod Declaring

@@ -1,5 +1,6 @@
 //! Writing the body of a function (Binary Format > Modules > Code Section).
-ghost use Rattle.std.specs.Prelude.{◌≡◌, ◌<◌, ◌++◌, ◌↔◌, ◌^◌, [], ℕ, List, Option, Some, true, length, map, All, IfOk, IsSome, IsTrue};
+ghost use Rattle.std.specs.Prelude.{◌≡◌, ◌<◌, ◌+◌, ◌++◌, ◌↔◌, ◌^◌, [], ℕ, List, Option, Some, true, length, map, All, IfOk, IsSome, IsTrue};
+ghost use Rattle.std.specs.List.{range_with_len};
 ghost use Rattle.walrus_base.specs.Arena.{item_at};
 ghost use Rattle.walrus_base.specs.Id.{place};
 ghost use Rattle.walrus_base.specs.Operators.{locals_of};
@@ -247,6 +248,48 @@ pub(crate) fn parameters_fit(
         return false;
     };
     are_of_types(module_locals, args, signature.params())
+}
+
+// Whether the locals from a place on are there and hold these types, one each.
+fn are_of_types_from(module_locals: &ModuleLocals, first: usize, wanted: &[ValType]) -> bool
+    requires { first + length wanted.now < 2 ^ 64 }
+    ensures { IsTrue result ↔ (map (item_at (types_of (locals module_locals.now)))
+        (range_with_len first (length wanted.now)) ≡ map Some (map val_type wanted.now)) }
+{
+    'wanted: for index in 0..wanted.len() {
+        if !is_of_type(module_locals, LocalId::at(first + index), wanted[index]) {
+            return false;
+        }
+    }
+    true
+}
+
+// The same as `parameters_fit` where so many locals from a place on are the parameters.
+pub(crate) fn parameters_fit_from(
+    function: &LocalFunction,
+    first: usize,
+    params: usize,
+    types: &ModuleTypes,
+    module_locals: &ModuleLocals,
+) -> bool
+    requires parameters { args_of function.now ≡ range_with_len first params }
+    requires room { first + params < 2 ^ 64 }
+    ensures { IsTrue result
+        ↔ HasSignature (item_at (type_slots types.now) (place (function_type function.now)))
+        (types_of (locals module_locals.now)) (args_of function.now) }
+{
+    if !types.contains(function.ty()) {
+        return false;
+    }
+    let Some(signature) = types.get(function.ty()).as_function() else {
+        return false;
+    };
+    let wanted = signature.params();
+    let many = wanted.len();
+    if many != params {
+        return false;
+    }
+    are_of_types_from(module_locals, first, wanted)
 }
 
 // The locals that the function declares, in their order, where its parameters differ. These are named by its operators, each once.

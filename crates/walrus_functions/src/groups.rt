@@ -1,6 +1,6 @@
 //! The declarations of a body's locals (Binary Format > Modules > Code Section): one for each type.
-ghost use Rattle.std.specs.Prelude.{◌≡◌, ◌≤◌, ◌<◌, ◌-◌, ◌^◌, ◌∷◌, ℕ, Some, length, map, All, IfOk, IsSome, nat_eq};
-ghost use Rattle.std.specs.List.{IsDistinct};
+ghost use Rattle.std.specs.Prelude.{◌≡◌, ◌≤◌, ◌<◌, ◌+◌, ◌-◌, ◌^◌, ◌∷◌, ℕ, Some, length, map, All, IfOk, IsSome, nat_eq};
+ghost use Rattle.std.specs.List.{IsDistinct, range_with_len};
 ghost use Rattle.walrus_base.specs.Arena.{item_at};
 ghost use Rattle.walrus_base.specs.Id.{place};
 ghost use Rattle.walrus_base.specs.Locals.{locals};
@@ -11,6 +11,7 @@ ghost use Rattle.walrus_bodies.specs.Declarations.{declarations_of};
 ghost use Rattle.walrus_functions.specs.Declaring.{group_of, AreRuns, Declares};
 ghost use Rattle.walrus_functions.specs.EmittedBody.{types_of};
 ghost use Rattle.walrus_functions.specs.Held.{held_at};
+ghost use Rattle.walrus_functions.specs.Writing.{DeclaresLocals};
 
 use crate::declared::type_at;
 use std::alloc::{AllocError, Global};
@@ -76,6 +77,58 @@ fn runs_from(
     }
     groups.push((count, current))?;
     Ok(groups)
+}
+
+// The types of the locals from one place up to another, each with how often it stands there before another one comes.
+fn runs_between(
+    alloc: Global,
+    module_locals: &ModuleLocals,
+    first: usize,
+    end: usize,
+) -> Result<Vec<(u32, ValType)>, AllocError>
+    requires there { (x : ℕ) → first ≤ x → x < end
+        → IsSome (item_at (types_of (locals module_locals.now)) x) }
+    requires few { end < first + 2 ^ 32 }
+    ensures { IfOk result (λ groups. AreRuns
+        (map (held_at (types_of (locals module_locals.now))) (range_with_len first (end - first)))
+        (map group_of groups.items)) }
+{
+    let mut groups = Vec::new(alloc);
+    if first >= end {
+        return Ok(groups);
+    }
+    let mut last = type_of(module_locals, LocalId::at(first));
+    let mut times = 1;
+    'places: for place in first + 1..end {
+        let next = type_of(module_locals, LocalId::at(place));
+        if next == last {
+            times += 1;
+        } else {
+            groups.push((times, last))?;
+            last = next;
+            times = 1;
+        }
+    }
+    groups.push((times, last))?;
+    Ok(groups)
+}
+
+// The declarations of the locals from one place up to another.
+pub(crate) fn declare_from(
+    alloc: Global,
+    module_locals: &ModuleLocals,
+    first: usize,
+    end: usize,
+    indices: &IdsToIndices,
+) -> Result<Vec<Declaration>, IrError>
+    requires there { (x : ℕ) → first ≤ x → x < end
+        → IsSome (item_at (types_of (locals module_locals.now)) x) }
+    requires few { end < first + 2 ^ 32 }
+    ensures { DeclaresLocals (index_of indices.now) (types_of (locals module_locals.now))
+        (range_with_len first (end - first)) (λ ds. declarations_of ds.items) result }
+{
+    let groups = runs_between(alloc, module_locals, first, end)?;
+    declarations(alloc, groups.as_slice(), indices)
 }
 
 // The declarations of groups.

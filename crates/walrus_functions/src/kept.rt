@@ -1,5 +1,5 @@
 //! Whether the locals of a body keep their indices when it is written (Binary Format > Modules > Code Section).
-ghost use Rattle.std.specs.Prelude.{◌≡◌, ◌≤◌, ◌<◌, ◌+◌, ◌^◌, length, true, IfSome, IsTrue};
+ghost use Rattle.std.specs.Prelude.{◌≡◌, ◌≤◌, ◌<◌, ◌+◌, ◌^◌, ℕ, Bool, List, false, length, slice_index_or, true, IfSome, IsTrue};
 ghost use Rattle.walrus_base.specs.Id.{place};
 ghost use Rattle.walrus_base.specs.Locals.{locals};
 ghost use Rattle.walrus_functions.specs.EmittedBody.{types_of};
@@ -48,6 +48,33 @@ pub(crate) fn keeps_indices(
             return false;
         };
         least = rank;
+    }
+    true
+}
+
+// Whether each local behind the parameters is of a type that goes behind those before, as `keeps_indices` asks of locals that all are used.
+pub(crate) fn are_ranked(
+    module_locals: &ModuleLocals,
+    first: usize,
+    params: usize,
+    count: usize,
+) -> bool
+    requires room { first + count < 2 ^ 64 }
+    ensures within { IsTrue result → params ≤ count }
+    ensures kept { IsTrue result → (flags : List Bool)
+        → ((i : ℕ) → params ≤ i → i < count → slice_index_or flags i false ≡ true)
+        → KeepsIndices (types_of (locals module_locals.now)) flags first params count }
+{
+    if params > count {
+        return false;
+    }
+    let mut lowest = 0;
+    'locals: for index in params..count {
+        let id = LocalId::at(first + index);
+        let Some(rank) = next_rank(module_locals, id, true, lowest) else {
+            return false;
+        };
+        lowest = rank;
     }
     true
 }
