@@ -69,6 +69,18 @@ fn write_groups(to: &mut Vec<u8>, below: bool, stop: u64, number: u64) -> Result
     Ok(())
 }
 
+/// Writes a number of two bytes in its shortest spelling. Refused for lack of memory, the bytes stay.
+#[inline(never)]
+fn write_two_bytes(to: &mut Vec<u8>, value: u32) -> Result<(), AllocError>
+    requires more { 128 ≤ value }
+    requires few { value < 16384 }
+    ensures written { to.new.items
+        ≡ (if is_ok result then to.old.items ++ number_bytes value else to.old.items) }
+    ensures room { NeedsRoom result to.old to.new (number_bytes value) }
+{
+    to.extend_from_slice(&[128 + (value % 128) as u8, (value / 128) as u8])
+}
+
 /// Writes a u32 in its shortest spelling. Refused for lack of memory, the bytes stay.
 #[inline]
 pub fn write_u32(to: &mut Vec<u8>, value: u32) -> Result<(), AllocError>
@@ -77,6 +89,9 @@ pub fn write_u32(to: &mut Vec<u8>, value: u32) -> Result<(), AllocError>
     ensures room { NeedsRoom result to.old to.new (number_bytes value) }
 {
     if value >= 128 {
+        if value < 16384 {
+            return write_two_bytes(to, value);
+        }
         return write_groups(to, false, 128, u64::from(value));
     }
     to.push(value as u8)?;
@@ -97,12 +112,17 @@ pub fn write_s32(to: &mut Vec<u8>, value: i32) -> Result<(), AllocError>
 }
 
 /// Writes a u64 (Binary Format > Values > Integers) in its shortest spelling. Refused for lack of memory, the bytes stay.
+#[inline]
 pub fn write_u64(to: &mut Vec<u8>, value: u64) -> Result<(), AllocError>
     ensures written { to.new.items
         ≡ (if is_ok result then to.old.items ++ number_bytes value else to.old.items) }
     ensures room { NeedsRoom result to.old to.new (number_bytes value) }
 {
-    write_groups(to, false, 128, value)
+    if value >= 128 {
+        return write_groups(to, false, 128, value);
+    }
+    to.push(value as u8)?;
+    Ok(())
 }
 
 /// Writes an s64 (Binary Format > Values > Integers) in its shortest spelling. Refused for lack of memory, the bytes stay.

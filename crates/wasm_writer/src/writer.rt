@@ -1,6 +1,6 @@
 //! Writing a module's bytes, each record in its one spelling.
 
-ghost use Rattle.std.specs.Prelude.{◌≡◌, ◌+◌, ◌<◌, ◌≤◌, ◌↔◌, ⊤, [], ◌∷◌, length, map, IfOk, IsOkUnless, IsTrue, OnErr, OnOk, alloc_error, vec_capacity};
+ghost use Rattle.std.specs.Prelude.{◌≡◌, ◌+◌, ◌<◌, ◌≤◌, ◌↔◌, ⊤, [], ◌∷◌, ◌++◌, length, map, IfOk, IsOkUnless, IsTrue, OnErr, OnOk, alloc_error, vec_capacity};
 ghost use Rattle.wasm_forms.specs.declared.error.WireError.TheVariants.{Memory};
 ghost use Rattle.wasm_forms.specs.Writing.{Wrote, FitsLength, FitsVector};
 ghost use Rattle.wasm_forms.specs.Spelling.{number_bytes, block_bytes, vector_bytes};
@@ -23,7 +23,9 @@ use wasm_entries::{
     RawConst, RawData, RawElement, RawExport, RawGlobal, RawGroup, RawImport, RawLimits, RawTable,
     write_expression, write_group, write_groups, write_limits,
 };
-use wasm_forms::{WireError, Written, write_block, write_name, write_u32, write_vector};
+use wasm_forms::{
+    WireError, Written, leb128_len, write_block, write_name, write_u32, write_vector,
+};
 use wasm_frames::{RawBody, RawCustom};
 
 /// The magic number and the version (Binary Format > Modules).
@@ -184,6 +186,27 @@ impl Writer {
             let _ = self.bytes.pop();
             return Err(error);
         }
+        Ok(())
+    }
+
+    /// Appends the section of this id that lists so many entries, whose bytes these are, one behind another (Binary Format > Conventions >
+    /// Lists; Modules > Sections).
+    ///
+    /// # Errors
+    ///
+    /// `TooLarge` exactly where the content has 2^32 bytes or more, and `Memory`. Refused, the bytes stay.
+    pub fn rows_section(&mut self, id: u8, count: u32, rows: &[u8]) -> Result<(), WireError>
+        ensures appends { let content = number_bytes count ++ rows.now in
+            Wrote result (written self.old) (written self.new)
+            (section_bytes id content) (FitsLength content) }
+        ensures room { UsesRoom result self.old self.new (section_bytes id (number_bytes count ++ rows.now)) }
+    {
+        let Ok(size) = u32::try_from(leb128_len(count) + rows.len()) else {
+            return Err(WireError::TooLarge);
+        };
+        self.open(id, size)?;
+        write_u32(&mut self.bytes, count)?;
+        self.bytes.extend_from_slice(rows)?;
         Ok(())
     }
 
