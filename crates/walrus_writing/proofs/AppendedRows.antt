@@ -22,13 +22,8 @@ each_snoc F (y ∷ ys) x all one = (all.0, each_snoc F ys x all.1 one)
 pub lists_none : (id count : ℕ) (row old : List ℕ) → count ≡ 0 → ListsEntries id count row old old
 lists_none id count row old none = (λ u. refl, λ (some : 0 < count). absurd (omega (arith, some, none)))
 
-pub lists_some : (id count : ℕ) (row begun counted content all old new : List ℕ) → 0 < count → begun ≡ [] → counted ≡ begun ++ number_bytes count → content ≡ counted ++ row → all ≡ content → (new ≡ old ++ section_bytes id all) × FitsLength all
-    → ListsEntries id count row old new
-lists_some id count row begun counted content all old new some fresh noted put whole wrote =
-    let all_is : all ≡ number_bytes count ++ row = whole ∙ put ∙ ap (λ (l : List ℕ). l ++ row) (noted ∙ ap (λ (l : List ℕ). l ++ number_bytes count) fresh) in (
-      λ (none : count ≡ 0). absurd (omega (arith, some, none)),
-      λ u. (wrote.0 ∙ ap (λ (l : List ℕ). old ++ section_bytes id l) all_is, subst (λ (l : List ℕ). FitsLength l) all_is wrote.1),
-    )
+pub lists_some : (id count : ℕ) (row old new : List ℕ) → 0 < count → (new ≡ old ++ section_bytes id (number_bytes count ++ row)) × FitsLength (number_bytes count ++ row) → ListsEntries id count row old new
+lists_some id count row old new some wrote = (λ (none : count ≡ 0). absurd (omega (arith, some, none)), λ u. wrote)
 
 -- the section of entries whose bytes these are
 module _ {E : Type 0} (spell : E → List ℕ) (Fits : E → Type 0) (make : List E → Section) (id : ℕ) (held : (es : List E) → spelled (make es) ≡ section_bytes id (vector_bytes spell es)) (fits : (es : List E) → FitsVector Fits es → FitsLength (vector_bytes spell es) → SectionFits (make es)) where

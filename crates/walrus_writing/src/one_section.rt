@@ -42,22 +42,18 @@ use walrus_groups::append_types;
 use walrus_items::{
     ModuleElements, ModuleExports, ModuleGlobals, ModuleMemories, ModuleTables, ModuleTags, Result,
 };
-use wasm_forms::write_u32;
 use wasm_frames::RawCustom;
 use wasm_wire::CustomGroup;
 use wasm_writer::{Section, Writer, measure};
 
 // The section of this id that lists so many entries, whose bytes these are, or nothing where there are none.
-fn write_listed(alloc: Global, to: &mut Writer, id: u8, count: u32, row: &[u8]) -> Result<()>
+fn write_listed(to: &mut Writer, id: u8, count: u32, row: &[u8]) -> Result<()>
     ensures { OnOk result (ListsEntries id count row.now (written to.old) (written to.new)) }
 {
     if count == 0 {
         return Ok(());
     }
-    let mut content = Vec::with_capacity(alloc, row.len().saturating_add(5))?;
-    write_u32(&mut content, count)?;
-    content.extend_from_slice(row)?;
-    to.section(id, content.as_slice())?;
+    to.rows_section(id, count, row)?;
     Ok(())
 }
 
@@ -76,7 +72,7 @@ pub fn write_types(
 {
     let mut row = Vec::new(alloc);
     let count = append_types(alloc, types, indices, &mut row)?;
-    write_listed(alloc, to, 1, count, row.as_slice())?;
+    write_listed(to, 1, count, row.as_slice())?;
     Ok(())
 }
 
@@ -94,7 +90,7 @@ pub fn write_imports(
 {
     let mut row = Vec::with_capacity(alloc, parts.imports.len().saturating_mul(16))?;
     let count = append_imports(alloc, parts, indices, &mut row)?;
-    write_listed(alloc, to, 2, count, row.as_slice())?;
+    write_listed(to, 2, count, row.as_slice())?;
     Ok(())
 }
 
@@ -158,7 +154,7 @@ pub fn write_globals(
 {
     let mut row = Vec::with_capacity(alloc, all.len().saturating_mul(8))?;
     let count = append_globals(alloc, all, indices, &mut row)?;
-    write_listed(alloc, to, 6, count, row.as_slice())?;
+    write_listed(to, 6, count, row.as_slice())?;
     Ok(())
 }
 
@@ -176,7 +172,7 @@ pub fn write_exports(
 {
     let mut row = Vec::with_capacity(alloc, all.len().saturating_mul(16))?;
     let count = append_exports(all, indices, &mut row)?;
-    write_listed(alloc, to, 7, count, row.as_slice())?;
+    write_listed(to, 7, count, row.as_slice())?;
     Ok(())
 }
 

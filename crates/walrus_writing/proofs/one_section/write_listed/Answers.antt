@@ -9,4 +9,4 @@ returns-then-count-eq0 c = lists_none c.args.id c.args.count c.args.row.now _ c.
 pub returns : goal.returns
 returns c =
     let some : 0 < c.args.count = grind (arith, nat_tests) in
-    lists_some c.args.id c.args.count c.args.row.now c.in_ok-content.content.items c.write_u32.new.to.items c.extend_from_slice.new.self.items c.as_slice.result.now _ _ some c.in_ok-content.ensures.items c.in_ok-write_u32.ensures.written c.in_ok-extend_from_slice.ensures.items c.as_slice.ensures.value c.in_ok-section.ensures.appends
+    lists_some c.args.id c.args.count c.args.row.now _ _ some c.in_ok-rows_section.ensures.appends
