@@ -182,8 +182,8 @@ fn append_import(
 ///
 /// # Errors
 ///
-/// Those of [`raw_import`], and `TooLarge` where a name has 2^32 bytes or more or there are as many imports. Refused, what was appended means
-/// nothing.
+/// Those of [`raw_import`], and `TooLarge` where a name has 2^32 bytes or more, a limit that isn't wide is as large, or there are as many
+/// imports. Refused, what was appended means nothing.
 pub fn append_imports(
     alloc: Global,
     parts: Parts<'_>,
