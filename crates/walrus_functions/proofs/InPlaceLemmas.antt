@@ -1,5 +1,5 @@
 -- Locals that lie one behind another, and keep their indices: nothing is made to tell them.
-use Rattle.std.proofs.Common.{◌≡◌, ◌↔◌, ℕ, zero, suc, ◌+◌, ◌-◌, ◌<◌, ◌≤◌, ◌++◌, inl, inr, Bool, true, false, IsTrue, List, [], ◌∷◌, length, map, take, get_or, Option, Some, None, Result, Ok, Err, IfOk, refl, sym, ap, ap₂, ◌∙◌, subst, arith}
+use Rattle.std.proofs.Common.{◌≡◌, ℕ, zero, suc, ◌+◌, ◌-◌, ◌<◌, ◌≤◌, ◌++◌, inl, inr, Bool, true, false, List, [], ◌∷◌, length, map, take, get_or, Option, Some, None, refl, sym, ap, ap₂, ◌∙◌, subst, arith}
 use Rattle.std.specs.Prelude.{Contains, IsSome, flat_map, nat_eq, nat_le, nat_lt, slice_index_or, unwrap_or}
 use Rattle.std.specs.List.{list_all, list_any, range_with_len}
 use Rattle.std.proofs.lemmas.Bool.{and_parts, leb-true, ltb-true}
@@ -22,7 +22,7 @@ use Rattle.walrus_functions.specs.Held.{held_at}
 use Rattle.walrus_functions.specs.Kept.{KeepsIndices, StayInPlace}
 use Rattle.walrus_functions.specs.Writing.{HasSignature}
 use Rattle.walrus_functions.proofs.AmongLemmas.{among, tested}
-use Rattle.walrus_functions.proofs.KeptLemmas.{flagged, typed_by}
+use Rattle.walrus_functions.proofs.KeptLemmas.{flagged}
 use Rattle.wasm_forms.proofs.Bind.{some_same}
 use Rattle.walrus_base.proofs.InSet.{none_in as nothing}
 use Rattle.walrus_base.proofs.Turns.{map_more, map_snoc}

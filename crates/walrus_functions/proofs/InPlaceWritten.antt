@@ -1,5 +1,5 @@
 -- A body that stays in its place, as it is written where nothing is told of its locals.
-use Rattle.std.proofs.Common.{◌≡◌, ℕ, ◌+◌, ◌-◌, ◌<◌, ◌≤◌, ◌^◌, ◌++◌, Bool, true, false, List, [], length, map, Option, Some, None, Result, Ok, Err, IfOk, IsErrAnd, refl, sym, ap, ap₂, ◌∙◌, subst, arith}
+use Rattle.std.proofs.Common.{◌≡◌, ℕ, ◌+◌, ◌-◌, ◌<◌, ◌≤◌, ◌^◌, ◌++◌, Bool, true, false, List, [], length, Option, Some, None, Result, Ok, Err, IfOk, IsErrAnd, refl, sym, ap, ap₂, ◌∙◌, subst, arith}
 use Rattle.std.specs.Prelude.{IfSome, IsSome}
 use Rattle.std.specs.List.{range_with_len}
 use Rattle.wasm_forms.specs.declared.types.RawVal.{RawVal}

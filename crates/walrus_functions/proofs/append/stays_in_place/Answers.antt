@@ -1,4 +1,3 @@
-use Rattle.std.proofs.Common.{◌≡◌, ℕ}
 use Rattle.walrus_base.specs.Locals.{locals}
 use Rattle.walrus_base.specs.Operators.{locals_of}
 use Rattle.walrus_bodies.specs.Function.{arg_count_of}

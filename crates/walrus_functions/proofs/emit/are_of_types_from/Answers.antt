@@ -1,7 +1,6 @@
-use Rattle.std.proofs.Common.{◌≡◌, ◌≤◌, ◌<◌, ◌+◌, ℕ, Some, length, refl, arith, sym, ap, ◌∙◌}
+use Rattle.std.proofs.Common.{refl, arith, sym, ap, ◌∙◌}
 use Rattle.walrus_base.specs.Arena.{item_at}
 use Rattle.walrus_base.specs.Locals.{locals}
-use Rattle.walrus_base.specs.Value.{val_type}
 use Rattle.walrus_functions.specs.EmittedBody.{types_of}
 use Rattle.walrus_functions.proofs.FitLemmas.{untrue}
 use Rattle.walrus_functions.proofs.InPlaceLemmas.{typed_all, typed_at, typed_more}

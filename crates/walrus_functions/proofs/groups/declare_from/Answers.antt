@@ -1,4 +1,4 @@
-use Rattle.std.proofs.Common.{◌≡◌, ◌<◌, ◌≤◌, ◌+◌, ◌-◌, ℕ, map, subst, arith}
+use Rattle.std.proofs.Common.{◌-◌, map, subst, arith}
 use Rattle.std.specs.List.{range_with_len}
 use Rattle.walrus_base.specs.Locals.{locals}
 use Rattle.walrus_code.specs.Indices.{index_of}

@@ -1,4 +1,4 @@
-use Rattle.std.proofs.Common.{◌≤◌, ◌<◌, ◌+◌, ◌-◌, ◌++◌, ◌∷◌, [], map}
+use Rattle.std.proofs.Common.{◌≤◌, ◌<◌, ◌-◌, ◌++◌, ◌∷◌, [], map}
 use Rattle.std.specs.List.{range_with_len}
 use Rattle.walrus_base.specs.Locals.{locals}
 use Rattle.walrus_base.specs.Value.{val_type}
