@@ -1,5 +1,5 @@
 -- The locals of a body that is written: as many flags as locals, and why there may be too many.
-use Rattle.std.proofs.Common.{◌≡◌, ◌∙◌, ◌<◌, ◌^◌, ℕ, Bool, List, length, map, ap, arith, inr}
+use Rattle.std.proofs.Common.{◌≡◌, ◌∙◌, ◌<◌, ◌^◌, ℕ, Bool, List, length, map, ap, sym, subst, arith, inr}
 use Rattle.std.specs.Prelude.{Option, Some}
 use Rattle.std.proofs.lemmas.List.{length-map}
 use Rattle.walrus_base.specs.Id.{place}
@@ -18,6 +18,11 @@ abbrev Local : Type 0
 Local = Id LocalKey
 
 module _ (p : Parts) (names : Lookup) (features : Features) where
+  -- what is told of it
+  pub as_told : (local : LocalFunction) (bytes places : List ℕ) (numbers : ℕ → Option ℕ) (order : List ℕ) (flags : List Bool) (ids : List Local) (used : List Bool) → (map place ids ≡ order) × (used ≡ flags) → BodyWritten (source p names features local) bytes places numbers order flags → BodyWritten (source p names features local) bytes places numbers (map place ids) used
+  as_told local bytes places numbers order flags ids used told w =
+      subst (λ (ns : List ℕ). BodyWritten (source p names features local) bytes places numbers ns used) (sym told.0) (subst (λ (us : List Bool). BodyWritten (source p names features local) bytes places numbers order us) (sym told.1) w)
+
   pub as_many : (local : LocalFunction) (bytes places : List ℕ) (numbers : ℕ → Option ℕ) (ids : List Local) (used : List Bool) → BodyWritten (source p names features local) bytes places numbers (map place ids) used → length used ≡ length ids
   as_many local bytes places numbers ids used w = ap length w.uses ∙ length-map (map place ids) (is_used (source p names features local)) ∙ length-map ids (λ (id : Local). place id)
 

@@ -1,6 +1,6 @@
 -- The names of the used locals of a function: one turn of the loop that lists them, and where no local has one.
 use Rattle.std.proofs.Common.{◌≡◌, ℕ, ◌+◌, ◌<◌, Bool, true, false, List, [], ◌∷◌, ◌++◌, length, map, drop, append_assoc, refl, sym, ap, ap₂, ◌∙◌, subst, arith}
-use Rattle.std.specs.Prelude.{Option, slice_index_or, option_map, IsTrue}
+use Rattle.std.specs.Prelude.{Option, slice_index_or, option_map, IsFalse, IsTrue}
 use Rattle.std.specs.List.{cons_option}
 use Rattle.std.proofs.lemmas.List.{drop_more}
 use Rattle.std.proofs.lemmas.List.Elements.{filter_map-append}
@@ -53,3 +53,9 @@ none_used all none (u ∷ used) = ap (λ (o : Option Name). cons_option (option_
 
 pub none_pushed : (all : List (Option Local)) (used : List (ℕ × ℕ)) (maps : List (ℕ × NameMap)) (function : ℕ) (unnamed : Bool) → (IsTrue unnamed → AreUnnamed all) → unnamed ≡ true → maps ≡ with_map maps function (local_names all used)
 none_pushed all used maps function unnamed says is = ap (with_map maps function) (sym (none_used all (says is) used))
+
+-- names are put where they are told, and where they aren't there are none
+pub told_or_none : (all : List (Option Local)) (tells chosen : Bool) (used given : List (ℕ × ℕ)) (named maps : List (ℕ × NameMap)) (function : ℕ) → (IsFalse tells → chosen ≡ true → AreUnnamed all) → (tells ≡ true → used ≡ given)
+    → (tells ≡ true → maps ≡ with_map named function (local_names all given)) → (tells ≡ false → maps ≡ named) → chosen ≡ true → maps ≡ with_map named function (local_names all used)
+told_or_none all true chosen used given named maps function unnamed told put stays asked = put refl ∙ ap (λ (us : List (ℕ × ℕ)). with_map named function (local_names all us)) (sym (told refl))
+told_or_none all false chosen used given named maps function unnamed told put stays asked = stays refl ∙ none_pushed all used named function true (λ h. unnamed refl asked) refl

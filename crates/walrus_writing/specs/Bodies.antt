@@ -24,9 +24,11 @@ texts_in (n ∷ ns) bytes = take n (drop (length (number_bytes n)) bytes) ∷ te
 abbrev pub texts_of : WrittenBodies → List (List ℕ)
 texts_of b = texts_in b.lengths.items b.bytes.items
 
--- a body that was appended as this text
-abbrev pub appended_seen : List ℕ → AppendedBody → BodySeen
-appended_seen text b = record { bytes = text; used = used_listed (map place b.order.items) b.used.items }
+-- this is the body of the function, and was appended; and where it is told which of its locals are used, these are
+pub record IsAppended (p : Parts) (names : Lookup) (features : Features) (number : ℕ) (tells : Bool) (old new : List ℕ) (seen : BodySeen) (body : AppendedBody) : Type 0 where
+  pub written : IsWrittenBody p names features number seen
+  pub added : new ≡ old ++ seen.bytes
+  pub told : tells ≡ true → seen.used ≡ used_listed (map place body.order.items) body.used.items
 
 -- each of these is the body of the function at its place
 abbrev pub AreBodies : Parts → Lookup → Features → List (Id FunctionKey) → List BodySeen → Type 0

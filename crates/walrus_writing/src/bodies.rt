@@ -1,24 +1,25 @@
 //! The bodies of functions, one behind another ("Binary Format > Modules > Code Section"), and the names of their used locals.
-ghost use Rattle.std.specs.Prelude.{[], ◌∷◌, ◌≡◌, ◌<◌, ◌≤◌, ◌+◌, ◌^◌, ◌++◌, ℕ, List, All, IfErr, IfOk, IsOkUnless, OnOk, true, length, map, option_map, sum_by};
+ghost use Rattle.std.specs.Prelude.{[], ◌∷◌, ◌≡◌, ◌<◌, ◌≤◌, ◌+◌, ◌^◌, ◌++◌, ℕ, List, All, IfErr, IfOk, IsFalse, IsOkUnless, IsTrue, OnOk, false, true, length, map, option_map, sum_by};
 ghost use Rattle.wasm_forms.specs.Spelling.{block_bytes};
 ghost use Rattle.wasm_frames.specs.Record.{body_record};
 ghost use Rattle.wasm_writer.specs.Measuring.{size_with_count};
 ghost use Rattle.wasm_payloads.specs.Lent.{locals_entry};
 ghost use Rattle.walrus_base.specs.Id.{place};
 ghost use Rattle.walrus_base.specs.Locals.{locals};
+ghost use Rattle.walrus_base.specs.Unnamed.{AreUnnamed};
 ghost use Rattle.walrus_code.specs.Indices.{index_of};
 ghost use Rattle.walrus_items.specs.Functions.{functions};
 ghost use Rattle.walrus_writing.specs.Names.{local_names, used_listed};
 ghost use Rattle.walrus_writing.specs.Pushed.{with_map};
 ghost use Rattle.walrus_items.specs.Errors.{out_of_memory};
-ghost use Rattle.walrus_writing.specs.Bodies.{AppendsBodies, AreWritten, appended_seen, texts_in, texts_of};
-ghost use Rattle.walrus_writing.specs.Parts.{local_in, unplaced, IsIndexed, IsWrittenBody};
+ghost use Rattle.walrus_writing.specs.Bodies.{AppendsBodies, AreWritten, IsAppended, texts_in, texts_of};
+ghost use Rattle.walrus_writing.specs.Parts.{local_in, unplaced, BodySeen, IsIndexed};
 ghost use Rattle.walrus_writing.specs.Refusals.{RefusesBodies};
 
 use crate::joined::WrittenBodies;
 use crate::locals::push_local_names;
 use std::alloc::Global;
-use walrus_base::FunctionId;
+use walrus_base::{FunctionId, ModuleLocals};
 use walrus_bodies::{Features, LocalFunction};
 use walrus_code::IdsToIndices;
 use walrus_contents::Parts;
@@ -88,19 +89,38 @@ pub fn likely_lengths(funcs: &ModuleFunctions, order: &[FunctionId]) -> usize {
     total
 }
 
-// Appends the body of the function of this id, under these indices. Refused, what was appended means nothing.
+// Whether names of used locals are to be told: they are chosen, and some local has one, as far as that is known.
+fn tells_names(all: &ModuleLocals, chosen: bool) -> bool
+    ensures chosen { IsTrue result → chosen ≡ true }
+    ensures unnamed { IsFalse result → chosen ≡ true → AreUnnamed (locals all.now) }
+{
+    chosen && !all.are_unnamed()
+}
+
+// Whether a body has more locals than there are indices, as far as they are told.
+fn has_too_many(body: &AppendedBody, tells: bool) -> bool
+    ensures many { IsTrue result → (tells ≡ true) × (2 ^ 32 < length body.now.order.items) }
+    ensures few { IsFalse result → tells ≡ true → length body.now.order.items ≤ 2 ^ 32 }
+{
+    tells && body.order.len() > 1 << 32
+}
+
+// Appends the body of the function of this id, under these indices; and tells its locals, where `tells` is true. Refused, what was appended
+// means nothing.
 fn append_one(
     alloc: Global,
     under: Indexed<'_, '_, '_>,
     id: FunctionId,
+    tells: bool,
     to: &mut Vec<u8>,
 ) -> Result<AppendedBody>
     requires indexed { IsIndexed under.parts (index_of under.indices.now) under.features.now (place id) }
-    ensures value { (text : List ℕ) × (IfOk result (λ body. (to.new.items ≡ to.old.items ++ text)
-        × IsWrittenBody under.entry.parts (index_of under.entry.indices.now) under.entry.features.now
-        (place id) (appended_seen text body))) }
-    ensures few { IfOk result (λ body. length body.order.items ≤ 2 ^ 32) }
-    ensures as_many { IfOk result (λ body. length body.used.items ≡ length body.order.items) }
+    ensures value { (seen : BodySeen) × (IfOk result (IsAppended under.entry.parts
+        (index_of under.entry.indices.now) under.entry.features.now (place id) tells
+        to.old.items to.new.items seen)) }
+    ensures few { tells ≡ true → IfOk result (λ body. length body.order.items ≤ 2 ^ 32) }
+    ensures as_many { tells ≡ true
+        → IfOk result (λ body. length body.used.items ≡ length body.order.items) }
     ensures fails { IfErr result (RefusesBodies under.entry.parts under.entry.features.now) }
 {
     let Some(local) = local_of(under.parts.funcs, id) else {
@@ -113,9 +133,10 @@ fn append_one(
         under.parts.locals,
         under.indices,
         under.features,
+        tells,
         to,
     )?;
-    if body.order.len() > 1 << 32 {
+    if has_too_many(&body, tells) {
         return Err(Error::TooLarge);
     }
     Ok(body)
@@ -130,11 +151,12 @@ fn push_names<'a>(
     body: &AppendedBody,
     to: &mut Vec<RawLocals<'a>>,
 ) -> Result<()>
-    requires few { length body.now.order.items ≤ 2 ^ 32 }
-    requires as_many { length body.now.used.items ≡ length body.now.order.items }
+    requires few { chosen ≡ true → length body.now.order.items ≤ 2 ^ 32 }
+    requires as_many { chosen ≡ true → length body.now.used.items ≡ length body.now.order.items }
     ensures value { chosen ≡ true → OnOk result (map locals_entry to.new.items
         ≡ with_map (map locals_entry to.old.items) function (local_names (locals parts.entry.locals.now)
         (used_listed (map place body.now.order.items) body.now.used.items))) }
+    ensures stays { chosen ≡ false → OnOk result (to.new.items ≡ to.old.items) }
     ensures fails { IsOkUnless result out_of_memory }
 {
     if !chosen {
@@ -181,15 +203,16 @@ pub fn append_bodies<'a>(
         (map locals_entry told.named.items) told.lengths.items to.old.items to.new.items) }
     ensures fails { IfErr result (RefusesBodies under.entry.parts under.entry.features.now) }
 {
+    let tells = tells_names(under.parts.locals, chosen);
     let mut one = Vec::new(alloc);
     let mut lengths = Vec::new(alloc);
     let mut named = Vec::new(alloc);
     let mut function = first;
     'order: for id in order {
         one.clear();
-        let body = append_one(alloc, under, *id, &mut one)?;
+        let body = append_one(alloc, under, *id, tells, &mut one)?;
         append_sized(to, one.as_slice(), asked, &mut lengths)?;
-        push_names(alloc, under.parts, chosen, function, &body, &mut named)?;
+        push_names(alloc, under.parts, tells, function, &body, &mut named)?;
         function += 1;
     }
     Ok(ToldBodies { lengths, named })
