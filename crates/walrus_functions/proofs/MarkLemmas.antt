@@ -1,5 +1,5 @@
 -- Places that are marked in a window.
-use Rattle.std.proofs.Common.{inl, inr, ◌≡◌, ◌<◌, ◌≤◌, ◌⊎◌, ◌+◌, ◌-◌, ℕ, zero, suc, Bool, true, false, List, [], ◌∷◌, ◌++◌, length, map, flat_map, take, get_or, sym, ap, ◌∙◌, subst, arith, append_assoc, append-nil, Result, Ok, Err, IfOk}
+use Rattle.std.proofs.Common.{inl, inr, ◌≡◌, ◌<◌, ◌≤◌, ◌⊎◌, ◌+◌, ◌-◌, ℕ, zero, suc, Bool, true, false, List, [], ◌∷◌, ◌++◌, length, map, flat_map, take, get_or, sym, ap, ◌∙◌, subst, arith, append_assoc, append-nil, refl, Result, Ok, Err, IfOk}
 use Rattle.std.specs.Prelude.{◌≢◌, ◌==◌, Contains, nat_eq, slice_set}
 use Rattle.std.specs.Cmp.{nat_cmp_is}
 use Rattle.std.specs.List.{IsDistinct, AllByRecursion}
@@ -58,6 +58,10 @@ marks_next {A} {B} gives v xs i d first start old new low had one =
 -- all elements' places are marked
 pub marks_all : {A B : Type 0} (gives : B → List ℕ) (v : A → B) (xs : List A) (i first : ℕ) (start now : List Bool) → length xs ≤ i → Marks first start now (flat_map gives (map v (take i xs))) → Marks first start now (flat_map gives (map v xs))
 marks_all {A} gives v xs i first start now past h = subst (λ (ys : List A). Marks first start now (flat_map gives (map v ys))) (take_all i xs past) h
+
+pub each_alone : (ps : List ℕ) → flat_map (λ (p : ℕ). p ∷ []) ps ≡ ps
+each_alone [] = refl
+each_alone (p ∷ ps) = ap (λ (qs : List ℕ). p ∷ qs) (each_alone ps)
 
 -- ---- the marked places in order
 

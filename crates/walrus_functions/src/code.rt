@@ -14,7 +14,7 @@ ghost use Rattle.walrus_functions.specs.Code.{AreFlags, IsFlagged, is_listed, lo
 ghost use Rattle.walrus_functions.specs.Declaring.{AreOnce};
 
 use crate::declared::{named_once, which_named};
-use crate::marks::{marked_locals, which_marked};
+use crate::marks::{mark_ids, marked_locals, no_marks, which_marked, window_of};
 use std::alloc::{AllocError, Global};
 use walrus_base::{LocalId, ModuleTypes};
 use walrus_bodies::{Features, LocalFunction, Operators, Text, append_operators, blocks_hold};
@@ -104,6 +104,11 @@ fn list_uses(
     ensures { IfOk result (λ uses. uses.items
         ≡ map (λ id. list_any (nat_eq (place id)) (locals_of (listed_in operators.now))) ids.now) }
 {
+    let (first, span) = window_of(named);
+    let mut marks = no_marks(alloc, span)?;
+    if mark_ids(&mut marks, first, named) {
+        return which_marked(alloc, first, marks.as_slice(), ids);
+    }
     which_named(alloc, ids, named)
 }
 

@@ -136,6 +136,33 @@ pub(crate) fn mark_named(marks: &mut Vec<bool>, first: usize, operators: &[Opera
     true
 }
 
+// Marks locals, if the window has them.
+pub(crate) fn mark_ids(marks: &mut Vec<bool>, first: usize, ids: &[LocalId]) -> bool
+    ensures marks { IsTrue result → Marks first marks.old.items marks.new.items (map place ids.now) }
+    ensures span { length marks.new.items ≡ length marks.old.items }
+{
+    'ids: for id in ids {
+        if !mark(marks, first, id.index()) {
+            return false;
+        }
+    }
+    true
+}
+
+// The place of the first of these locals, and how many places lie from there to the last one; no place where they lie far apart. They stand by
+// rising place.
+pub(crate) fn window_of(ids: &[LocalId]) -> (usize, usize) {
+    let (Some(first), Some(last)) = (ids.first(), ids.last()) else {
+        return (0, 0);
+    };
+    let span = last.index().saturating_sub(first.index());
+    if span / 8 <= ids.len() {
+        (first.index(), span.saturating_add(1))
+    } else {
+        (first.index(), 0)
+    }
+}
+
 // The marked places, as locals.
 pub(crate) fn marked_locals(
     alloc: Global,
