@@ -12,6 +12,7 @@ use Rattle.walrus_base.specs.TypeDef.{TypeDef}
 use Rattle.walrus_base.specs.Operators.{Arg, Index, Label, Local, Number, Count, Byte, S32, S64, Bits32, Bits64, Value, Heap, Block, Access, Op, arg_locals, op_locals, locals_of}
 use Rattle.walrus_base.specs.Value.{val_type}
 use Rattle.walrus_base.specs.declared.value.ValType.{ValType as DeclaredValType}
+use Rattle.walrus_bodies.proofs.FlagLemmas.{only}
 use Rattle.walrus_bodies.specs.Blocks.{are_nested}
 use Rattle.walrus_bodies.specs.Classes.{is_plain}
 use Rattle.walrus_bodies.specs.Locals.{AreMarked}
@@ -91,10 +92,6 @@ all_there slots first (suc n) there =
     (all_there slots (first + 1) n (λ x from low. there x (omega (arith, from)) (omega (arith, low))))
 
 -- ---- which of them are used
-
-only : (p x : ℕ) → Contains (p ∷ []) x → x ≡ p
-only p x (zero, low, is) = sym is
-only p x (suc k, low, is) = absurd (omega (arith, low))
 
 flat_within : {A : Type 0} (P : ℕ → Type 0) (g : A → List ℕ) (p : A → Bool) → ((a : A) → p a ≡ true → (x : ℕ) → Contains (g a) x → P x) → (xs : List A) → list_all p xs ≡ true → (x : ℕ) → Contains (flat_map g xs) x → P x
 flat_within P g p each [] e x c = absurd (nothing x c)

@@ -1,5 +1,5 @@
-use Rattle.std.proofs.Common.{◌≡◌, ◌<◌, ◌^◌, ◌+◌, ◌++◌, ◌-◌, [], inl, inr, ℕ, Bool, true, false, List, Option, Some, None, Result, Ok, Err, IfOk, length, map, take, drop, sym, ap, ◌∙◌, subst, refl, arith}
-use Rattle.std.specs.Prelude.{All, IfSome, IsSome, Vec}
+use Rattle.std.proofs.Common.{◌≡◌, ◌<◌, ◌^◌, ◌+◌, ◌++◌, ◌-◌, [], inl, inr, ℕ, Bool, true, List, Option, None, Result, Ok, Err, IfOk, length, map, take, drop, sym, ap, ◌∙◌, subst, refl, arith}
+use Rattle.std.specs.Prelude.{All, IsSome, Vec}
 use Rattle.std.specs.Global.{Global}
 use Rattle.std.specs.List.{range_with_len}
 use Rattle.std.proofs.lemmas.List.{length-map}
@@ -18,25 +18,19 @@ use Rattle.walrus_bodies.specs.declared.declarations.Declaration.{Declaration}
 use Rattle.walrus_bodies.specs.Function.{arg_count_of, args_of, as_text}
 use Rattle.walrus_bodies.specs.Locals.{AreMarked}
 use Rattle.walrus_bodies.specs.Text.{first_local_of, local_count_of, ops_in}
-use Rattle.walrus_bodies.specs.declared.text.Text.{Text}
 use Rattle.walrus_functions.specs.EmittedBody.{EmitsBody, FitsType, Source, index_in, source_of}
 use Rattle.walrus_functions.specs.Kept.{KeepsIndices}
 use Rattle.walrus_functions.specs.declared.append.AppendedBody.{AppendedBody}
 use Rattle.walrus_functions.specs.Writing.{DeclaresLocals, HasSignature, LocalsDeclared, WritesBehind}
 use Rattle.walrus_functions.proofs.AppendLemmas.{refused_behind, same_ground}
+use Rattle.walrus_functions.proofs.FitLemmas.{untrue}
+use Rattle.walrus_functions.proofs.InPlaceWritten.{first_args}
 use Rattle.walrus_functions.proofs.KeptWritten as written
 use Rattle.walrus_functions.proofs.WrittenLemmas.{all_there, few_declarations, refused_declared}
 use Rattle.walrus_functions.proofs.append.append_kept.Goals as goal
 
 abbrev Local : Type 0
 Local = Id LocalKey
-
-untrue : (b : Bool) → b ≡ true → b ≡ false → ⊥
-untrue true t f = cc
-untrue false t f = cc
-
-first_args : (o : Option Text) (t : Text) (args : List ℕ) (params : ℕ) → o ≡ Some t → IfSome o (λ text. args ≡ range_with_len (first_local_of text) params) → args ≡ range_with_len (first_local_of t) params
-first_args o t args params is h = subst (λ (p : Option Text). IfSome p (λ text. args ≡ range_with_len (first_local_of text) params)) is h
 
 pub returns-in_err-order : goal.returns-in_err-order
 returns-in_err-order c = let p = err_from_is_err_and c.from_residual.result c.from_residual.ensures.1 in rw (p.1, p.2) ([], [], (λ _. None), (tt, tt))
