@@ -45,7 +45,7 @@ use Rattle.walrus_theorem.specs.Features.{features_of}
 use Rattle.walrus_theorem.specs.Headline.{ReadsBody, ReadsModule}
 use Rattle.walrus_theorem.specs.Sections.{module_of}
 use Rattle.walrus_edit_list.specs.Formed.{AreFormed, IsFormed}
-use Rattle.walrus_edit_list.proofs.ReadFormed.{range_both}
+use Rattle.walrus_bodies.proofs.AddedLemmas.{range-both}
 
 -- ---- what a body that was read says, each index as it was declared
 
@@ -121,7 +121,7 @@ module _ (c : Config) (v : Abstract) (ty : ℕ) (ps : List (ValType ℕ)) (said 
   found n =
       let from : 0 + length ps ≡ length ps = omega arith in
       ap (λ (xs : List ℕ). slice_get (xs ++ further) n) whole.parameters
-      ∙ ap (λ (xs : List ℕ). slice_get xs n) (sym (map-append l (range_with_len 0 (length ps)) (range_with_len (length ps) (length said.0))) ∙ ap (map l) (ap (λ (x : ℕ). range_with_len 0 (length ps) ++ range_with_len x (length said.0)) (sym from) ∙ range_both 0 (length ps) (length said.0)))
+      ∙ ap (λ (xs : List ℕ). slice_get xs n) (sym (map-append l (range_with_len 0 (length ps)) (range_with_len (length ps) (length said.0))) ∙ ap (map l) (ap (λ (x : ℕ). range_with_len 0 (length ps) ++ range_with_len x (length said.0)) (sym from) ∙ range-both 0 (length ps) (length said.0)))
       ∙ slice_get-map l (range_with_len 0 (length ps + length said.0)) n
 
   body_formed : b.operators ≡ map (moved_op l) said.1 → params_of (v.types ty) ≡ ps → IsFunctionType v ty → (names : Lookup) → ((space : Space) (n id : ℕ) → names space n ≡ Some id → id ≡ n) → (text : List ℕ)

@@ -1,5 +1,5 @@
 -- A function that was read is well formed.
-use Rattle.std.proofs.Common.{◌≡◌, ◌≢◌, ℕ, zero, suc, ◌+◌, Bool, true, List, [], ◌∷◌, ◌++◌, map, length, drop, take, refl, sym, ap, ap₂, ◌∙◌, subst, arith, length-append}
+use Rattle.std.proofs.Common.{◌≡◌, ◌≢◌, ℕ, ◌+◌, Bool, true, List, [], ◌∷◌, ◌++◌, map, length, drop, take, refl, sym, ap, ap₂, ◌∙◌, subst, length-append}
 use Rattle.std.specs.Prelude.{Option, Some, None, IsSome, AllPairs, slice_get}
 use Rattle.std.specs.Cmp.Derive.{both_true}
 use Rattle.std.specs.List.{range_with_len}
@@ -9,7 +9,6 @@ use Rattle.std.proofs.lemmas.Bool.{and_parts}
 use Rattle.std.proofs.lemmas.List.{length-map, map-append}
 use Rattle.std.proofs.lemmas.List.FromFn.{length-range_with_len}
 use Rattle.walrus_base.specs.Arena.{item_at}
-use Rattle.walrus_base.specs.Id.{place}
 use Rattle.walrus_base.specs.Locals.{locals}
 use Rattle.walrus_base.specs.ModuleTypes.{type_slots}
 use Rattle.walrus_base.specs.Operators.{Space, OfType, NoResult, OneResult, Arg, Block, Index, Access, Value, Heap, Label, Local, Number, Count, Byte, S32, S64, Bits32, Bits64, Op}
@@ -37,20 +36,11 @@ use Rattle.walrus_reading.proofs.Carrying.{item_within}
 use Rattle.walrus_reading.proofs.DeclaredLocals.{range_apart}
 use Rattle.walrus_reading.proofs.EditedLocals.{new_typed}
 use Rattle.walrus_theorem.specs.Features.{features_of}
+use Rattle.walrus_bodies.proofs.AddedLemmas.{range-both}
 use Rattle.walrus_theorem.specs.WellMade.{IsWellFormed}
 use Rattle.walrus_edit_list.specs.Formed.{IsFormed, ReadIsFormed}
 
 -- ---- lists
-
-pub range_both : (first n m : ℕ) → range_with_len first n ++ range_with_len (first + n) m ≡ range_with_len first (n + m)
-range_both first zero m =
-    let from : first + 0 ≡ first = omega arith in
-    let count : 0 + m ≡ m = omega arith in
-    ap (λ (k : ℕ). range_with_len k m) from ∙ ap (range_with_len first) (sym count)
-range_both first (suc n) m =
-    let from : first + suc n ≡ first + 1 + n = omega arith in
-    let count : suc n + m ≡ suc (n + m) = omega arith in
-    ap (λ (k : ℕ). first ∷ (range_with_len (first + 1) n ++ range_with_len k m)) from ∙ ap (λ (ks : List ℕ). first ∷ ks) (range_both (first + 1) n m) ∙ ap (range_with_len first) (sym count)
 
 parts : {X : Type 0} (x y a b : List X) → length x ≡ length y → x ++ a ≡ y ++ b → (x ≡ y) × (a ≡ b)
 parts x y a b long same = (
@@ -150,7 +140,7 @@ module _ (c : Config) (w : Abstract) (old new : ModuleLocals) (old_types new_typ
   all_typed : map T (range_with_len a n) ++ map T (range_with_len (a + n) m) ≡ map Some (map val_type r.params) ++ map Some (map val_type r.declared)
   all_typed =
       sym (map-append T (range_with_len a n) (range_with_len (a + n) m))
-      ∙ ap (map T) (range_both a n m ∙ ap (range_with_len a) (sym (length-append r.params r.declared)) ∙ sym r.added.places)
+      ∙ ap (map T) (range-both a n m ∙ ap (range_with_len a) (sym (length-append r.params r.declared)) ∙ sym r.added.places)
       ∙ new_typed (locals old) (locals new) r.ids (r.params ++ r.declared) r.added
       ∙ ap (map Some) (map-append val_type r.params r.declared)
       ∙ map-append Some (map val_type r.params) (map val_type r.declared)
@@ -171,7 +161,7 @@ module _ (c : Config) (w : Abstract) (old new : ModuleLocals) (old_types new_typ
     further_typed = sym both.1;
     text = bytes;
     read = subst (λ (xs : List ℕ). BodyReads (context names (λ t. is_function_def (w.types t)) (features_of c)) (slice_get xs) bytes (map val_type r.declared) (body_of f))
-        (sym (ap (λ (xs : List ℕ). xs ++ range_with_len (a + n) m) r.parameters ∙ range_both a n m))
+        (sym (ap (λ (xs : List ℕ). xs ++ range_with_len (a + n) m) r.parameters ∙ range-both a n m))
         (reads_grow (is_function_at old_types) (λ t. is_function_def (w.types t)) grows names (features_of c) (locals_from a (n + m)) bytes (map val_type r.declared) (body_of f) r.reads);
   }
 
